@@ -1,0 +1,3 @@
+pub mod Words
+pub mod Integers
+pub mod Back

@@ -1,0 +1,49 @@
+use mathlib.Core.Path.{_≡_, refl, sym, ap, _∙_, subst}
+use mathlib.Core.Bool.{Bool, true, false}
+use mathlib.Core.Logic.{⊎-elim}
+use mathlib.Core.List.{List, [], _∷_, _++_, map, append-nil, append-assoc}
+use Prim.Native.Nat.{ℕ, zero, suc, _+_, _-_, _*_, _≤_, _<_}
+use native.Mathlib.Omega.{arith}
+use native.Mathlib.Numerals.{add-one}
+use borrow.Author.Tests.{lt-ltb, le-ltb, le-leb, lt-leb, eq-eqb, ne-eqb, eqb-true, eqb-false, ltb-true, ltb-false, leb-true, leb-false}
+use lib.Dec.{eqb, leb, ltb}
+use lib.ListN.{length, take, drop, getD, set, replicate, length-set, length-append, length-take, length-drop, length-replicate, length-map}
+use Rattle.binary.proofs.Integers.{word-small, read-signed, read-plain, read-big, read-bad}
+use borrow.Author.Needs.{needs}
+use Rattle.binary.proofs.parse_binary_int.Statement.{statement}
+use Rattle.binary.proofs.parse_binary_int.Tie as tie
+
+width-ok-requires : tie.Need-width-ok-requires
+width-ok-requires c κs = search needs
+
+read-word-requires : tie.Need-read-word-requires
+read-word-requires c κs = search needs
+
+signed-word-requires : tie.Need-signed-word-requires
+signed-word-requires c κs =
+    let ok = sym (c .before .before .before .width-ok .ensures) ∙ c .before .before .if1 .taken in
+    (ok, word-small (c .before .before .before .before .before .args .order) (c .before .before .before .before .before .args .part .now) (λ k h. omega (arith, c .before .before .before .before .shared-slice-known .given k)) ok (c .before .read-word .result) (c .before .read-word .ensures))
+
+returns : tie.Need-returns
+returns c = read-signed (c .before .before .before .before .before .before .args .order) (c .before .before .before .before .before .before .args .part .now) (λ k h. omega (arith, c .before .before .before .before .before .shared-slice-known .given k)) (sym (c .before .before .before .before .width-ok .ensures) ∙ c .before .before .before .if1 .taken) (c .before .before .read-word .result) (c .before .before .read-word .ensures) (c .before .before .before .before .before .before .args .signed) (c .signed-word .result) (c .before .if2 .taken) (c .signed-word .ensures)
+
+returns-2 : tie.Need-returns-2
+returns-2 c = read-plain (c .before .before .before .before .before .before .args .order) (c .before .before .before .before .before .before .args .part .now) (λ k h. omega (arith, c .before .before .before .before .before .shared-slice-known .given k)) (sym (c .before .before .before .before .width-ok .ensures) ∙ c .before .before .before .if1 .taken) (c .before .before .read-word .result) (c .before .before .read-word .ensures) (c .before .before .before .before .before .before .args .signed) (c .before .if2 .left) (c .if3 .taken)
+
+returns-3 : tie.Need-returns-3
+returns-3 c = read-big (c .before .before .before .before .before .before .args .order) (c .before .before .before .before .before .before .args .part .now) (λ k h. omega (arith, c .before .before .before .before .before .shared-slice-known .given k)) (sym (c .before .before .before .before .width-ok .ensures) ∙ c .before .before .before .if1 .taken) (c .before .before .read-word .result) (c .before .before .read-word .ensures) (c .before .before .before .before .before .before .args .signed) (c .before .if2 .left) (c .if3 .left)
+
+returns-4 : tie.Need-returns-4
+returns-4 c = read-bad (c .before .before .before .args .order) (c .before .before .before .args .signed) (c .before .before .before .args .part .now) (sym (c .before .width-ok .ensures) ∙ c .if1 .left)
+
+pub parse-binary-int-spec : {M : Type 1} → statement M
+parse-binary-int-spec =
+    tie.close
+    (tie.spec
+    width-ok-requires
+    read-word-requires
+    signed-word-requires
+    returns
+    returns-2
+    returns-3
+    returns-4)

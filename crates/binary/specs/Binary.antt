@@ -1,0 +1,38 @@
+-- Binary: "p order, q signed 0/1", "Binary width 1..8"; Bool: "true if any raw byte is neither 0 nor 0x30".
+use mathlib.Core.List.{List, [], _∷_}
+use mathlib.Core.Bool.{Bool, true, false, not, _&&_, _||_, cond}
+use Prim.Native.Nat.{ℕ, _-_, _/_, _^_}
+use lib.Dec.{eqb, leb, ltb}
+use lib.ListN.{length}
+use Rattle.lists.specs.Scan.{everyBy}
+use Rattle.value.specs.declared.Number.{Number}
+use Rattle.value.specs.declared.Number.the-variants.{Of, Bad, Big}
+use Rattle.value.specs.Word.{wordOf}
+use Rattle.binary.specs.Bytes.{wordIn, bytesOf}
+
+abbrev pub widthOk : ℕ → Bool
+widthOk n = leb 1 n && leb n 8
+
+-- two's complement over n bytes: from half of 256^n on, the number less 256^n
+abbrev pub signedWord : ℕ → ℕ → Number
+signedWord n v = cond (leb (256 ^ n / 2) v) (Of true (256 ^ n - v)) (Of false v)
+
+-- "unsigned Binary from 2^63 (9)"
+abbrev pub unsignedWord : ℕ → Number
+unsignedWord v = cond (ltb v (2 ^ 63)) (Of false v) Big
+
+unfoldable pub integerOf : ℕ → Bool → List ℕ → Number
+integerOf order signed s =
+    cond (widthOk (length s)) (cond signed (signedWord (length s) (wordIn order s)) (unsignedWord (wordIn order s))) Bad
+
+-- "Binary keeps low bytes" of the two's complement
+unfoldable pub integerBytes : ℕ → ℕ → Bool → ℕ → List ℕ
+integerBytes order n negative size = bytesOf order n (wordOf negative size)
+
+-- ---- Bool
+
+abbrev pub isFalse : ℕ → Bool
+isFalse b = eqb b 0 || eqb b 0x30
+
+unfoldable pub boolOf : List ℕ → Bool
+boolOf s = not (everyBy isFalse s)

@@ -1,0 +1,4 @@
+-- Binary integers and Bools.
+pub mod Bytes
+pub mod Binary
+pub mod Examples

@@ -1,0 +1,2 @@
+-- Code page 037, both ways.
+pub mod Ebcdic

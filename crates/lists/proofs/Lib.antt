@@ -1,0 +1,4 @@
+pub mod Table
+pub mod Lists
+pub mod Scan
+pub mod Part

@@ -1,0 +1,2 @@
+-- Definitions on lists that all crates share.
+pub mod Scan

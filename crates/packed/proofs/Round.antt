@@ -1,0 +1,149 @@
+-- What is written is read back, over any width; and each byte of a written field by its place.
+use mathlib.Core.Path.{_≡_, refl, sym, _∙_, ap}
+use mathlib.Core.List.{List, [], _∷_, _++_}
+use mathlib.Core.Bool.{Bool, true, false, _&&_, cond, false≢true}
+use Prim.Native.Nat.{ℕ, zero, suc, _+_, _-_, _*_, _/_, _%_, _^_, _<_, _≤_}
+use native.Mathlib.Nat.{not-suc-le-zero, le-of-suc-le-suc, suc-sub-suc}
+use native.Mathlib.Omega.{arith}
+use lib.Dec.{ltb, leb, lit<, lit≤}
+use lib.ListN.{length, getD, take}
+use borrow.Author.Tests.{lt-ltb, le-leb, ltb-true}
+use Rattle.value.specs.declared.Number.{Number}
+use Rattle.value.specs.declared.Number.the-variants.{Of, Bad, Big}
+use lib.IntN.{ℤ, pos}
+use Rattle.value.specs.Digits.{valueOf, digitsOk, digitAt, digitsOf, spread, limit, signedOf}
+use Rattle.value.specs.Number.{numberOf}
+use Rattle.value.proofs.Digits.{ok-digits, value-of-digits, digit-below}
+use Rattle.value.specs.Field.{fieldOf, lastOf, digitsBy}
+use Rattle.packed.specs.Packed.{nibbles, highOf, isNegative, isSign, decodeOf, pairs, signOf, encodedOf, fitsOf}
+
+double : ℕ → ℕ
+double zero = zero
+double (suc k) = suc (suc (double k))
+
+double-is : (k : ℕ) → double k ≡ 2 * k
+unfolding double
+double-is zero = refl
+double-is (suc k) = let h = double-is k in omega arith
+
+high : (a b : ℕ) → b < 16 → (a * 16 + b) / 16 ≡ a
+high a b h = omega arith
+
+low : (a b : ℕ) → b < 16 → (a * 16 + b) % 16 ≡ b
+low a b h = omega arith
+
+module _ (size s : ℕ) (small : s < 16) where
+  -- a field of k + 1 bytes
+  abbrev field : ℕ → List ℕ
+  unfolding double
+  field k = pairs (digitsOf (suc (double k)) size ++ (s ∷ []))
+
+  field-length : (k : ℕ) → length (field k) ≡ suc k
+  unfolding double
+  field-length zero = refl
+  field-length (suc k) = ap suc (field-length k)
+
+  field-sign : (k : ℕ) → getD (field k) k 0 % 16 ≡ s
+  unfolding double
+  field-sign zero = low (digitAt 0 size) s small
+  field-sign (suc k) = field-sign k
+
+  field-digits : (k : ℕ) → spread nibbles (take k (field k)) ++ (getD (field k) k 0 / 16 ∷ []) ≡ digitsOf (suc (double k)) size
+  unfolding double
+  field-digits zero = rw (high (digitAt 0 size) s small)
+  field-digits (suc k) =
+      let h = digit-below (suc (double k)) size in
+      rw (high (digitAt (suc (suc (double k))) size) (digitAt (suc (double k)) size) (omega arith), low (digitAt (suc (suc (double k))) size) (digitAt (suc (double k)) size) (omega arith), field-digits k)
+
+  field-at : (k i : ℕ) → i < k → getD (field k) i 0 ≡ digitAt (2 * (k - i)) size * 16 + digitAt (2 * (k - i) - 1) size
+  unfolding double
+  field-at zero i h = absurd (not-suc-le-zero h)
+  field-at (suc k) zero h =
+      let d = double-is k in
+      let e : 2 * (suc k - 0) ≡ suc (suc (double k)) = omega arith in
+      let f : 2 * (suc k - 0) - 1 ≡ suc (double k) = omega arith in
+      rw (f, e)
+  field-at (suc k) (suc i) h = rw suc-sub-suc (field-at k i (le-of-suc-le-suc h))
+
+  field-last : (k : ℕ) → getD (field k) k 0 ≡ digitAt 0 size * 16 + s
+  unfolding double
+  field-last zero = refl
+  field-last (suc k) = field-last k
+
+  field-in : (k : ℕ) → digitsBy nibbles highOf (field k) ≡ digitsOf (suc (double k)) size
+  field-in k = let e : length (field k) - 1 ≡ k = omega (arith, field-length k) in rw e (field-digits k)
+
+  field-sign-in : (k : ℕ) → lastOf (field k) % 16 ≡ s
+  field-sign-in k = let e : length (field k) - 1 ≡ k = omega (arith, field-length k) in rw e (field-sign k)
+
+  field-read : (k : ℕ) → size < 10 ^ suc (double k) → size < limit → isSign s ≡ true → decodeOf (field k) ≡ Of (ltb 0 size && isNegative s) size
+  unfolding decodeOf fieldOf
+  field-read k h l t =
+      rw (field-in k, field-sign-in k, ok-digits (suc (double k)) size, t, value-of-digits (suc (double k)) size h, lt-ltb size limit l)
+
+-- an encoded field is such a field
+encoded-is : (k : ℕ) (negative : Bool) (size : ℕ) (signed : Bool) (small : signOf signed negative < 16)
+    → encodedOf (suc k) negative size signed ≡ field size (signOf signed negative) small k
+unfolding double
+encoded-is k negative size signed small =
+    let d = double-is k in
+    let e : 2 * suc k - 1 ≡ suc (double k) = omega arith in
+    rw e
+
+sign-small : (signed negative : Bool) → signOf signed negative < 16
+sign-small true true = lit< tt
+sign-small true false = lit< tt
+sign-small false negative = lit< tt
+
+sign-lawful : (signed negative : Bool) → isSign (signOf signed negative) ≡ true
+sign-lawful true true = refl
+sign-lawful true false = refl
+sign-lawful false negative = refl
+
+sign-read : (signed negative : Bool) → isNegative (signOf signed negative) ≡ (signed && negative)
+sign-read true true = refl
+sign-read true false = refl
+sign-read false negative = refl
+
+-- what is written is read back: the sign where the field has one and the number is not 0
+pub round : (w : ℕ) (negative : Bool) (size : ℕ) (signed : Bool) → fitsOf w size ≡ true → size < limit
+    → decodeOf (encodedOf w negative size signed) ≡ Of (ltb 0 size && (signed && negative)) size
+round zero negative size signed h l = absurd (false≢true h)
+round (suc k) negative size signed h l =
+    let d = double-is k in
+    let e : 2 * suc k - 1 ≡ suc (double k) = omega arith in
+    let f : size < 10 ^ suc (double k) = rw e at (ltb-true size (10 ^ (2 * suc k - 1)) (rw (lt-ltb 0 (suc k) (omega arith)) at h)) in
+    rw (encoded-is k negative size signed (sign-small signed negative), ← sign-read signed negative)
+    (field-read size (signOf signed negative) (sign-small signed negative) k f l (sign-lawful signed negative))
+
+-- each byte but the last holds the two digits of its place, and the last one the units and the sign
+pub by-place : (w : ℕ) (negative : Bool) (size : ℕ) (signed : Bool) (i : ℕ) → i < w - 1
+    → getD (encodedOf w negative size signed) i 0 ≡ digitAt (2 * (w - 1 - i)) size * 16 + digitAt (2 * (w - 1 - i) - 1) size
+by-place zero negative size signed i h = absurd (omega arith)
+by-place (suc k) negative size signed i h =
+    let e : suc k - 1 ≡ k = omega arith in
+    rw (encoded-is k negative size signed (sign-small signed negative), e)
+    (field-at size (signOf signed negative) (sign-small signed negative) k i (omega arith))
+
+pub by-place-last : (w : ℕ) (negative : Bool) (size : ℕ) (signed : Bool) → 0 < w
+    → getD (encodedOf w negative size signed) (w - 1) 0 ≡ digitAt 0 size * 16 + signOf signed negative
+by-place-last zero negative size signed h = absurd (omega arith)
+by-place-last (suc k) negative size signed h =
+    let e : suc k - 1 ≡ k = omega arith in
+    rw (encoded-is k negative size signed (sign-small signed negative), e)
+    (field-last size (signOf signed negative) (sign-small signed negative) k)
+
+-- the same in ℤ, of a field with a sign: -0 is 0
+abbrev pub integerIn : Number → ℤ
+integerIn (Of negative size) = signedOf negative size
+integerIn Bad = pos 0
+integerIn Big = pos 0
+
+zero-unsigned : (negative : Bool) (size : ℕ) → signedOf (ltb 0 size && negative) size ≡ signedOf negative size
+zero-unsigned true zero = refl
+zero-unsigned false zero = refl
+zero-unsigned negative (suc n) = rw (lt-ltb 0 (suc n) (omega arith))
+
+pub round-integer : (w : ℕ) (negative : Bool) (size : ℕ) → fitsOf w size ≡ true → size < limit
+    → integerIn (decodeOf (encodedOf w negative size true)) ≡ signedOf negative size
+round-integer w negative size h l = ap integerIn (round w negative size true h l) ∙ zero-unsigned negative size

@@ -1,0 +1,104 @@
+use mathlib.Core.Path.{_≡_, refl, sym, ap, _∙_, subst}
+use mathlib.Core.Bool.{Bool, true, false}
+use mathlib.Core.Logic.{⊎-elim}
+use mathlib.Core.List.{List, [], _∷_, _++_, map, append-nil, append-assoc}
+use Prim.Native.Nat.{ℕ, zero, suc, _+_, _-_, _*_, _≤_, _<_}
+use native.Mathlib.Omega.{arith}
+use native.Mathlib.Numerals.{add-one}
+use borrow.Author.Tests.{lt-ltb, le-ltb, le-leb, lt-leb, eq-eqb, ne-eqb, eqb-true, eqb-false, ltb-true, ltb-false, leb-true, leb-false}
+use lib.Dec.{eqb, leb, ltb}
+use lib.ListN.{length, take, drop, getD, set, replicate, length-set, length-append, length-take, length-drop, length-replicate, length-map}
+use borrow.Author.Needs.{needs}
+use Rattle.value.specs.Digits.{limit}
+use Rattle.value.proofs.Field.{Read, read-two}
+use Rattle.packed.specs.Packed.{nibbles}
+use Rattle.packed.proofs.Reading.{read-all, bad-empty, bad-high, bad-low, bad-last, bad-sign}
+use Rattle.packed.proofs.decode.Statement.{statement}
+use Rattle.packed.proofs.decode.Tie as tie
+
+abbrev Inv-loop : tie.InvT-loop
+Inv-loop part n last size₀ i₀ size i = (i ≤ last) × Read limit nibbles part i size
+
+abbrev μ-loop : tie.MeasureT-loop
+μ-loop part n last size₀ i₀ size i = last - i
+
+returns : tie.Need-returns Inv-loop μ-loop
+returns c = sym (bad-empty _ (omega arith))
+
+sub-last : tie.Need-sub-last Inv-loop μ-loop
+sub-last c = search needs
+
+loop-holds : tie.Need-loop-holds Inv-loop μ-loop
+loop-holds c = search needs
+
+shared-slice-read-b : tie.Need-shared-slice-read-b Inv-loop μ-loop
+shared-slice-read-b c = search needs
+
+returns-2 : tie.Need-returns-2 Inv-loop μ-loop
+returns-2 c = sym (bad-high _ (c .before .before .before .loop .i) (omega arith) (c .if2 .taken))
+
+returns-3 : tie.Need-returns-3 Inv-loop μ-loop
+returns-3 c = sym (bad-low _ (c .before .before .before .before .loop .i) (omega arith) (c .if3 .taken))
+
+push-digit-requires : tie.Need-push-digit-requires Inv-loop μ-loop
+push-digit-requires c κs = search needs
+
+push-digit-requires-2 : tie.Need-push-digit-requires-2 Inv-loop μ-loop
+push-digit-requires-2 c κs = search needs
+
+add-i : tie.Need-add-i Inv-loop μ-loop
+add-i c = search needs
+
+loop-less : tie.Need-loop-less Inv-loop μ-loop
+loop-less c = search needs
+
+loop-again : tie.Need-loop-again Inv-loop μ-loop
+loop-again c = (search needs, read-two limit nibbles _ _ _ (omega arith) (c .before .before .before .before .before .before .loop .inv .1) _ _ _ _ refl (omega arith) (omega arith) (c .before .push-digit .ensures) (c .push-digit2 .ensures))
+
+shared-slice-read-b-2 : tie.Need-shared-slice-read-b-2 Inv-loop μ-loop
+shared-slice-read-b-2 c = search needs
+
+returns-4 : tie.Need-returns-4 Inv-loop μ-loop
+returns-4 c = sym (bad-last _ (c .if4 .taken))
+
+returns-5 : tie.Need-returns-5 Inv-loop μ-loop
+returns-5 c = sym (bad-sign _ (c .if5 .taken))
+
+push-digit-requires-3 : tie.Need-push-digit-requires-3 Inv-loop μ-loop
+push-digit-requires-3 c κs = search needs
+
+is-negative-requires : tie.Need-is-negative-requires Inv-loop μ-loop
+is-negative-requires c κs = search needs
+
+number-of-requires : tie.Need-number-of-requires Inv-loop μ-loop
+number-of-requires c κs = search needs
+
+returns-6 : tie.Need-returns-6 Inv-loop μ-loop
+returns-6 c =
+    let e : c .before .before .before .before .before .before .before .loop .i ≡ length (c .before .before .before .before .before .before .before .before .before .before .args .part .now) - 1 = omega arith in
+    c .number-of .ensures ∙ rw (c .before .is-negative .ensures) (read-all _ _ _ (rw e at (c .before .before .before .before .before .before .before .loop .inv .1)) (c .before .before .before .before .if4 .left) (c .before .before .before .if5 .left) (c .before .before .push-digit3 .ensures))
+
+pub decode-spec : {M : Type 1} → statement M
+decode-spec =
+    tie.close
+    (tie.spec
+    Inv-loop
+    μ-loop
+    returns
+    sub-last
+    loop-holds
+    shared-slice-read-b
+    returns-2
+    returns-3
+    push-digit-requires
+    push-digit-requires-2
+    add-i
+    loop-less
+    loop-again
+    shared-slice-read-b-2
+    returns-4
+    returns-5
+    push-digit-requires-3
+    is-negative-requires
+    number-of-requires
+    returns-6)

@@ -1,0 +1,43 @@
+use borrow.Author.Needs.{needs}
+use Rattle.packed.proofs.encode.Statement.{statement}
+use Rattle.packed.proofs.encode.Tie as tie
+use Rattle.packed.proofs.encode.Reads as reads
+use Rattle.packed.proofs.encode.Lts as lts
+use Rattle.packed.proofs.fits.Reads as fits-reads
+use Rattle.packed.proofs.sign_of.Reads as sign-of-reads
+use Rattle.packed.proofs.write.Reads as write-reads
+use mathlib.Core.Path.{_≡_, refl, sym, _∙_, ap}
+use Rattle.packed.proofs.Writing.{fits-pos, written-fits, written-not}
+
+-- src/lib.rt:106:8
+fits-requires : tie.Need-fits-requires
+fits-requires c κs = search needs
+
+-- src/lib.rt:107:13
+sign-of-requires : tie.Need-sign-of-requires
+sign-of-requires c κs = search needs
+
+-- src/lib.rt:108:9
+write-requires : tie.Need-write-requires
+write-requires c κs = (fits-pos _ (c .before .before .before .before .before .args .size) (sym (c .before .before .before .fits2 .ensures) ∙ c .before .before .if1 .taken), c .before .sign-of .ensures .1)
+
+-- src/lib.rt:109:9
+same-length : tie.Need-same-length
+same-length c = search needs
+
+-- src/lib.rt:109:9
+returns : tie.Need-returns
+returns c =
+    let f = sym (c .before .before .before .before .before .if1 .taken) ∙ c .before .before .before .before .before .before .fits2 .ensures in
+    (f, c .before .before .write .ensures ∙ rw (c .before .before .before .before .sign-of .ensures .0) (written-fits _ _ _ _ (sym f)))
+
+-- src/lib.rt:102:1
+returns-2 : tie.Need-returns-2
+returns-2 c =
+    let f = sym (c .if1 .left) ∙ c .before .fits2 .ensures in
+    (f, written-not _ _ _ _ (sym f))
+
+pub encode-spec : {M : Type 1} → statement M
+encode-spec =
+    tie.close
+    (tie.spec fits-requires sign-of-requires write-requires same-length returns returns-2)

@@ -1,0 +1,53 @@
+-- The starred records of the format, by computation.
+use mathlib.Core.Path.{_≡_, refl}
+use mathlib.Core.List.{List, [], _∷_}
+use mathlib.Core.Bool.{Bool, true, false}
+use Prim.Native.Nat.{ℕ, _-_, _^_}
+use lib.IntN.{ℤ, pos, negsuc}
+use Rattle.value.specs.declared.Number.{Number}
+use Rattle.value.specs.declared.Number.the-variants.{Of, Bad, Big}
+use Rattle.value.specs.Digits.{signedOf}
+use Rattle.value.specs.Field.{fieldOf}
+use Rattle.packed.specs.Packed.{decodeOf, encodedOf, fitsOf, writtenOf}
+
+minus-12345 : decodeOf (0x12 ∷ 0x34 ∷ 0x5D ∷ []) ≡ Of true 12345
+unfolding decodeOf fieldOf
+minus-12345 = refl
+
+one-positive : decodeOf (0x1E ∷ []) ≡ Of false 1
+unfolding decodeOf fieldOf
+one-positive = refl
+
+no-sign : decodeOf (0x19 ∷ []) ≡ Bad
+unfolding decodeOf fieldOf
+no-sign = refl
+
+no-digit : decodeOf (0xA1 ∷ 0x1C ∷ []) ≡ Bad
+unfolding decodeOf fieldOf
+no-digit = refl
+
+no-width : decodeOf [] ≡ Bad
+unfolding decodeOf fieldOf
+no-width = refl
+
+minus-zero : decodeOf (0x0D ∷ []) ≡ Of false 0
+unfolding decodeOf fieldOf
+minus-zero = refl
+
+largest : decodeOf (0x09 ∷ 0x99 ∷ 0x99 ∷ 0x99 ∷ 0x99 ∷ 0x99 ∷ 0x99 ∷ 0x99 ∷ 0x99 ∷ 0x9C ∷ []) ≡ Of false (10 ^ 18 - 1)
+unfolding decodeOf fieldOf
+largest = refl
+
+too-large : decodeOf (0x10 ∷ 0x00 ∷ 0x00 ∷ 0x00 ∷ 0x00 ∷ 0x00 ∷ 0x00 ∷ 0x00 ∷ 0x00 ∷ 0x0C ∷ []) ≡ Big
+unfolding decodeOf fieldOf
+too-large = refl
+
+ten-in-one : fitsOf 1 10 ≡ false
+ten-in-one = refl
+
+five-unsigned : writtenOf (0 ∷ []) true 5 false ≡ (0x5F ∷ [])
+unfolding writtenOf
+five-unsigned = refl
+
+as-integer : signedOf true 12345 ≡ negsuc 12344
+as-integer = refl

@@ -1,0 +1,3 @@
+-- Packed decimal numbers.
+pub mod Packed
+pub mod Examples

@@ -1,0 +1,61 @@
+-- What a packed field of any width says, and the bytes of a number in one.
+use mathlib.Core.List.{List, [], _∷_, _++_}
+use mathlib.Core.Bool.{Bool, true, false, _&&_, _||_, cond}
+use Prim.Native.Nat.{ℕ, zero, suc, _+_, _-_, _*_, _/_, _%_, _^_}
+use lib.Dec.{ltb, leb, eqb}
+use lib.ListN.{length}
+use Rattle.value.specs.declared.Number.{Number}
+use Rattle.value.specs.declared.Number.the-variants.{Of, Bad, Big}
+use Rattle.value.specs.Digits.{digitsOf}
+use Rattle.value.specs.Number.{numberOf}
+use Rattle.value.specs.Field.{fieldOf}
+
+-- a byte's two nibbles
+abbrev pub nibbles : ℕ → List ℕ
+nibbles b = b / 16 ∷ b % 16 ∷ []
+
+-- B and D are negative; A, C, E and F are not
+abbrev pub isNegative : ℕ → Bool
+isNegative sign = eqb sign 11 || eqb sign 13
+
+abbrev pub isSign : ℕ → Bool
+isSign sign = leb 10 sign
+
+-- the last byte's digit and sign
+abbrev pub highOf : ℕ → ℕ
+highOf b = b / 16
+
+abbrev pub signed : ℕ → Bool
+signed b = isSign (b % 16)
+
+-- what a lawful field answers
+abbrev pub narrow : ℕ → ℕ → Number
+narrow b size = numberOf (isNegative (b % 16)) size
+
+-- each byte but the last holds two digits, and the last one a digit and the sign
+unfoldable pub decodeOf : List ℕ → Number
+decodeOf part = fieldOf nibbles highOf signed narrow Bad part
+
+-- ---- writing
+
+-- nibbles, two to a byte
+abbrev pub pairs : List ℕ → List ℕ
+pairs [] = []
+pairs (a ∷ []) = []
+pairs (a ∷ b ∷ r) = (a * 16 + b) ∷ pairs r
+
+abbrev pub signOf : Bool → Bool → ℕ
+signOf signed negative = cond signed (cond negative 13 12) 15
+
+-- the 2 w - 1 low digits of the size, and the sign
+abbrev pub encodedOf : ℕ → Bool → ℕ → Bool → List ℕ
+encodedOf w negative size signed = pairs (digitsOf (2 * w - 1) size ++ (signOf signed negative ∷ []))
+
+-- a field of w bytes has 2 w - 1 digits; one of no bytes has no place for the sign
+abbrev pub fitsOf : ℕ → ℕ → Bool
+fitsOf w size = ltb 0 w && ltb size (10 ^ (2 * w - 1))
+
+-- the field after writing: the number where it fits, and what it was elsewhere
+unfoldable pub writtenOf : List ℕ → Bool → ℕ → Bool → List ℕ
+writtenOf part negative size signed =
+    cond (fitsOf (length part) size) (encodedOf (length part) negative size signed) part

@@ -1,0 +1,112 @@
+// Packed decimal fields of any width.
+
+use value::Number;
+ghost use mathlib.Core.Path.{_≡_};
+ghost use lib.ListN.{length};
+ghost use mathlib.Core.List.{List, [], _∷_, _++_};
+ghost use Prim.Native.Nat.{ℕ, _+_, _-_, _*_, _<_, _≤_};
+ghost use Rattle.value.specs.Digits.{digitsOf};
+ghost use Rattle.packed.specs.Packed.{decodeOf, fitsOf, writtenOf, signOf, isNegative, pairs};
+
+// The number of a packed field.
+pub fn decode(part: &[u8]) -> Number
+    ensures { λ r. ⌜ r ≡ decodeOf (now (part .entry)) ⌝ }
+{
+    let n = part.len();
+    if n == 0 {
+        return Number::Bad;
+    }
+    let last = n - 1;
+    let mut size: u64 = 0;
+    let mut i = 0;
+    while i < last {
+        let b = part[i];
+        let high = b / 16;
+        let low = b % 16;
+        if high >= 10 {
+            return Number::Bad;
+        }
+        if low >= 10 {
+            return Number::Bad;
+        }
+        size = value::push_digit(value::push_digit(size, high), low);
+        i += 1;
+    }
+    let b = part[last];
+    let high = b / 16;
+    let sign = b % 16;
+    if high >= 10 {
+        return Number::Bad;
+    }
+    if sign < 10 {
+        return Number::Bad;
+    }
+    let total = value::push_digit(size, high);
+    value::number_of(is_negative(sign), total)
+}
+
+pub fn is_negative(sign: u8) -> bool
+    ensures { λ r. ⌜ r ≡ isNegative sign ⌝ }
+{
+    if sign == 11 {
+        return true;
+    }
+    sign == 13
+}
+
+// Whether a size has no more digits than a field has places.
+pub fn fits(width: usize, size: u64) -> bool
+    ensures { λ r. ⌜ r ≡ fitsOf width size ⌝ }
+{
+    if width == 0 {
+        return false;
+    }
+    let mut rest = size / 10;
+    let mut k = 1;
+    while k < width {
+        rest = rest / 100;
+        k += 1;
+    }
+    rest == 0
+}
+
+// The low digits of a size and the sign, from the right.
+fn write(part: &mut [u8], size: u64, sign: u8)
+    requires { ⌜ (0 < length (now part)) × (sign < 16) ⌝ }
+    ensures { λ r. ⌜ now (part .exit) ≡ pairs (digitsOf (2 * length (now (part .entry)) - 1) size ++ (sign ∷ [])) ⌝ }
+{
+    let w = part.len();
+    let mut i = w - 1;
+    part[i] = (size % 10) as u8 * 16 + sign;
+    let mut rest = size / 10;
+    while i > 0 {
+        i -= 1;
+        part[i] = (rest / 10 % 10) as u8 * 16 + (rest % 10) as u8;
+        rest = rest / 100;
+    }
+}
+
+fn sign_of(signed: bool, negative: bool) -> u8
+    ensures { λ r. ⌜ (r ≡ signOf signed negative) × (r < 16) ⌝ }
+{
+    if signed {
+        if negative {
+            return 13;
+        }
+        return 12;
+    }
+    15
+}
+
+// Writes a number into a packed field, and answers whether it fits; a field that it does not fit stays as it was.
+pub fn encode(part: &mut [u8], negative: bool, size: u64, signed: bool) -> bool
+    ensures { λ r. ⌜ (r ≡ fitsOf (length (now (part .entry))) size) × (now (part .exit) ≡ writtenOf (now (part .entry)) negative size signed) ⌝ }
+{
+    let w = part.len();
+    if fits(w, size) {
+        let sign = sign_of(signed, negative);
+        write(part, size, sign);
+        return true;
+    }
+    false
+}

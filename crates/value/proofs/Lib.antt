@@ -1,0 +1,7 @@
+pub mod Digits
+pub mod Field
+pub mod Answers
+pub mod Rounding
+pub mod Word
+pub mod Items
+pub mod Nans

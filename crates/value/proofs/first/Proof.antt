@@ -1,0 +1,91 @@
+use mathlib.Core.Path.{_≡_, refl, sym, ap, _∙_, subst}
+use mathlib.Core.Bool.{Bool, true, false}
+use mathlib.Core.Logic.{⊎-elim}
+use mathlib.Core.List.{List, [], _∷_, _++_, map, append-nil, append-assoc}
+use Prim.Native.Nat.{ℕ, zero, suc, _+_, _-_, _*_, _≤_, _<_}
+use native.Mathlib.Omega.{arith}
+use native.Mathlib.Numerals.{add-one}
+use borrow.Author.Tests.{lt-ltb, le-ltb, le-leb, lt-leb, eq-eqb, ne-eqb, eqb-true, eqb-false, ltb-true, ltb-false, leb-true, leb-false}
+use lib.Dec.{eqb, leb, ltb}
+use lib.ListN.{length, take, drop, getD, set, replicate, length-set, length-append, length-take, length-drop, length-replicate, length-map}
+use Rattle.value.specs.Scalar.{firstOf}
+use borrow.Author.Needs.{needs}
+use Rattle.value.proofs.first.Statement.{statement}
+use Rattle.value.proofs.first.Tie as tie
+
+enum-told : tie.Need-enum-told
+enum-told c = search needs
+
+enum-known-s : tie.Need-enum-known-s
+enum-known-s c = search needs
+
+enum-known-s-2 : tie.Need-enum-known-s-2
+enum-known-s-2 c = search needs
+
+word-of-requires : tie.Need-word-of-requires
+word-of-requires c κs = search needs
+
+enum-known-s-3 : tie.Need-enum-known-s-3
+enum-known-s-3 c = search needs
+
+word-of-requires-2 : tie.Need-word-of-requires-2
+word-of-requires-2 c κs = search needs
+
+enum-known-s-4 : tie.Need-enum-known-s-4
+enum-known-s-4 c = search needs
+
+float-word-requires : tie.Need-float-word-requires
+float-word-requires c κs = search needs
+
+enum-known-s-5 : tie.Need-enum-known-s-5
+enum-known-s-5 c = search needs
+
+enum-known-s-6 : tie.Need-enum-known-s-6
+enum-known-s-6 c = search needs
+
+returns : tie.Need-returns
+returns c = search needs
+
+returns-2 : tie.Need-returns-2
+returns-2 c = search needs
+
+returns-3 : tie.Need-returns-3
+returns-3 c = c .word-of .ensures ∙ sym (ap firstOf (c .before .before .s2 .given .1))
+
+returns-4 : tie.Need-returns-4
+returns-4 c = c .word-of2 .ensures ∙ sym (ap firstOf (c .before .before .s3 .given .1))
+
+returns-5 : tie.Need-returns-5
+returns-5 c = c .float-word .ensures ∙ sym (ap firstOf (c .before .before .s4 .given .1))
+
+returns-6 : tie.Need-returns-6
+returns-6 c = search needs
+
+returns-7 : tie.Need-returns-7
+returns-7 c = search needs
+
+returns-8 : tie.Need-returns-8
+returns-8 c = search needs
+
+pub first-spec : {M : Type 1} → statement M
+first-spec =
+    tie.close
+    (tie.spec
+    enum-told
+    enum-known-s
+    enum-known-s-2
+    word-of-requires
+    enum-known-s-3
+    word-of-requires-2
+    enum-known-s-4
+    float-word-requires
+    enum-known-s-5
+    enum-known-s-6
+    returns
+    returns-2
+    returns-3
+    returns-4
+    returns-5
+    returns-6
+    returns-7
+    returns-8)

@@ -1,0 +1,27 @@
+use mathlib.Core.Path.{_≡_, refl, sym, ap, _∙_, subst}
+use mathlib.Core.Bool.{Bool, true, false}
+use mathlib.Core.Logic.{⊎-elim}
+use mathlib.Core.List.{List, [], _∷_, _++_, map, append-nil, append-assoc}
+use Prim.Native.Nat.{ℕ, zero, suc, _+_, _-_, _*_, _≤_, _<_}
+use native.Mathlib.Omega.{arith}
+use native.Mathlib.Numerals.{add-one}
+use borrow.Author.Tests.{lt-ltb, le-ltb, le-leb, lt-leb, eq-eqb, ne-eqb, eqb-true, eqb-false, ltb-true, ltb-false, leb-true, leb-false}
+use lib.Dec.{eqb, leb, ltb}
+use lib.ListN.{length, take, drop, getD, set, replicate, length-set, length-append, length-take, length-drop, length-replicate, length-map}
+use borrow.Author.Needs.{needs}
+use lib.Ieee.{binary64}
+use Rattle.value.proofs.Nans.{nan-pattern, no-nan-pattern, from-bits}
+use Rattle.value.proofs.float_scalar.Statement.{statement}
+use Rattle.value.proofs.float_scalar.Tie as tie
+
+float-from-bits-t5 : tie.Need-float-from-bits-t5
+float-from-bits-t5 c = from-bits binary64 (c .before .args .w) (c .if1 .left)
+
+returns : tie.Need-returns
+returns c = simp (nan-pattern binary64 (c .before .args .w) (c .if1 .taken))
+
+returns-2 : tie.Need-returns-2
+returns-2 c = simp (no-nan-pattern binary64 (c .before .args .w) (c .if1 .left))
+
+pub float-scalar-spec : {M : Type 1} → statement M
+float-scalar-spec = tie.close (tie.spec float-from-bits-t5 returns returns-2)

@@ -1,0 +1,61 @@
+use mathlib.Core.Path.{_≡_, refl, sym, ap, _∙_, subst}
+use mathlib.Core.Bool.{Bool, true, false}
+use mathlib.Core.Logic.{⊎-elim}
+use mathlib.Core.List.{List, [], _∷_, _++_, map, append-nil, append-assoc}
+use Prim.Native.Nat.{ℕ, zero, suc, _+_, _-_, _*_, _≤_, _<_}
+use native.Mathlib.Omega.{arith}
+use native.Mathlib.Numerals.{add-one}
+use borrow.Author.Tests.{lt-ltb, le-ltb, le-leb, lt-leb, eq-eqb, ne-eqb, eqb-true, eqb-false, ltb-true, ltb-false, leb-true, leb-false}
+use lib.Dec.{eqb, leb, ltb}
+use lib.ListN.{length, take, drop, getD, set, replicate, length-set, length-append, length-take, length-drop, length-replicate, length-map}
+use Rattle.value.proofs.Items.{put-none, put-some}
+use borrow.Author.Needs.{needs}
+use Rattle.value.proofs.put_item.Statement.{statement}
+use Rattle.value.proofs.put_item.Tie as tie
+
+returns : tie.Need-returns
+returns c = (sym (lt-leb 4 (length (c .before .before .args .items .now)) (omega arith)), put-none _ _ _ (omega arith))
+
+slice-write-items : tie.Need-slice-write-items
+slice-write-items c = search needs
+
+tag-requires : tie.Need-tag-requires
+tag-requires c κs = search needs
+
+slice-write-items-2 : tie.Need-slice-write-items-2
+slice-write-items-2 c = simp length-set (omega arith)
+
+first-requires : tie.Need-first-requires
+first-requires c κs = search needs
+
+slice-write-items-3 : tie.Need-slice-write-items-3
+slice-write-items-3 c = simp length-set (omega arith)
+
+second-requires : tie.Need-second-requires
+second-requires c κs = search needs
+
+slice-write-items-4 : tie.Need-slice-write-items-4
+slice-write-items-4 c = search needs
+
+same-length : tie.Need-same-length
+same-length c = search needs
+
+returns-2 : tie.Need-returns-2
+returns-2 c =
+    let items = c .before .before .before .before .before .args .items .now in
+    (sym (le-leb 4 (length items) (omega arith)), put-some items _ (c .before .before .before .before .before .args .s) _ _ _ (omega arith) (c .before .before .tag .ensures) (c .before .first .ensures) (c .second .ensures))
+
+pub put-item-spec : {M : Type 1} → statement M
+put-item-spec =
+    tie.close
+    (tie.spec
+    returns
+    slice-write-items
+    tag-requires
+    slice-write-items-2
+    first-requires
+    slice-write-items-3
+    second-requires
+    slice-write-items-4
+    same-length
+    returns-2)

@@ -1,0 +1,45 @@
+-- Numbers in base 10: what a list of digits spells, and the digits of a number, over any count of digits.
+use mathlib.Core.List.{List, [], _∷_, _++_}
+use mathlib.Core.Bool.{Bool, true, false, _&&_, cond}
+use Prim.Native.Nat.{ℕ, zero, suc, _+_, _*_, _/_, _%_, _^_, min}
+use lib.Dec.{ltb}
+use lib.IntN.{ℤ, pos, negℤ}
+
+-- the number that digits spell, most significant first, after a number that is read already
+abbrev pub valueFrom : ℕ → List ℕ → ℕ
+valueFrom acc [] = acc
+valueFrom acc (d ∷ ds) = valueFrom (acc * 10 + d) ds
+
+abbrev pub valueOf : List ℕ → ℕ
+valueOf ds = valueFrom 0 ds
+
+-- every digit is below 10
+abbrev pub digitsOk : List ℕ → Bool
+digitsOk [] = true
+digitsOk (d ∷ ds) = ltb d 10 && digitsOk ds
+
+-- the digit of v at a place: place 0 is the units
+abbrev pub digitAt : ℕ → ℕ → ℕ
+digitAt place v = v / 10 ^ place % 10
+
+-- the n low digits of v, most significant first: places n - 1 down to 0
+abbrev pub digitsOf : ℕ → ℕ → List ℕ
+digitsOf zero v = []
+digitsOf (suc n) v = digitAt n v ∷ digitsOf n v
+
+-- Decimals are "below 10^18 in size"
+abbrev pub limit : ℕ
+limit = 1_000_000_000_000_000_000
+
+-- a size that has stopped counting at the limit
+abbrev pub capped : ℕ → ℕ
+capped v = min v limit
+
+-- a sign and a size, as an integer
+abbrev pub signedOf : Bool → ℕ → ℤ
+signedOf negative v = cond negative (negℤ (pos v)) (pos v)
+
+-- the digits of each byte, one after the other
+abbrev pub spread : (ℕ → List ℕ) → List ℕ → List ℕ
+spread f [] = []
+spread f (b ∷ bs) = f b ++ spread f bs

@@ -1,0 +1,59 @@
+-- "a scalar is Null, Text, Int, Decimal, Float or Bool (tags 0 to 5)", and the item of four words that it becomes.
+use mathlib.Core.List.{List, [], _∷_, _++_}
+use mathlib.Core.Bool.{Bool, true, false, cond}
+use Prim.Native.Nat.{ℕ}
+use lib.Dec.{leb, eqb}
+use lib.ListN.{length, drop}
+use lib.Ieee.{Float, binary64, ofBits, toBits, nanBits}
+use Rattle.value.specs.declared.Scalar.{Scalar}
+use Rattle.value.specs.declared.Scalar.the-variants.{Null, Text, Int, Decimal, Float as FloatV, FloatBits, Bool as BoolV}
+use Rattle.value.specs.Word.{wordOf, minusIn, sizeIn}
+
+abbrev pub tagOf : Scalar → ℕ
+tagOf Null = 0
+tagOf (Text start count) = 1
+tagOf (Int negative size) = 2
+tagOf (Decimal negative size scale) = 3
+tagOf (FloatV x) = 4
+tagOf (FloatBits w) = 4
+tagOf (BoolV b) = 5
+
+abbrev pub firstOf : Scalar → ℕ
+firstOf Null = 0
+firstOf (Text start count) = start
+firstOf (Int negative size) = wordOf negative size
+firstOf (Decimal negative size scale) = wordOf negative size
+firstOf (FloatV x) = toBits binary64 x
+firstOf (FloatBits w) = w
+firstOf (BoolV b) = cond b 1 0
+
+abbrev pub secondOf : Scalar → ℕ
+secondOf Null = 0
+secondOf (Text start count) = count
+secondOf (Int negative size) = 0
+secondOf (Decimal negative size scale) = scale
+secondOf (FloatV x) = 0
+secondOf (FloatBits w) = 0
+secondOf (BoolV b) = 0
+
+-- "name .., tag, and two words"
+abbrev pub itemOf : ℕ → Scalar → List ℕ
+itemOf name s = name ∷ tagOf s ∷ firstOf s ∷ secondOf s ∷ []
+
+-- the item at the front of a buffer, where it has room
+unfoldable pub putOf : List ℕ → ℕ → Scalar → List ℕ
+putOf items name s = cond (leb 4 (length items)) (itemOf name s ++ drop 4 items) items
+
+-- the scalar of a float's word: a NaN is kept by its word, and every other number is an f64
+abbrev pub floatOf : ℕ → Scalar
+floatOf w = cond (nanBits binary64 w) (FloatBits w) (FloatV (ofBits binary64 w))
+
+-- the scalar of an item's tag and two words; Null for the tags of List and Struct and for any other
+unfoldable pub scalarOf : ℕ → ℕ → ℕ → Scalar
+scalarOf tag a b =
+    cond (eqb tag 1) (Text a b)
+    (cond (eqb tag 2) (Int (minusIn a) (sizeIn a))
+    (cond (eqb tag 3) (Decimal (minusIn a) (sizeIn a) b)
+    (cond (eqb tag 4) (floatOf a)
+    (cond (eqb tag 5) (BoolV (eqb a 1))
+    Null))))

@@ -1,0 +1,275 @@
+// What every kind of field shares: decimal digits and sizes, the answer for a number, scales, words, and the scalar that becomes an item.
+
+ghost use mathlib.Core.Path.{_≡_};
+ghost use mathlib.Core.Bool.{Bool};
+ghost use Prim.Native.Nat.{ℕ, _+_, _*_, _/_, _%_, _^_, _<_, _≤_};
+ghost use lib.Dec.{leb, eqb};
+ghost use lib.ListN.{length};
+ghost use lib.Ieee as Ieee;
+ghost use lib.Ieee.{binary64};
+ghost use Rattle.value.specs.Digits.{capped, limit};
+ghost use Rattle.value.specs.Number.{numberOf, refusalOf};
+ghost use Rattle.value.specs.Rounding.{rescaled};
+ghost use Rattle.value.specs.Word.{wordOf, minusIn, sizeIn, powerTen};
+ghost use Rattle.value.specs.Scalar.{tagOf, firstOf, secondOf, putOf, floatOf, scalarOf};
+
+// What reading a number answers: whether it is negative, and its size; 0 is never negative. Bad: an unlawful byte. Big: out of range.
+pub enum Number {
+    Of(bool, u64),
+    Bad,
+    Big,
+}
+
+// A field's value before it becomes an item: Text is a start and a length in a text buffer, Int and Decimal a sign and a size,
+// Decimal's last number its scale. A float that is a NaN is kept by its bits.
+pub enum Scalar {
+    Null,
+    Text(u64, u64),
+    Int(bool, u64),
+    Decimal(bool, u64, u64),
+    Float(f64),
+    FloatBits(u64),
+    Bool(bool),
+}
+
+// ---- sizes: the steps by which every reader and writer goes
+
+// One digit more of a size that stops counting at 10^18.
+pub fn push_digit(size: u64, digit: u8) -> u64
+    ensures { λ r. ⌜ r ≡ capped (size * 10 + digit) ⌝ }
+{
+    if size >= 100000000000000000 {
+        return 1000000000000000000;
+    }
+    let next = size * 10 + digit as u64;
+    if next >= 1000000000000000000 {
+        return 1000000000000000000;
+    }
+    next
+}
+
+// The units of a size.
+pub fn last_digit(size: u64) -> u8
+    ensures { λ r. ⌜ (r ≡ size % 10) × (r < 10) ⌝ }
+{
+    (size % 10) as u8
+}
+
+// A size without its units.
+pub fn drop_digit(size: u64) -> u64
+    ensures { λ r. ⌜ r ≡ size / 10 ⌝ }
+{
+    size / 10
+}
+
+// The answer for a sign and a size.
+pub fn number_of(negative: bool, size: u64) -> Number
+    ensures { λ r. ⌜ r ≡ numberOf negative size ⌝ }
+{
+    if size >= 1000000000000000000 {
+        return Number::Big;
+    }
+    if size == 0 {
+        return Number::Of(false, 0);
+    }
+    Number::Of(negative, size)
+}
+
+// The number of the question that an answer is refused by, 0 for none.
+pub fn refusal(n: Number) -> u32
+    ensures { λ r. ⌜ r ≡ refusalOf n ⌝ }
+{
+    match n {
+        Number::Of(_, _) => 0,
+        Number::Bad => 8,
+        Number::Big => 9,
+    }
+}
+
+const POWERS: [u64; 20] = [
+    1,
+    10,
+    100,
+    1000,
+    10000,
+    100000,
+    1000000,
+    10000000,
+    100000000,
+    1000000000,
+    10000000000,
+    100000000000,
+    1000000000000,
+    10000000000000,
+    100000000000000,
+    1000000000000000,
+    10000000000000000,
+    100000000000000000,
+    1000000000000000000,
+    10000000000000000000,
+];
+
+// 10^k where a word holds it, else 0.
+pub fn ten_to(k: u64) -> u64
+    ensures { λ r. ⌜ r ≡ powerTen k ⌝ }
+{
+    if k < 20 {
+        let i = k as usize;
+        return POWERS[i];
+    }
+    0
+}
+
+// A size of one scale at another, as a number; the scale that is lost is cut.
+pub fn rescale(negative: bool, size: u64, from: u64, to: u64) -> Number
+    ensures { λ r. ⌜ r ≡ numberOf negative (rescaled from to size) ⌝ }
+{
+    if from < to {
+        return scale_up(negative, size, to - from);
+    }
+    let k = from - to;
+    if k > 19 {
+        return number_of(negative, 0);
+    }
+    let p = ten_to(k);
+    number_of(negative, size / p)
+}
+
+fn scale_up(negative: bool, size: u64, k: u64) -> Number
+    ensures { λ r. ⌜ r ≡ numberOf negative (size * 10 ^ k) ⌝ }
+{
+    if size == 0 {
+        return number_of(negative, 0);
+    }
+    if k > 18 {
+        return Number::Big;
+    }
+    if size >= ten_to(18 - k) {
+        return Number::Big;
+    }
+    let p = ten_to(k);
+    number_of(negative, size * p)
+}
+
+// ---- words
+
+// The two's-complement word of a sign and a size.
+pub fn word_of(negative: bool, size: u64) -> u64
+    ensures { λ r. ⌜ r ≡ wordOf negative size ⌝ }
+{
+    if size == 0 {
+        return 0;
+    }
+    if negative {
+        return 18446744073709551615 - (size - 1);
+    }
+    size
+}
+
+pub fn is_minus(w: u64) -> bool
+    ensures { λ r. ⌜ r ≡ minusIn w ⌝ }
+{
+    w >= 9223372036854775808
+}
+
+pub fn size_of(w: u64) -> u64
+    ensures { λ r. ⌜ r ≡ sizeIn w ⌝ }
+{
+    if w >= 9223372036854775808 {
+        return 18446744073709551615 - w + 1;
+    }
+    w
+}
+
+// ---- scalars and items
+
+fn tag(s: Scalar) -> u64
+    ensures { λ r. ⌜ r ≡ tagOf s ⌝ }
+{
+    match s {
+        Scalar::Null => 0,
+        Scalar::Text(_, _) => 1,
+        Scalar::Int(_, _) => 2,
+        Scalar::Decimal(_, _, _) => 3,
+        Scalar::Float(_) => 4,
+        Scalar::FloatBits(_) => 4,
+        Scalar::Bool(_) => 5,
+    }
+}
+
+// The bits of a float that is no NaN, or 0x7FF8000000000000.
+pub fn float_word(x: f64) -> u64
+    ensures { λ r. ⌜ r ≡ Ieee.toBits binary64 x ⌝ }
+{
+    if x == x {
+        return f64::to_bits(x);
+    }
+    0x7FF8000000000000
+}
+
+fn first(s: Scalar) -> u64
+    ensures { λ r. ⌜ r ≡ firstOf s ⌝ }
+{
+    match s {
+        Scalar::Null => 0,
+        Scalar::Text(start, _) => start,
+        Scalar::Int(negative, size) => word_of(negative, size),
+        Scalar::Decimal(negative, size, _) => word_of(negative, size),
+        Scalar::Float(x) => float_word(x),
+        Scalar::FloatBits(w) => w,
+        Scalar::Bool(b) => { if b { 1 } else { 0 } }
+    }
+}
+
+fn second(s: Scalar) -> u64
+    ensures { λ r. ⌜ r ≡ secondOf s ⌝ }
+{
+    match s {
+        Scalar::Null => 0,
+        Scalar::Text(_, count) => count,
+        Scalar::Int(_, _) => 0,
+        Scalar::Decimal(_, _, scale) => scale,
+        Scalar::Float(_) => 0,
+        Scalar::FloatBits(_) => 0,
+        Scalar::Bool(_) => 0,
+    }
+}
+
+// The item of a scalar at the front of the words, where it has room.
+pub fn put_item(items: &mut [u64], name: u64, s: Scalar) -> bool
+    ensures { λ r. ⌜ (r ≡ leb 4 (length (now (items .entry)))) × (now (items .exit) ≡ putOf (now (items .entry)) name s) ⌝ }
+{
+    if items.len() < 4 {
+        return false;
+    }
+    items[0] = name;
+    items[1] = tag(s);
+    items[2] = first(s);
+    items[3] = second(s);
+    true
+}
+
+// The scalar of a float's bits.
+pub fn float_scalar(w: u64) -> Scalar
+    ensures { λ r. ⌜ r ≡ floatOf w ⌝ }
+{
+    if w % 0x8000_0000_0000_0000 > 0x7FF0_0000_0000_0000 {
+        Scalar::FloatBits(w)
+    } else {
+        Scalar::Float(f64::from_bits(w))
+    }
+}
+
+// The scalar of an item's tag and two words.
+pub fn item_scalar(tag: u64, a: u64, b: u64) -> Scalar
+    ensures { λ r. ⌜ r ≡ scalarOf tag a b ⌝ }
+{
+    match tag {
+        1 => Scalar::Text(a, b),
+        2 => Scalar::Int(is_minus(a), size_of(a)),
+        3 => Scalar::Decimal(is_minus(a), size_of(a), b),
+        4 => float_scalar(a),
+        5 => Scalar::Bool(a == 1),
+        _ => Scalar::Null,
+    }
+}

@@ -172,3 +172,30 @@ both-ends f s a e p q =
 
 pub tail-part : (s : List ℕ) (a : ℕ) → take (length s - a) (drop a s) ≡ drop a s
 tail-part s a = take-all (length s - a) (drop a s) (le-of-eq (length-drop a s))
+
+-- what every element passes, it passes by a weaker test
+pub every-weaker : (f g : ℕ → Bool) → ((x : ℕ) → f x ≡ true → g x ≡ true) → (t : List ℕ) → everyBy f t ≡ true → everyBy g t ≡ true
+unfolding everyBy
+every-weaker f g w [] h = refl
+every-weaker f g w (x ∷ t) h = by (f x) refl h (λ q. every-weaker f g w t q)
+  where
+    by : (b : Bool) → f x ≡ b → (b && everyBy f t) ≡ true → (everyBy f t ≡ true → everyBy g t ≡ true) → (g x && everyBy g t) ≡ true
+    by true e q r = rw (w x e) (r q)
+    by false e q r = absurd (false≢true q)
+
+-- the first element and the rest pass
+pub every-head : (f : ℕ → Bool) (x : ℕ) (t : List ℕ) → everyBy f (x ∷ t) ≡ true → f x ≡ true
+unfolding everyBy
+every-head f x t h = by (f x) h
+  where
+    by : (b : Bool) → (b && everyBy f t) ≡ true → b ≡ true
+    by true q = refl
+    by false q = absurd (false≢true q)
+
+pub every-tail : (f : ℕ → Bool) (x : ℕ) (t : List ℕ) → everyBy f (x ∷ t) ≡ true → everyBy f t ≡ true
+unfolding everyBy
+every-tail f x t h = by (f x) h
+  where
+    by : (b : Bool) → (b && everyBy f t) ≡ true → everyBy f t ≡ true
+    by true q = q
+    by false q = absurd (false≢true q)

@@ -5,6 +5,7 @@ use mathlib.Core.Bool.{Bool, true, false, _&&_, cond, false≢true}
 use Prim.Native.Nat.{ℕ, zero, suc, _+_, _-_, _*_, _/_, _%_, _^_, _<_, _≤_}
 use native.Mathlib.Nat.{not-suc-le-zero, le-of-suc-le-suc, suc-sub-suc}
 use native.Mathlib.Omega.{arith}
+use native.Mathlib.Decide.{decLt}
 use lib.Dec.{ltb, leb, lit<, lit≤}
 use lib.ListN.{length, getD, take}
 use borrow.Author.Tests.{lt-ltb, le-leb, ltb-true}
@@ -147,3 +148,23 @@ zero-unsigned negative (suc n) = rw (lt-ltb 0 (suc n) (omega arith))
 pub round-integer : (w : ℕ) (negative : Bool) (size : ℕ) → fitsOf w size ≡ true → size < limit
     → integerIn (decodeOf (encodedOf w negative size true)) ≡ signedOf negative size
 round-integer w negative size h l = ap integerIn (round w negative size true h l) ∙ zero-unsigned negative size
+
+-- a written field is as long as the field, and made of bytes
+pub encoded-length : (w : ℕ) (negative : Bool) (size : ℕ) (signed : Bool) → 0 < w → length (encodedOf w negative size signed) ≡ w
+encoded-length zero negative size signed h = absurd (omega arith)
+encoded-length (suc k) negative size signed h =
+    ap length (encoded-is k negative size signed (sign-small signed negative)) ∙ field-length size (signOf signed negative) (sign-small signed negative) k
+
+pub encoded-byte : (w : ℕ) (negative : Bool) (size : ℕ) (signed : Bool) (i : ℕ) → i < w → getD (encodedOf w negative size signed) i 0 < 256
+encoded-byte w negative size signed i h = go (decLt i (w - 1))
+  where
+    go : Dec (i < w - 1) → getD (encodedOf w negative size signed) i 0 < 256
+    go (yes k) =
+        let a = digit-below (2 * (w - 1 - i)) size in
+        let b = digit-below (2 * (w - 1 - i) - 1) size in
+        rw (by-place w negative size signed i k) (omega arith)
+    go (no k) =
+        let e : i ≡ w - 1 = omega arith in
+        let a = digit-below 0 size in
+        let s = sign-small signed negative in
+        rw (e, by-place-last w negative size signed (omega arith)) (omega arith)

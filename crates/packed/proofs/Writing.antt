@@ -9,14 +9,10 @@ use lib.Dec.{ltb, leb, eqb}
 use native.Mathlib.Decide.{decLt}
 use borrow.Author.Tests.{lt-ltb}
 use lib.ListN.{length, getD, take, drop, set, drop-of-length-le}
+use Rattle.lists.proofs.Lists.{drop-set}
 use Rattle.value.specs.Digits.{digitAt, digitsOf}
 use Rattle.value.proofs.Digits.{next-place, two-places, none-left}
 use Rattle.packed.specs.Packed.{pairs, signOf, encodedOf, fitsOf, writtenOf}
-
-drop-set : (l : List ℕ) (j b : ℕ) → j < length l → drop j (set l j b) ≡ b ∷ drop (suc j) l
-drop-set [] j b h = absurd (not-suc-le-zero h)
-drop-set (x ∷ l) zero b h = refl
-drop-set (x ∷ l) (suc j) b h = drop-set l j b (le-of-suc-le-suc h)
 
 -- the digits that stand from place i of w on
 abbrev pub places : ℕ → ℕ → ℕ

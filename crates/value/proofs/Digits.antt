@@ -95,3 +95,10 @@ none-left n v = go (decLt v (10 ^ n))
     go (no h) =
         let k : 1 ≤ v / 10 ^ n = le-div-iff-mul-le {k = 10 ^ n} {x = 1} {y = v} (pow-pos10 n) .1 (omega arith) in
         rw (le-ltb v (10 ^ n) (omega arith)) (ne-eqb (v / 10 ^ n) 0 (omega arith))
+
+-- the digits above the units, and the units
+pub digits-snoc : (k v : ℕ) → digitsOf k (v / 10) ++ (digitAt 0 v ∷ []) ≡ digitsOf (suc k) v
+digits-snoc zero v = refl
+digits-snoc (suc k) v =
+    let e : v / 10 / 10 ^ k ≡ v / 10 ^ suc k = div-div-eq-div-mul v 10 (10 ^ k) ∙ ap (λ (n : ℕ). v / n) (sym (pow-succ' 10 k)) in
+    rw e (ap (λ (l : List ℕ). digitAt (suc k) v ∷ l) (digits-snoc k v))

@@ -1,0 +1,42 @@
+use mathlib.Core.Path.{_≡_, refl, sym, ap, _∙_, subst}
+use mathlib.Core.Bool.{Bool, true, false}
+use mathlib.Core.Logic.{⊎-elim}
+use mathlib.Core.List.{List, [], _∷_, _++_, map, append-nil, append-assoc}
+use Prim.Native.Nat.{ℕ, zero, suc, _+_, _-_, _*_, _≤_, _<_}
+use native.Mathlib.Omega.{arith}
+use native.Mathlib.Numerals.{add-one}
+use borrow.Author.Tests.{lt-ltb, le-ltb, le-leb, lt-leb, eq-eqb, ne-eqb, eqb-true, eqb-false, ltb-true, ltb-false, leb-true, leb-false}
+use lib.Dec.{eqb, leb, ltb}
+use lib.ListN.{length, take, drop, getD, set, replicate, length-set, length-append, length-take, length-drop, length-replicate, length-map}
+use borrow.Author.Needs.{needs}
+use Rattle.decode_scalar.proofs.parse_decimal.Statement.{statement}
+use Rattle.decode_scalar.proofs.parse_decimal.Tie as tie
+
+parse-display-decimal-requires : tie.Need-parse-display-decimal-requires
+parse-display-decimal-requires c κs = search needs
+
+returns : tie.Need-returns
+returns c = rw (eq-eqb _ _ (c .before .if1 .taken)) (c .parse-display-decimal .ensures)
+
+decode-requires : tie.Need-decode-requires
+decode-requires c κs = search needs
+
+returns-2 : tie.Need-returns-2
+returns-2 c = rw (ne-eqb _ _ (c .before .before .if1 .left), eq-eqb _ _ (c .before .if2 .taken)) (c .decode .ensures)
+
+decode-requires-2 : tie.Need-decode-requires-2
+decode-requires-2 c κs = search needs
+
+returns-3 : tie.Need-returns-3
+returns-3 c = rw (ne-eqb _ _ (c .before .before .if1 .left), ne-eqb _ _ (c .before .if2 .left)) (c .decode2 .ensures)
+
+pub parse-decimal-spec : {M : Type 1} → statement M
+parse-decimal-spec =
+    tie.close
+    (tie.spec
+    parse-display-decimal-requires
+    returns
+    decode-requires
+    returns-2
+    decode-requires-2
+    returns-3)

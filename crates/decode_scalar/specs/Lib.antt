@@ -1,0 +1,2 @@
+-- One scalar field of any kind, read.
+pub mod Decode

@@ -1,0 +1,279 @@
+-- What is written into an Int or a Display field is read back, over any width and on either page.
+use mathlib.Core.Path.{_≡_, refl, sym, _∙_, ap}
+use mathlib.Core.List.{List, [], _∷_, _++_, map}
+use mathlib.Core.Bool.{Bool, true, false, _&&_, _||_, not, cond, and-false, false≢true}
+use Prim.Native.Nat.{ℕ, zero, suc, _+_, _-_, _*_, _^_, _<_, _≤_}
+use native.Mathlib.Nat.{not-suc-le-zero, le-of-suc-le-suc, zero-lt-suc}
+use native.Mathlib.Omega.{arith}
+use lib.Dec.{ltb, leb, eqb, lit<}
+use lib.ListN.{length, getD, take, drop, length-map, length-append}
+use borrow.Author.Tests.{lt-ltb, le-ltb, lt-leb, le-leb, eq-eqb, ne-eqb, eqb-true, eqb-false}
+use Rattle.value.specs.declared.Number.{Number}
+use Rattle.value.specs.declared.Number.the-variants.{Of, Bad, Big}
+use Rattle.value.specs.Digits.{valueOf, digitAt, digitsOf, limit}
+use Rattle.value.specs.Number.{numberIn}
+use Rattle.value.specs.Field.{lastOf}
+use Rattle.value.proofs.Digits.{digit-below, length-digits, value-of-digits}
+use Rattle.value.proofs.Answers.{numberIn-fits}
+use Rattle.lists.specs.Scan.{leftBy, rightBy, keepBy, everyBy}
+use Rattle.lists.proofs.Scan.{left-kept, right-kept, keep-every}
+use Rattle.lists.proofs.Lists.{getD-map}
+use Rattle.ebcdic.specs.Ebcdic.{fromPage, ontoPage}
+use Rattle.ebcdic.proofs.Laws.{bytes-back, onto-byte}
+use Rattle.display.specs.Display.{isBlank, trimmed, isDigit, digitIn, isAscii, keptOf, withSign, isSeparate, isSign, signAt, restOf, digitsIn, wholeOf, intIn, intOf, decimalOf}
+use Rattle.display.specs.Display.{asciiOf, padded, roomFor, signByte, intFits, intBytes, hasSign, decimalFits}
+use Rattle.display.proofs.Writing.{room-some, room-below, separate-width}
+
+-- ---- bytes that are no blanks: from + to 9
+
+abbrev Inked : List ℕ → Type 0
+Inked t = (k : ℕ) → k < length t → (43 ≤ getD t k 0) × (getD t k 0 ≤ 57)
+
+inked-cons : (x : ℕ) (t : List ℕ) → 43 ≤ x → x ≤ 57 → Inked t → Inked (x ∷ t)
+inked-cons x t a b h zero k = (a, b)
+inked-cons x t a b h (suc j) k = h j (le-of-suc-le-suc k)
+
+inked-snoc : (x : ℕ) (t : List ℕ) → 43 ≤ x → x ≤ 57 → Inked t → Inked (t ++ (x ∷ []))
+inked-snoc x [] a b h = inked-cons x [] a b h
+inked-snoc x (y ∷ t) a b h =
+    inked-cons y (t ++ (x ∷ [])) (h 0 (zero-lt-suc (length t)) .0) (h 0 (zero-lt-suc (length t)) .1) (inked-snoc x t a b (λ j k. h (suc j) (omega arith)))
+
+inked-padded : (w size : ℕ) → Inked (padded w size)
+inked-padded zero size = λ k h. absurd (not-suc-le-zero h)
+inked-padded (suc w) size =
+    let d = digit-below w size in
+    inked-cons (asciiOf (digitAt w size)) (padded w size) (omega arith) (omega arith) (inked-padded w size)
+
+pub padded-below : (w size k : ℕ) → k < length (padded w size) → getD (padded w size) k 0 < 256
+padded-below w size k h = let i = inked-padded w size k h .1 in omega arith
+
+no-blank : (x : ℕ) → 43 ≤ x → isBlank x ≡ false
+no-blank x h = rw (ne-eqb x 32 (omega arith), lt-leb x 13 (omega arith), and-false)
+
+trimmed-inked : (t : List ℕ) → Inked t → trimmed t ≡ t
+trimmed-inked t h =
+    ap (rightBy isBlank) (left-kept isBlank t (λ k. no-blank (getD t 0 0) (h 0 k .0)))
+    ∙ right-kept isBlank t (λ k. no-blank (getD t (length t - 1) 0) (h (length t - 1) (omega arith) .0))
+
+sign-low : (negative : Bool) → 43 ≤ signByte negative
+sign-low true = omega arith
+sign-low false = omega arith
+
+sign-high : (negative : Bool) → signByte negative ≤ 57
+sign-high true = omega arith
+sign-high false = omega arith
+
+inked-bytes : (w : ℕ) (negative : Bool) (size sign : ℕ) → Inked (intBytes w negative size sign)
+unfolding intBytes
+inked-bytes w negative size sign = by (eqb sign 2) (eqb sign 3)
+  where
+    by : (a b : Bool) → Inked (cond a (signByte negative ∷ padded (w - 1) size) (cond b (padded (w - 1) size ++ (signByte negative ∷ [])) (padded w size)))
+    by true b = inked-cons (signByte negative) (padded (w - 1) size) (sign-low negative) (sign-high negative) (inked-padded (w - 1) size)
+    by false true = inked-snoc (signByte negative) (padded (w - 1) size) (sign-low negative) (sign-high negative) (inked-padded (w - 1) size)
+    by false false = inked-padded w size
+
+-- ---- a text of digits alone
+
+pub length-padded : (w size : ℕ) → length (padded w size) ≡ w
+length-padded w size = length-map (digitsOf w size) asciiOf ∙ length-digits w size
+
+first-digit : (w size : ℕ) → 0 < w → 48 ≤ getD (padded w size) 0 0
+first-digit zero size h = absurd (not-suc-le-zero h)
+first-digit (suc w) size h = omega arith
+
+digit-tests : (w size : ℕ) → (isDigit (asciiOf (digitAt w size)) ≡ true) × (isAscii (asciiOf (digitAt w size)) ≡ true)
+digit-tests w size =
+    let d = digit-below w size in
+    (rw (le-leb 48 (asciiOf (digitAt w size)) (omega arith), le-leb (asciiOf (digitAt w size)) 57 (omega arith)), lt-ltb (asciiOf (digitAt w size)) 128 (omega arith))
+
+all-digits : (w size : ℕ) → everyBy isDigit (padded w size) ≡ true
+unfolding everyBy
+all-digits zero size = refl
+all-digits (suc w) size = rw (digit-tests w size .0) (all-digits w size)
+
+all-ascii : (w size : ℕ) → everyBy isAscii (padded w size) ≡ true
+unfolding everyBy
+all-ascii zero size = refl
+all-ascii (suc w) size = rw (digit-tests w size .1) (all-ascii w size)
+
+digits-back : (w size : ℕ) → map digitIn (padded w size) ≡ digitsOf w size
+digits-back zero size = refl
+digits-back (suc w) size =
+    let e : digitIn (asciiOf (digitAt w size)) ≡ digitAt w size = omega arith in
+    rw (e, digits-back w size)
+
+digits-read : (bound : ℕ) (negative : Bool) (w size : ℕ) → 0 < w → size < 10 ^ w → size < bound → digitsIn bound negative (padded w size) ≡ Of (ltb 0 size && negative) size
+unfolding digitsIn
+digits-read bound negative w size h k b =
+    rw (length-padded w size, lt-ltb 0 w h, all-digits w size, digits-back w size, value-of-digits w size k) (numberIn-fits bound negative size b)
+
+whole-read : (w size : ℕ) → 0 < w → size < 10 ^ w → size < 2 ^ 63 → wholeOf (padded w size) ≡ Of (ltb 0 size && false) size
+unfolding wholeOf
+whole-read w size h k b =
+    let f = first-digit w size h in
+    rw (ne-eqb (getD (padded w size) 0 0) 45 (omega arith), ne-eqb (getD (padded w size) 0 0) 43 (omega arith)) (digits-read (2 ^ 63) false w size h k b)
+
+kept-read : (w size : ℕ) → size < 10 ^ w → size < limit → keptOf (padded w size) ≡ Of (ltb 0 size && false) size
+unfolding keptOf
+kept-read w size k b =
+    rw (all-ascii w size, keep-every isDigit (padded w size) (all-digits w size), digits-back w size, value-of-digits w size k) (numberIn-fits limit false size b)
+
+-- ---- the parts of a written field
+
+-- the places of the digits
+abbrev pub placesOf : ℕ → ℕ → ℕ
+placesOf sign w = cond (isSeparate sign) (w - 1) w
+
+pub last-snoc : (t : List ℕ) (x : ℕ) → lastOf (t ++ (x ∷ [])) ≡ x
+last-snoc t x =
+    let e : length (t ++ (x ∷ [])) - 1 ≡ length t = let l = length-append t (x ∷ []) in omega arith in
+    rw e (at t)
+  where
+    at : (l : List ℕ) → getD (l ++ (x ∷ [])) (length l) 0 ≡ x
+    at [] = refl
+    at (y ∷ l) = at l
+
+pub front-snoc : (t : List ℕ) (x : ℕ) → take (length (t ++ (x ∷ [])) - 1) (t ++ (x ∷ [])) ≡ t
+front-snoc t x =
+    let e : length (t ++ (x ∷ [])) - 1 ≡ length t = let l = length-append t (x ∷ []) in omega arith in
+    rw e (at t)
+  where
+    at : (l : List ℕ) → take (length l) (l ++ (x ∷ [])) ≡ l
+    at [] = refl
+    at (y ∷ l) = ap (λ (r : List ℕ). y ∷ r) (at l)
+
+a-sign : (negative : Bool) → isSign (signByte negative) ≡ true
+a-sign true = refl
+a-sign false = refl
+
+a-minus : (negative : Bool) → eqb (signByte negative) 45 ≡ negative
+a-minus true = refl
+a-minus false = refl
+
+record Parts (w : ℕ) (negative : Bool) (size sign : ℕ) (t : List ℕ) : Type 0 where
+  taken : isSign (signAt sign t) ≡ isSeparate sign
+  minus : eqb (signAt sign t) 45 ≡ (isSeparate sign && negative)
+  rest : restOf sign t ≡ padded (placesOf sign w) size
+
+parts : (w : ℕ) (negative : Bool) (size sign : ℕ) → Parts w negative size sign (intBytes w negative size sign)
+unfolding intBytes signAt restOf
+parts w negative size sign = by (eqb sign 2) (eqb sign 3) refl refl
+  where
+    by : (a b : Bool) → eqb sign 2 ≡ a → eqb sign 3 ≡ b → Parts w negative size sign (intBytes w negative size sign)
+    by true b ea eb = record {
+      taken = rw ea (a-sign negative);
+      minus = rw ea (a-minus negative);
+      rest = rw (ea, a-sign negative);
+    }
+    by false true ea eb = record {
+      taken = rw (ea, eb, last-snoc (padded (w - 1) size) (signByte negative)) (a-sign negative);
+      minus = rw (ea, eb, last-snoc (padded (w - 1) size) (signByte negative)) (a-minus negative);
+      rest = rw (ea, eb, last-snoc (padded (w - 1) size) (signByte negative), a-sign negative) (front-snoc (padded (w - 1) size) (signByte negative));
+    }
+    by false false ea eb = record {
+      taken = rw (ea, eb);
+      minus = rw (ea, eb);
+      rest = rw (ea, eb);
+    }
+
+-- ---- a number that a field holds: 0 to 10^w - 1, or beside a separate sign (from width 2) up to 10^(w - 1) - 1 either way
+
+pub fits-plain : (w : ℕ) (negative : Bool) (size : ℕ) (signed : Bool) (sign : ℕ) → isSeparate sign ≡ false → negative ≡ false → 0 < w → size < 10 ^ w
+    → intFits w negative size signed sign ≡ true
+unfolding intFits
+fits-plain w negative size signed sign s n h k = rw (s, n, lt-ltb 0 w h, lt-ltb size (10 ^ w) k)
+
+pub fits-separate : (w : ℕ) (negative : Bool) (size : ℕ) (signed : Bool) (sign : ℕ) → isSeparate sign ≡ true → 2 ≤ w → size < 10 ^ (w - 1)
+    → intFits w negative size signed sign ≡ true
+unfolding intFits
+fits-separate w negative size signed sign s h k = rw (s, lt-ltb 0 (w - 1) (omega arith), lt-ltb size (10 ^ (w - 1)) k)
+
+and-right : (a b : Bool) → (a && b) ≡ true → b ≡ true
+and-right true b h = h
+and-right false b h = absurd (false≢true h)
+
+-- the digits have room
+fits-room : (w : ℕ) (negative : Bool) (size : ℕ) (signed : Bool) (sign : ℕ) → intFits w negative size signed sign ≡ true → roomFor (placesOf sign w) size ≡ true
+unfolding intFits
+fits-room w negative size signed sign h = by (isSeparate sign) h
+  where
+    by : (s : Bool) → cond s (roomFor (w - 1) size) (not (negative && not signed) && roomFor w size) ≡ true → roomFor (cond s (w - 1) w) size ≡ true
+    by true q = q
+    by false q = and-right (not (negative && not signed)) (roomFor w size) q
+
+pub length-bytes : (w : ℕ) (negative : Bool) (size : ℕ) (signed : Bool) (sign : ℕ) → intFits w negative size signed sign ≡ true → length (intBytes w negative size sign) ≡ w
+unfolding intBytes
+length-bytes w negative size signed sign h = by (eqb sign 2) (eqb sign 3) refl refl
+  where
+    some : 0 < placesOf sign w
+    some = room-some (placesOf sign w) size (fits-room w negative size signed sign h)
+
+    by : (a b : Bool) → eqb sign 2 ≡ a → eqb sign 3 ≡ b
+        → length (cond a (signByte negative ∷ padded (w - 1) size) (cond b (padded (w - 1) size ++ (signByte negative ∷ [])) (padded w size))) ≡ w
+    by true b ea eb =
+        let k : 0 < w - 1 = rw ea at some in
+        let l = length-padded (w - 1) size in
+        omega arith
+    by false true ea eb =
+        let k : 0 < w - 1 = rw (ea, eb) at some in
+        let l = length-padded (w - 1) size in
+        let m = length-append (padded (w - 1) size) (signByte negative ∷ []) in
+        m ∙ omega arith
+    by false false ea eb = length-padded w size
+
+pub bytes-below : (w : ℕ) (negative : Bool) (size sign k : ℕ) → k < length (intBytes w negative size sign) → getD (intBytes w negative size sign) k 0 < 256
+bytes-below w negative size sign k h = let i = inked-bytes w negative size sign k h .1 in omega arith
+
+-- each byte as it is written
+pub written-below : (page w : ℕ) (negative : Bool) (size sign k : ℕ) → k < length (intBytes w negative size sign) → getD (map (ontoPage page) (intBytes w negative size sign)) k 0 < 256
+written-below page w negative size sign k h =
+    rw (getD-map (ontoPage page) (intBytes w negative size sign) k h) (onto-byte page (getD (intBytes w negative size sign) k 0) (bytes-below w negative size sign k h))
+
+-- ---- read back
+
+module _ (page w : ℕ) (negative : Bool) (size : ℕ) (signed : Bool) (sign : ℕ) (fits : intFits w negative size signed sign ≡ true) (keeps : isSeparate sign ≡ false → negative ≡ false) where
+  bytes : map (fromPage page) (map (ontoPage page) (intBytes w negative size sign)) ≡ intBytes w negative size sign
+  bytes = bytes-back page (intBytes w negative size sign) (bytes-below w negative size sign)
+
+  room : roomFor (placesOf sign w) size ≡ true
+  room = fits-room w negative size signed sign fits
+
+  kept-minus : (isSeparate sign && negative) ≡ negative
+  kept-minus = by (isSeparate sign) refl
+    where
+      by : (s : Bool) → isSeparate sign ≡ s → (s && negative) ≡ negative
+      by true e = refl
+      by false e = sym (keeps e)
+
+  pub int-back : size < 2 ^ 63 → intOf sign (map (fromPage page) (map (ontoPage page) (intBytes w negative size sign))) ≡ Of (ltb 0 size && negative) size
+  unfolding intOf intIn
+  int-back b =
+      let t = intBytes w negative size sign in
+      let r = parts w negative size sign in
+      let d = placesOf sign w in
+      let some = room-some d size room in
+      rw (bytes, trimmed-inked t (inked-bytes w negative size sign), r .rest, trimmed-inked (padded d size) (inked-padded d size), length-padded d size, ne-eqb d 0 (omega arith), r .taken, r .minus)
+      (by (isSeparate sign) refl some)
+    where
+      by : (s : Bool) → isSeparate sign ≡ s → 0 < placesOf sign w
+          → cond s (digitsIn (2 ^ 63) (s && negative) (padded (placesOf sign w) size)) (wholeOf (padded (placesOf sign w) size)) ≡ Of (ltb 0 size && negative) size
+      by true e h = digits-read (2 ^ 63) negative (placesOf sign w) size h (room-below (placesOf sign w) size room) b
+      by false e h = whole-read (placesOf sign w) size h (room-below (placesOf sign w) size room) b ∙ ap (λ (n : Bool). Of (ltb 0 size && n) size) (sym (keeps e))
+
+  pub decimal-back : size < limit → decimalOf sign (map (fromPage page) (map (ontoPage page) (intBytes w negative size sign))) ≡ Of (ltb 0 size && negative) size
+  unfolding decimalOf
+  decimal-back b =
+      let t = intBytes w negative size sign in
+      let r = parts w negative size sign in
+      let d = placesOf sign w in
+      rw (bytes, trimmed-inked t (inked-bytes w negative size sign), r .rest, r .minus, kept-minus, kept-read d size (room-below d size room) b)
+
+-- ---- a Display field's number and an Int field's fit alike, but for the precision
+
+pub decimal-fits : (w precision : ℕ) (negative : Bool) (size sign : ℕ) → decimalFits w precision negative size sign ≡ true → intFits w negative size (hasSign sign) sign ≡ true
+unfolding decimalFits
+decimal-fits w precision negative size sign h = and-right (leb precision w) (intFits w negative size (hasSign sign) sign) h
+
+pub fits-decimal : (w precision : ℕ) (negative : Bool) (size sign : ℕ) → precision ≤ w → intFits w negative size (hasSign sign) sign ≡ true → decimalFits w precision negative size sign ≡ true
+unfolding decimalFits
+fits-decimal w precision negative size sign p h = rw (le-leb precision w p) h

@@ -1,0 +1,4 @@
+pub mod Reading
+pub mod Signs
+pub mod Writing
+pub mod Back

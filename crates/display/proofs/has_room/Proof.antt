@@ -1,0 +1,29 @@
+use mathlib.Core.Path.{_≡_, refl, sym, ap, _∙_, subst}
+use mathlib.Core.Bool.{Bool, true, false}
+use mathlib.Core.Logic.{⊎-elim}
+use mathlib.Core.List.{List, [], _∷_, _++_, map, append-nil, append-assoc}
+use Prim.Native.Nat.{ℕ, zero, suc, _+_, _-_, _*_, _≤_, _<_}
+use native.Mathlib.Omega.{arith}
+use native.Mathlib.Numerals.{add-one}
+use borrow.Author.Tests.{lt-ltb, le-ltb, le-leb, lt-leb, eq-eqb, ne-eqb, eqb-true, eqb-false, ltb-true, ltb-false, leb-true, leb-false}
+use lib.Dec.{eqb, leb, ltb}
+use lib.ListN.{length, take, drop, getD, set, replicate, length-set, length-append, length-take, length-drop, length-replicate, length-map}
+use Rattle.display.proofs.Writing.{room-none, room-ample, room-is}
+use borrow.Author.Needs.{needs}
+use Rattle.display.proofs.has_room.Statement.{statement}
+use Rattle.display.proofs.has_room.Tie as tie
+
+returns : tie.Need-returns
+returns c = sym (room-none (c .before .args .places) (c .before .args .size) (c .if1 .taken))
+
+returns-2 : tie.Need-returns-2
+returns-2 c = sym (room-ample (c .before .before .args .places) (c .before .before .args .size) (c .if2 .taken) (omega arith))
+
+ten-to-requires : tie.Need-ten-to-requires
+ten-to-requires c κs = search needs
+
+returns-3 : tie.Need-returns-3
+returns-3 c = room-is (c .before .before .before .args .places) (c .before .before .before .args .size) (c .ten-to .result) (omega arith) (c .before .if2 .left) (c .ten-to .ensures)
+
+pub has-room-spec : {M : Type 1} → statement M
+has-room-spec = tie.close (tie.spec returns returns-2 ten-to-requires returns-3)

@@ -1,0 +1,67 @@
+use mathlib.Core.Path.{_≡_, refl, sym, ap, _∙_, subst}
+use mathlib.Core.Bool.{Bool, true, false}
+use mathlib.Core.Logic.{⊎-elim}
+use mathlib.Core.List.{List, [], _∷_, _++_, map, append-nil, append-assoc}
+use Prim.Native.Nat.{ℕ, zero, suc, _+_, _-_, _*_, _≤_, _<_}
+use native.Mathlib.Omega.{arith}
+use native.Mathlib.Numerals.{add-one}
+use borrow.Author.Tests.{lt-ltb, le-ltb, le-leb, lt-leb, eq-eqb, ne-eqb, eqb-true, eqb-false, ltb-true, ltb-false, leb-true, leb-false}
+use lib.Dec.{eqb, leb, ltb}
+use lib.ListN.{length, take, drop, getD, set, replicate, length-set, length-append, length-take, length-drop, length-replicate, length-map}
+use Rattle.ebcdic.specs.Ebcdic.{fromPage}
+use Rattle.display.specs.Display.{isSign}
+use Rattle.display.proofs.Signs.{int-empty, int-taken, int-plain}
+use borrow.Author.Needs.{needs}
+use Rattle.display.proofs.parse_display_int.Statement.{statement}
+use Rattle.display.proofs.parse_display_int.Tie as tie
+
+trim-requires : tie.Need-trim-requires
+trim-requires c κs = search needs
+
+sign-at-requires : tie.Need-sign-at-requires
+sign-at-requires c κs = search needs
+
+strip-separate-sign-requires : tie.Need-strip-separate-sign-requires
+strip-separate-sign-requires c κs = search needs
+
+trim-requires-2 : tie.Need-trim-requires-2
+trim-requires-2 c κs = search needs
+
+returns : tie.Need-returns
+returns c =
+    let a = c .before .before .before .before .before .before .args in
+    int-empty (fromPage (a .page)) (a .sign) (a .part .now) (c .before .before .before .before .trim .result .now) (c .before .before .strip-separate-sign .result .now) (c .before .before .before .before .trim .ensures) (c .before .before .strip-separate-sign .ensures) (c .before .trim2 .result .now) (c .before .trim2 .ensures) (c .if1 .taken)
+
+is-sign-requires : tie.Need-is-sign-requires
+is-sign-requires c κs = search needs
+
+digits-in-requires : tie.Need-digits-in-requires
+digits-in-requires c κs = search needs
+
+returns-2 : tie.Need-returns-2
+returns-2 c =
+    let a = c .before .before .before .before .before .before .before .before .before .args in
+    c .digits-in .ensures ∙ rw (c .before .before .before .before .before .before .sign-at .ensures) (int-taken (fromPage (a .page)) (a .sign) (a .part .now) (c .before .before .before .before .before .before .before .trim .result .now) (c .before .before .before .before .before .strip-separate-sign .result .now) (c .before .before .before .before .before .before .before .trim .ensures) (c .before .before .before .before .before .strip-separate-sign .ensures) (c .before .before .before .before .trim2 .result .now) (c .before .before .before .before .trim2 .ensures) (c .before .before .before .if1 .left) (ap isSign (sym (c .before .before .before .before .before .before .sign-at .ensures)) ∙ sym (c .before .before .is-sign .ensures) ∙ c .before .if2 .taken))
+
+whole-of-requires : tie.Need-whole-of-requires
+whole-of-requires c κs = search needs
+
+returns-3 : tie.Need-returns-3
+returns-3 c =
+    let a = c .before .before .before .before .before .before .before .before .before .args in
+    c .whole-of .ensures ∙ int-plain (fromPage (a .page)) (a .sign) (a .part .now) (c .before .before .before .before .before .before .before .trim .result .now) (c .before .before .before .before .before .strip-separate-sign .result .now) (c .before .before .before .before .before .before .before .trim .ensures) (c .before .before .before .before .before .strip-separate-sign .ensures) (c .before .before .before .before .trim2 .result .now) (c .before .before .before .before .trim2 .ensures) (c .before .before .before .if1 .left) (ap isSign (sym (c .before .before .before .before .before .before .sign-at .ensures)) ∙ sym (c .before .before .is-sign .ensures) ∙ c .before .if2 .left)
+
+pub parse-display-int-spec : {M : Type 1} → statement M
+parse-display-int-spec =
+    tie.close
+    (tie.spec
+    trim-requires
+    sign-at-requires
+    strip-separate-sign-requires
+    trim-requires-2
+    returns
+    is-sign-requires
+    digits-in-requires
+    returns-2
+    whole-of-requires
+    returns-3)

@@ -1,0 +1,55 @@
+use mathlib.Core.Path.{_≡_, refl, sym, ap, _∙_, subst}
+use mathlib.Core.Bool.{Bool, true, false}
+use mathlib.Core.Logic.{⊎-elim}
+use mathlib.Core.List.{List, [], _∷_, _++_, map, append-nil, append-assoc}
+use Prim.Native.Nat.{ℕ, zero, suc, _+_, _-_, _*_, _≤_, _<_}
+use native.Mathlib.Omega.{arith}
+use native.Mathlib.Numerals.{add-one}
+use borrow.Author.Tests.{lt-ltb, le-ltb, le-leb, lt-leb, eq-eqb, ne-eqb, eqb-true, eqb-false, ltb-true, ltb-false, leb-true, leb-false}
+use lib.Dec.{eqb, leb, ltb}
+use lib.ListN.{length, take, drop, getD, set, replicate, length-set, length-append, length-take, length-drop, length-replicate, length-map}
+use Rattle.display.proofs.Reading.{trim-is}
+use borrow.Author.Needs.{needs}
+use Rattle.display.proofs.trim.Statement.{statement}
+use Rattle.display.proofs.trim.Tie as tie
+
+blanks-left-requires : tie.Need-blanks-left-requires
+blanks-left-requires c κs = search needs
+
+sub-t : tie.Need-sub-t
+sub-t c = search needs
+
+part-t-start : tie.Need-part-t-start
+part-t-start c = search needs
+
+part-t-end : tie.Need-part-t-end
+part-t-end c = search needs
+
+blanks-right-requires : tie.Need-blanks-right-requires
+blanks-right-requires c κs = search needs
+
+sub-result : tie.Need-sub-result
+sub-result c = search needs
+
+part-result-start : tie.Need-part-result-start
+part-result-start c = search needs
+
+part-result-end : tie.Need-part-result-end
+part-result-end c = search needs
+
+returns : tie.Need-returns
+returns c = trim-is (c .before .before .before .before .before .args .page) (c .before .before .before .before .before .args .part .now) (c .before .before .before .blanks-left .result) (c .before .blanks-right .result) (c .before .before .before .blanks-left .ensures .1) (c .before .blanks-right .ensures .1)
+
+pub trim-spec : {M : Type 1} → statement M
+trim-spec =
+    tie.close
+    (tie.spec
+    blanks-left-requires
+    sub-t
+    part-t-start
+    part-t-end
+    blanks-right-requires
+    sub-result
+    part-result-start
+    part-result-end
+    returns)

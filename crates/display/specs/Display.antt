@@ -1,0 +1,147 @@
+-- What an Int or a Display field of any width says, and the bytes of a number in one. All over bytes as ASCII; sizes below a bound.
+use mathlib.Core.List.{List, [], _∷_, _++_, map}
+use mathlib.Core.Bool.{Bool, true, false, _&&_, _||_, not, cond}
+use Prim.Native.Nat.{ℕ, _+_, _-_, _^_}
+use lib.Dec.{ltb, leb, eqb}
+use lib.ListN.{length, getD, take, drop}
+use Rattle.value.specs.declared.Number.{Number}
+use Rattle.value.specs.declared.Number.the-variants.{Of, Bad, Big}
+use Rattle.value.specs.Digits.{valueOf, digitsOf}
+use Rattle.value.specs.Number.{numberIn, numberOf}
+use Rattle.value.specs.Field.{lastOf}
+use Rattle.value.specs.declared.Scalar.{Scalar}
+use Rattle.value.specs.declared.Scalar.the-variants.{Null, Text, Int, Decimal, Float, FloatBits, Bool as BoolV}
+use Rattle.ebcdic.specs.Ebcdic.{ontoPage}
+use Rattle.lists.specs.Scan.{leftBy, rightBy, keepBy, everyBy}
+
+-- "blanks (0x09-0x0D, 0x20)"
+abbrev pub isBlank : ℕ → Bool
+isBlank x = eqb x 32 || (leb 9 x && leb x 13)
+
+-- "blanks .. trimmed"
+abbrev pub trimmed : List ℕ → List ℕ
+trimmed s = rightBy isBlank (leftBy isBlank s)
+
+abbrev pub isDigit : ℕ → Bool
+isDigit x = leb 48 x && leb x 57
+
+abbrev pub digitIn : ℕ → ℕ
+digitIn x = x - 48
+
+-- "bytes from 0x80 refused in Int, Display, Edited"
+abbrev pub isAscii : ℕ → Bool
+isAscii x = ltb x 128
+
+-- "digits kept, others skipped": the size that the digits among the bytes spell; none spell 0
+unfoldable pub keptOf : List ℕ → Number
+keptOf s = cond (everyBy isAscii s) (numberOf false (valueOf (map digitIn (keepBy isDigit s)))) Bad
+
+-- a number with a sign in front of it; 0 has none
+abbrev pub withSign : Bool → Number → Number
+withSign negative (Of n size) = Of (ltb 0 size && negative) size
+withSign negative Bad = Bad
+withSign negative Big = Big
+
+-- ---- a separate sign. "Sign: 0 Unsigned, 1 Embedded, 2 LeadingSeparate, 3 TrailingSeparate"; any other word is as 0
+
+abbrev pub isSeparate : ℕ → Bool
+isSeparate sign = eqb sign 2 || eqb sign 3
+
+abbrev pub isSign : ℕ → Bool
+isSign x = eqb x 45 || eqb x 43
+
+-- the byte of a trimmed text where a separate sign may stand; 0 where none may
+unfoldable pub signAt : ℕ → List ℕ → ℕ
+signAt sign t = cond (eqb sign 2) (getD t 0 0) (cond (eqb sign 3) (lastOf t) 0)
+
+-- what is left of the text when a separate sign is taken
+unfoldable pub restOf : ℕ → List ℕ → List ℕ
+restOf sign t = cond (isSign (signAt sign t)) (cond (eqb sign 2) (drop 1 t) (take (length t - 1) t)) t
+
+-- ---- reading
+
+-- the number of a text of digits alone: "All bytes are judged before the size"
+unfoldable pub digitsIn : ℕ → Bool → List ℕ → Number
+digitsIn bound negative t = cond (ltb 0 (length t) && everyBy isDigit t) (numberIn bound negative (valueOf (map digitIn t))) Bad
+
+-- "one leading + or - is allowed"; from -2^63 to 2^63 - 1
+unfoldable pub wholeOf : List ℕ → Number
+wholeOf t =
+    cond (eqb (getD t 0 0) 45) (digitsIn (2 ^ 63 + 1) true (drop 1 t))
+    (cond (eqb (getD t 0 0) 43) (digitsIn (2 ^ 63) false (drop 1 t))
+    (digitsIn (2 ^ 63) false t))
+
+-- behind the separate sign: "blanks trimmed; empty is 0; if no sign was taken, one leading + or - is allowed"
+unfoldable pub intIn : ℕ → List ℕ → List ℕ → Number
+intIn sign t u =
+    cond (eqb (length u) 0) (Of false 0)
+    (cond (isSign (signAt sign t)) (digitsIn (2 ^ 63) (eqb (signAt sign t) 45) u)
+    (wholeOf u))
+
+-- "Int: blanks trimmed, separate sign taken, blanks trimmed"
+unfoldable pub intOf : ℕ → List ℕ → Number
+intOf sign s = intIn sign (trimmed s) (trimmed (restOf sign (trimmed s)))
+
+-- "Display (trim and sign as Int) ..: digits kept, others skipped"
+unfoldable pub decimalOf : ℕ → List ℕ → Number
+decimalOf sign s = withSign (eqb (signAt sign (trimmed s)) 45) (keptOf (restOf sign (trimmed s)))
+
+-- "integer text outside 64 bits (13)": a text for a number has no answer but a number and a refusal
+abbrev pub orRefused : Number → Number
+orRefused (Of negative size) = Of negative size
+orRefused Bad = Bad
+orRefused Big = Bad
+
+-- "value of a kind Rust takes there, text for a number an integer": the integer that a scalar stands for; Bad where there is none
+abbrev pub wholeIn : Scalar → List ℕ → Number
+wholeIn Null text = Of false 0
+wholeIn (Text start count) text = orRefused (wholeOf (trimmed text))
+wholeIn (Int negative size) text = Of (ltb 0 size && negative) size
+wholeIn (Decimal negative size scale) text = cond (eqb scale 0) (Of (ltb 0 size && negative) size) Bad
+wholeIn (Float x) text = Bad
+wholeIn (FloatBits w) text = Bad
+wholeIn (BoolV b) text = Bad
+
+-- ---- writing
+
+abbrev pub asciiOf : ℕ → ℕ
+asciiOf d = 48 + d
+
+-- the w low digits of a size
+abbrev pub padded : ℕ → ℕ → List ℕ
+padded w size = map asciiOf (digitsOf w size)
+
+-- a size has no more digits than there are places; 0 has one digit
+abbrev pub roomFor : ℕ → ℕ → Bool
+roomFor places size = ltb 0 places && ltb size (10 ^ places)
+
+abbrev pub signByte : Bool → ℕ
+signByte negative = cond negative 45 43
+
+-- a separate sign takes a byte; without one a minus needs a signed field
+unfoldable pub intFits : ℕ → Bool → ℕ → Bool → ℕ → Bool
+intFits w negative size signed sign = cond (isSeparate sign) (roomFor (w - 1) size) (not (negative && not signed) && roomFor w size)
+
+-- "signed Int without a separate sign and Embedded Display lose the minus"
+unfoldable pub intBytes : ℕ → Bool → ℕ → ℕ → List ℕ
+intBytes w negative size sign =
+    cond (eqb sign 2) (signByte negative ∷ padded (w - 1) size)
+    (cond (eqb sign 3) (padded (w - 1) size ++ (signByte negative ∷ []))
+    (padded w size))
+
+-- the field after writing: the number where it fits, and what it was elsewhere
+unfoldable pub intWritten : ℕ → Bool → ℕ → Bool → ℕ → List ℕ → List ℕ
+intWritten page negative size signed sign part =
+    cond (intFits (length part) negative size signed sign) (map (ontoPage page) (intBytes (length part) negative size sign)) part
+
+-- a sign word with a sign
+abbrev pub hasSign : ℕ → Bool
+hasSign sign = leb 1 sign && leb sign 3
+
+-- "precision at most width"
+unfoldable pub decimalFits : ℕ → ℕ → Bool → ℕ → ℕ → Bool
+decimalFits w precision negative size sign = leb precision w && intFits w negative size (hasSign sign) sign
+
+unfoldable pub decimalWritten : ℕ → ℕ → Bool → ℕ → ℕ → List ℕ → List ℕ
+decimalWritten page precision negative size sign part =
+    cond (decimalFits (length part) precision negative size sign) (map (ontoPage page) (intBytes (length part) negative size sign)) part

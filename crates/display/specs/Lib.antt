@@ -1,0 +1,3 @@
+-- Int and Display fields: numbers as text.
+pub mod Display
+pub mod Examples

@@ -1,0 +1,116 @@
+-- What is written is read back, over any mask and on either page; the bytes that are written; a number that fits is not refused; a size that is read is small.
+use mathlib.Core.Path.{_≡_, refl, sym, _∙_}
+use mathlib.Core.Bool.{Bool, true, false, _&&_, cond}
+use mathlib.Core.List.{List, map}
+use Prim.Native.Nat.{ℕ, _^_, _<_}
+use native.Mathlib.Omega.{arith}
+use lib.Dec.{eqb, ltb}
+use lib.ListN.{length, getD, length-map}
+use borrow.Author.Tests.{lt-ltb, le-ltb, eqb-true}
+use native.Mathlib.Decide.{decLt}
+use Rattle.lists.specs.Scan.{keepBy, everyBy}
+use Rattle.lists.proofs.Scan.{every-true}
+use Rattle.lists.proofs.Lists.{getD-map}
+use Rattle.value.specs.declared.Number.{Number}
+use Rattle.value.specs.declared.Number.the-variants.{Of, Bad, Big}
+use Rattle.value.specs.Digits.{valueOf, limit}
+use Rattle.value.specs.Number.{numberOf}
+use Rattle.ebcdic.specs.Ebcdic.{fromPage, ontoPage}
+use Rattle.ebcdic.proofs.Laws.{bytes-back, onto-byte}
+use Rattle.display.specs.Display.{isAscii, isDigit, digitIn, trimmed, keptOf}
+use Rattle.edited.specs.Edited.{negativeOf, withSign, decodedOf, isLawful, positions, judged, padOf, edited, writtenOf}
+use Rattle.edited.specs.Fits.{Fits, Tells}
+use Rattle.edited.proofs.Marks.{Low, all-at, marks-of, edit-length, edited-low}
+use Rattle.edited.proofs.Back.{edited-spells}
+use Rattle.edited.proofs.Sign.{positive-back, negative-back}
+
+-- ---- the bytes that are written
+
+pub edited-length : (negative : Bool) (size : ℕ) (mask : List ℕ) → length (edited negative size mask) ≡ length mask
+edited-length negative size mask = edit-length negative (padOf mask) size 0 mask true
+
+pub edited-ascii : (negative : Bool) (size : ℕ) (mask : List ℕ) → isLawful mask ≡ true → (k : ℕ) → k < length (edited negative size mask) → getD (edited negative size mask) k 0 < 128
+edited-ascii negative size mask h k b = all-at Low (edited-low negative size (marks-of mask h)) k b
+
+edited-byte : (negative : Bool) (size : ℕ) (mask : List ℕ) → isLawful mask ≡ true → (k : ℕ) → k < length (edited negative size mask) → getD (edited negative size mask) k 0 < 256
+edited-byte negative size mask h k b = let l = edited-ascii negative size mask h k b in omega arith
+
+pub page-length : (page : ℕ) (negative : Bool) (size : ℕ) (mask : List ℕ) → length (map (ontoPage page) (edited negative size mask)) ≡ length mask
+page-length page negative size mask = length-map (edited negative size mask) (ontoPage page) ∙ edited-length negative size mask
+
+pub page-byte : (page : ℕ) (negative : Bool) (size : ℕ) (mask : List ℕ) → isLawful mask ≡ true → (k : ℕ) → k < length mask
+    → getD (map (ontoPage page) (edited negative size mask)) k 0 < 256
+page-byte page negative size mask h k b =
+    let l : k < length (edited negative size mask) = rw (edited-length negative size mask) b in
+    rw (getD-map (ontoPage page) (edited negative size mask) k l) (onto-byte page (getD (edited negative size mask) k 0) (edited-byte negative size mask h k l))
+
+-- ---- a number that fits
+
+module _ (signed negative : Bool) (size : ℕ) (mask : List ℕ) (f : Fits signed negative size mask) where
+  pub fits-judged : judged mask (Of negative size) ≡ 0
+  unfolding judged
+  fits-judged = rw (f .fixed, lt-ltb size limit (f .small), lt-ltb 0 (positions mask) (f .some), lt-ltb size (10 ^ positions mask) (f .enough), f .lawful)
+
+  kept : keptOf (edited negative size mask) ≡ Of (ltb 0 size && false) size
+  unfolding keptOf
+  kept =
+      let l = marks-of mask (f .lawful) in
+      let a : everyBy isAscii (edited negative size mask) ≡ true =
+      every-true isAscii (edited negative size mask) (λ k b. lt-ltb (getD (edited negative size mask) k 0) 128 (edited-ascii negative size mask (f .lawful) k b)) in
+      rw (a, edited-spells negative size l (f .no-zero) (f .enough), lt-ltb size limit (f .small))
+
+  sign : (signed && negativeOf (trimmed (edited negative size mask))) ≡ negative
+  sign = by negative signed (f .has-sign) (f .tells)
+    where
+      by : (n s : Bool) → (n ≡ true → s ≡ true) → (n ≡ true → Tells mask) → (s && negativeOf (trimmed (edited n size mask))) ≡ n
+      by true s hs ht = rw (hs refl) (negative-back size (ht refl))
+      by false true hs ht = positive-back size (marks-of mask (f .lawful))
+      by false false hs ht = refl
+
+  pub round : (page : ℕ) → decodedOf signed (map (fromPage page) (map (ontoPage page) (edited negative size mask))) ≡ Of (ltb 0 size && negative) size
+  unfolding decodedOf
+  round page =
+      rw (bytes-back page (edited negative size mask) (edited-byte negative size mask (f .lawful)))
+      (λ i. withSign (sign i) (kept i))
+
+-- ---- a part keeps its length
+
+pub written-length : (page : ℕ) (mask : List ℕ) (n : Number) (part : List ℕ) → length (writtenOf page mask n part) ≡ length part
+unfolding writtenOf
+written-length page mask (Of negative size) part = by (judged mask (Of negative size))
+  where
+    wide : (b : Bool) → eqb (length part) (length mask) ≡ b
+        → length (cond (eqb (cond b 0 14) 0) (map (ontoPage page) (edited negative size mask)) part) ≡ length part
+    wide true e = page-length page negative size mask ∙ sym (eqb-true (length part) (length mask) e)
+    wide false e = refl
+
+    by : (j : ℕ) → length (cond (eqb (cond (eqb j 0) (cond (eqb (length part) (length mask)) 0 14) j) 0) (map (ontoPage page) (edited negative size mask)) part) ≡ length part
+    by j = at (eqb j 0) refl
+      where
+        at : (t : Bool) → eqb j 0 ≡ t
+            → length (cond (eqb (cond t (cond (eqb (length part) (length mask)) 0 14) j) 0) (map (ontoPage page) (edited negative size mask)) part) ≡ length part
+        at true e = wide (eqb (length part) (length mask)) refl
+        at false e = rw e
+written-length page mask Bad part = refl
+written-length page mask Big part = refl
+
+-- ---- a size that is read is below 10^18
+
+pub decode-small : (signed : Bool) (s : List ℕ) (n : Bool) (w : ℕ) → decodedOf signed s ≡ Of n w → w < limit
+unfolding decodedOf keptOf
+decode-small signed s n w e = by (everyBy isAscii s) (signed && negativeOf (trimmed s)) e
+  where
+    v : ℕ
+    v = valueOf (map digitIn (keepBy isDigit s))
+
+    sized : (b : Bool) → Dec (v < limit) → withSign b (numberOf false v) ≡ Of n w → w < limit
+    sized b (yes h) q =
+        let k : v ≡ w = let f : _≡_ {A = Number} (Of (ltb 0 v && b) v) (Of n w) = rw (lt-ltb v limit h) at q in cc in
+        omega arith
+    sized b (no h) q =
+        let z : _≡_ {A = ℕ} 0 1 = let f : _≡_ {A = Number} Big (Of n w) = rw (le-ltb v limit (omega arith)) at q in cc in
+        absurd (omega arith)
+
+    by : (t b : Bool) → withSign b (cond t (numberOf false v) Bad) ≡ Of n w → w < limit
+    by true b q = sized b (decLt v limit) q
+    by false b q = let z : _≡_ {A = ℕ} 0 1 = let f : _≡_ {A = Number} Bad (Of n w) = q in cc in absurd (omega arith)

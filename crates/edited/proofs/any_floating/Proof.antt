@@ -1,0 +1,42 @@
+use mathlib.Core.Path.{_≡_, refl, sym, ap, _∙_, subst}
+use mathlib.Core.Bool.{Bool, true, false}
+use mathlib.Core.Logic.{⊎-elim}
+use mathlib.Core.List.{List, [], _∷_, _++_, map, append-nil, append-assoc}
+use Prim.Native.Nat.{ℕ, zero, suc, _+_, _-_, _*_, _≤_, _<_}
+use native.Mathlib.Omega.{arith}
+use native.Mathlib.Numerals.{add-one}
+use borrow.Author.Tests.{lt-ltb, le-ltb, le-leb, lt-leb, eq-eqb, ne-eqb, eqb-true, eqb-false, ltb-true, ltb-false, leb-true, leb-false}
+use lib.Dec.{eqb, leb, ltb}
+use lib.ListN.{length, take, drop, getD, set, replicate, length-set, length-append, length-take, length-drop, length-replicate, length-map}
+use borrow.Author.Needs.{needs}
+use Rattle.edited.proofs.any_floating.Statement.{statement}
+use Rattle.edited.proofs.any_floating.Tie as tie
+
+floating-requires : tie.Need-floating-requires
+floating-requires c κs = search needs
+
+returns : tie.Need-returns
+returns c = rw (← (c .before .floating .ensures), c .if1 .taken)
+
+floating-requires-2 : tie.Need-floating-requires-2
+floating-requires-2 c κs = search needs
+
+returns-2 : tie.Need-returns-2
+returns-2 c = rw (← (c .before .before .before .floating .ensures), c .before .before .if1 .left, ← (c .before .floating2 .ensures), c .if2 .taken)
+
+floating-requires-3 : tie.Need-floating-requires-3
+floating-requires-3 c κs = search needs
+
+returns-3 : tie.Need-returns-3
+returns-3 c = rw (← (c .before .before .before .before .floating .ensures), c .before .before .before .if1 .left, ← (c .before .before .floating2 .ensures), c .before .if2 .left) (c .floating3 .ensures)
+
+pub any-floating-spec : {M : Type 1} → statement M
+any-floating-spec =
+    tie.close
+    (tie.spec
+    floating-requires
+    returns
+    floating-requires-2
+    returns-2
+    floating-requires-3
+    returns-3)

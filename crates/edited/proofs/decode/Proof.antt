@@ -1,0 +1,51 @@
+use mathlib.Core.Path.{_≡_, refl, sym, ap, _∙_, subst}
+use mathlib.Core.Bool.{Bool, true, false}
+use mathlib.Core.Logic.{⊎-elim}
+use mathlib.Core.List.{List, [], _∷_, _++_, map, append-nil, append-assoc}
+use Prim.Native.Nat.{ℕ, zero, suc, _+_, _-_, _*_, _≤_, _<_}
+use native.Mathlib.Omega.{arith}
+use native.Mathlib.Numerals.{add-one}
+use borrow.Author.Tests.{lt-ltb, le-ltb, le-leb, lt-leb, eq-eqb, ne-eqb, eqb-true, eqb-false, ltb-true, ltb-false, leb-true, leb-false}
+use lib.Dec.{eqb, leb, ltb}
+use lib.ListN.{length, take, drop, getD, set, replicate, length-set, length-append, length-take, length-drop, length-replicate, length-map}
+use Rattle.edited.specs.Edited.{decodedOf, withSign, negativeOf}
+use borrow.Author.Needs.{needs}
+use Rattle.edited.proofs.decode.Statement.{statement}
+use Rattle.edited.proofs.decode.Tie as tie
+
+kept-digits-requires : tie.Need-kept-digits-requires
+kept-digits-requires c κs = search needs
+
+trim-requires : tie.Need-trim-requires
+trim-requires c κs = search needs
+
+is-negative-requires : tie.Need-is-negative-requires
+is-negative-requires c κs = search needs
+
+with-sign-requires : tie.Need-with-sign-requires
+with-sign-requires c κs = search needs
+
+returns : tie.Need-returns
+unfolding decodedOf
+returns c =
+    rw (c .before .before .before .if1 .taken)
+    (c .with-sign .ensures ∙ (λ i. withSign ((c .before .is-negative .ensures ∙ ap negativeOf (c .before .before .trim .ensures)) i) (c .before .before .before .before .kept-digits .ensures i)))
+
+with-sign-requires-2 : tie.Need-with-sign-requires-2
+with-sign-requires-2 c κs = search needs
+
+returns-2 : tie.Need-returns-2
+unfolding decodedOf
+returns-2 c = rw (c .before .if1 .left) (c .with-sign2 .ensures ∙ ap (withSign false) (c .before .before .kept-digits .ensures))
+
+pub decode-spec : {M : Type 1} → statement M
+decode-spec =
+    tie.close
+    (tie.spec
+    kept-digits-requires
+    trim-requires
+    is-negative-requires
+    with-sign-requires
+    returns
+    with-sign-requires-2
+    returns-2)

@@ -1,0 +1,39 @@
+use mathlib.Core.Path.{_≡_, refl, sym, ap, _∙_, subst}
+use mathlib.Core.Bool.{Bool, true, false}
+use mathlib.Core.Logic.{⊎-elim}
+use mathlib.Core.List.{List, [], _∷_, _++_, map, append-nil, append-assoc}
+use Prim.Native.Nat.{ℕ, zero, suc, _+_, _-_, _*_, _≤_, _<_}
+use native.Mathlib.Omega.{arith}
+use native.Mathlib.Numerals.{add-one}
+use borrow.Author.Tests.{lt-ltb, le-ltb, le-leb, lt-leb, eq-eqb, ne-eqb, eqb-true, eqb-false, ltb-true, ltb-false, leb-true, leb-false}
+use lib.Dec.{eqb, leb, ltb}
+use lib.ListN.{length, take, drop, getD, set, replicate, length-set, length-append, length-take, length-drop, length-replicate, length-map}
+use Prim.Native.Nat.{_/_, _%_, _^_}
+use Rattle.edited.proofs.Turns.{ten-is, digit-past}
+use Rattle.value.proofs.Digits.{pow-pos10}
+use borrow.Author.Needs.{needs}
+use Rattle.edited.proofs.digit_byte.Statement.{statement}
+use Rattle.edited.proofs.digit_byte.Tie as tie
+
+ten-to-requires : tie.Need-ten-to-requires
+ten-to-requires c κs = search needs
+
+div-last-digit : tie.Need-div-last-digit
+div-last-digit c = rw (ten-is _ _ (c .before .if1 .taken) (c .ten-to .ensures)) (pow-pos10 (c .before .before .args .place))
+
+last-digit-requires : tie.Need-last-digit-requires
+last-digit-requires c κs = search needs
+
+add-result : tie.Need-add-result
+add-result c = search needs
+
+returns : tie.Need-returns
+returns c = ap (λ (n : ℕ). n + 48) (c .last-digit .ensures .0 ∙ ap (λ (p : ℕ). c .before .before .before .args .size / p % 10) (ten-is _ _ (c .before .before .if1 .taken) (c .before .ten-to .ensures)))
+
+returns-2 : tie.Need-returns-2
+returns-2 c = digit-past _ _ (c .before .fits .size .fits) (c .if1 .left)
+
+pub digit-byte-spec : {M : Type 1} → statement M
+digit-byte-spec =
+    tie.close
+    (tie.spec ten-to-requires div-last-digit last-digit-requires add-result returns returns-2)

@@ -1,0 +1,54 @@
+use mathlib.Core.Path.{_≡_, refl, sym, ap, _∙_, subst}
+use mathlib.Core.Bool.{Bool, true, false}
+use mathlib.Core.Logic.{⊎-elim}
+use mathlib.Core.List.{List, [], _∷_, _++_, map, append-nil, append-assoc}
+use Prim.Native.Nat.{ℕ, zero, suc, _+_, _-_, _*_, _≤_, _<_}
+use native.Mathlib.Omega.{arith}
+use native.Mathlib.Numerals.{add-one}
+use borrow.Author.Tests.{lt-ltb, le-ltb, le-leb, lt-leb, eq-eqb, ne-eqb, eqb-true, eqb-false, ltb-true, ltb-false, leb-true, leb-false}
+use lib.Dec.{eqb, leb, ltb}
+use lib.ListN.{length, take, drop, getD, set, replicate, length-set, length-append, length-take, length-drop, length-replicate, length-map}
+use Rattle.edited.specs.Edited.{judged}
+use Rattle.value.specs.declared.Number.{Number}
+use borrow.Author.Needs.{needs}
+use Rattle.edited.proofs.judge.Statement.{statement}
+use Rattle.edited.proofs.judge.Tie as tie
+
+enum-known-n : tie.Need-enum-known-n
+enum-known-n c = search needs
+
+judge-size-requires : tie.Need-judge-size-requires
+judge-size-requires c κs = search needs
+
+enum-told : tie.Need-enum-told
+enum-told c = search needs
+
+enum-told-2 : tie.Need-enum-told-2
+enum-told-2 c = search needs
+
+judge-big-requires : tie.Need-judge-big-requires
+judge-big-requires c κs = search needs
+
+returns : tie.Need-returns
+returns c = c .judge-size .ensures ∙ sym (ap (judged (c .before .before .before .before .before .args .mask .now)) (c .before .before .n .given .1))
+
+returns-2 : tie.Need-returns-2
+unfolding judged
+returns-2 c = sym (ap (judged (c .before .before .before .args .mask .now)) (c .enum-told .given .1))
+
+returns-3 : tie.Need-returns-3
+unfolding judged
+returns-3 c = c .judge-big .ensures ∙ sym (ap (judged (c .before .before .before .before .args .mask .now)) (c .before .enum-told2 .given .1))
+
+pub judge-spec : {M : Type 1} → statement M
+judge-spec =
+    tie.close
+    (tie.spec
+    enum-known-n
+    judge-size-requires
+    enum-told
+    enum-told-2
+    judge-big-requires
+    returns
+    returns-2
+    returns-3)

@@ -1,0 +1,33 @@
+use mathlib.Core.Path.{_≡_, refl, sym, ap, _∙_, subst}
+use mathlib.Core.Bool.{Bool, true, false}
+use mathlib.Core.Logic.{⊎-elim}
+use mathlib.Core.List.{List, [], _∷_, _++_, map, append-nil, append-assoc}
+use Prim.Native.Nat.{ℕ, zero, suc, _+_, _-_, _*_, _≤_, _<_}
+use native.Mathlib.Omega.{arith}
+use native.Mathlib.Numerals.{add-one}
+use borrow.Author.Tests.{lt-ltb, le-ltb, le-leb, lt-leb, eq-eqb, ne-eqb, eqb-true, eqb-false, ltb-true, ltb-false, leb-true, leb-false}
+use lib.Dec.{eqb, leb, ltb}
+use lib.ListN.{length, take, drop, getD, set, replicate, length-set, length-append, length-take, length-drop, length-replicate, length-map}
+use borrow.Author.Needs.{needs}
+use Rattle.edited.proofs.left_after.Statement.{statement}
+use Rattle.edited.proofs.left_after.Tie as tie
+
+is-digit-pos-requires : tie.Need-is-digit-pos-requires
+is-digit-pos-requires c κs = search needs
+
+sub-result : tie.Need-sub-result
+sub-result c = search needs
+
+returns : tie.Need-returns
+returns c = rw (← (c .before .before .is-digit-pos .ensures), c .before .if1 .taken)
+
+returns-2 : tie.Need-returns-2
+returns-2 c =
+    let z : c .before .before .before .args .left - 1 ≡ 0 = omega arith in
+    rw (← (c .before .before .is-digit-pos .ensures), c .before .if1 .taken, z)
+
+returns-3 : tie.Need-returns-3
+returns-3 c = rw (← (c .before .is-digit-pos .ensures), c .if1 .left)
+
+pub left-after-spec : {M : Type 1} → statement M
+left-after-spec = tie.close (tie.spec is-digit-pos-requires sub-result returns returns-2 returns-3)

@@ -1,0 +1,4 @@
+-- Edited fields.
+pub mod Edited
+pub mod Fits
+pub mod Examples

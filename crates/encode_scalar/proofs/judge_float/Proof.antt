@@ -1,0 +1,37 @@
+use mathlib.Core.Path.{_≡_, refl, sym, ap, _∙_, subst}
+use mathlib.Core.Bool.{Bool, true, false}
+use mathlib.Core.Logic.{⊎-elim}
+use mathlib.Core.List.{List, [], _∷_, _++_, map, append-nil, append-assoc}
+use Prim.Native.Nat.{ℕ, zero, suc, _+_, _-_, _*_, _≤_, _<_}
+use native.Mathlib.Omega.{arith}
+use native.Mathlib.Numerals.{add-one}
+use borrow.Author.Tests.{lt-ltb, le-ltb, le-leb, lt-leb, eq-eqb, ne-eqb, eqb-true, eqb-false, ltb-true, ltb-false, leb-true, leb-false}
+use lib.Dec.{eqb, leb, ltb}
+use lib.ListN.{length, take, drop, getD, set, replicate, length-set, length-append, length-take, length-drop, length-replicate, length-map}
+use Rattle.encode_scalar.specs.Encode.{floatJudged}
+use borrow.Author.Needs.{needs}
+use Rattle.encode_scalar.proofs.judge_float.Statement.{statement}
+use Rattle.encode_scalar.proofs.judge_float.Tie as tie
+
+enum-known-f : tie.Need-enum-known-f
+enum-known-f c = search needs
+
+field-ok-requires : tie.Need-field-ok-requires
+field-ok-requires c κs = search needs
+
+fitting-requires : tie.Need-fitting-requires
+fitting-requires c κs = search needs
+
+enum-told : tie.Need-enum-told
+enum-told c = search needs
+
+returns : tie.Need-returns
+returns c = c .fitting .ensures ∙ rw (c .before .field-ok .ensures) refl ∙ sym (ap (floatJudged (c .before .before .before .before .before .args .bits) (c .before .before .before .before .before .args .width)) (c .before .before .before .f .given .1))
+
+returns-2 : tie.Need-returns-2
+returns-2 c = search needs
+
+pub judge-float-spec : {M : Type 1} → statement M
+judge-float-spec =
+    tie.close
+    (tie.spec enum-known-f field-ok-requires fitting-requires enum-told returns returns-2)

@@ -1,0 +1,64 @@
+use mathlib.Core.Path.{_≡_, refl, sym, ap, _∙_, subst}
+use mathlib.Core.Bool.{Bool, true, false}
+use mathlib.Core.Logic.{⊎-elim}
+use mathlib.Core.List.{List, [], _∷_, _++_, map, append-nil, append-assoc}
+use Prim.Native.Nat.{ℕ, zero, suc, _+_, _-_, _*_, _≤_, _<_}
+use native.Mathlib.Omega.{arith}
+use native.Mathlib.Numerals.{add-one}
+use borrow.Author.Tests.{lt-ltb, le-ltb, le-leb, lt-leb, eq-eqb, ne-eqb, eqb-true, eqb-false, ltb-true, ltb-false, leb-true, leb-false}
+use lib.Dec.{eqb, leb, ltb}
+use lib.ListN.{length, take, drop, getD, set, replicate, length-set, length-append, length-take, length-drop, length-replicate, length-map}
+use Rattle.ebcdic.specs.Ebcdic.{ontoPage}
+use Rattle.display.specs.Display as Display
+use Rattle.encode_scalar.specs.Encode.{intJudged, intWritten, partAfter}
+use Rattle.encode_scalar.proofs.Parts.{fitted, int-length}
+use borrow.Author.Needs.{needs}
+use Rattle.encode_scalar.proofs.write_int.Statement.{statement}
+use Rattle.encode_scalar.proofs.write_int.Tie as tie
+
+enum-known-n : tie.Need-enum-known-n
+enum-known-n c = search needs
+
+encode-display-int-requires : tie.Need-encode-display-int-requires
+encode-display-int-requires c κs = search needs
+
+fitting-requires : tie.Need-fitting-requires
+fitting-requires c κs = search needs
+
+enum-told : tie.Need-enum-told
+enum-told c = search needs
+
+enum-told-2 : tie.Need-enum-told-2
+enum-told-2 c = search needs
+
+same-length : tie.Need-same-length
+same-length c = search needs
+
+returns : tie.Need-returns
+unfolding Display.intWritten
+returns c =
+    let a = c .before .before .before .before .before .before .before .before .before .args in
+    let g = c .before .before .before .before .before .before .n .given in
+    let w = length (a .part .now) in
+    let f = Display.intFits w (g .0 .0) (g .0 .1 .0) (a .signed) (a .sign) in
+    rw (g .1) (c .fitting .ensures ∙ rw (c .before .before .before .encode-display-int .ensures .0) refl, fitted f (map (ontoPage (a .page)) (Display.intBytes w (g .0 .0) (g .0 .1 .0) (a .sign))) (a .part .now) (c .before .before .before .encode-display-int .last .0) (c .before .before .before .encode-display-int .ensures .1) (int-length (a .page) w (g .0 .0) (g .0 .1 .0) (a .signed) (a .sign)))
+
+returns-2 : tie.Need-returns-2
+returns-2 c = rw (c .enum-told .given .1) (refl, refl)
+
+returns-3 : tie.Need-returns-3
+returns-3 c = rw (c .enum-told2 .given .1) (refl, refl)
+
+pub write-int-spec : {M : Type 1} → statement M
+write-int-spec =
+    tie.close
+    (tie.spec
+    enum-known-n
+    encode-display-int-requires
+    fitting-requires
+    enum-told
+    enum-told-2
+    same-length
+    returns
+    returns-2
+    returns-3)

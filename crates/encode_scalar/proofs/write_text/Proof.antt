@@ -1,0 +1,27 @@
+use mathlib.Core.Path.{_≡_, refl, sym, ap, _∙_, subst}
+use mathlib.Core.Bool.{Bool, true, false}
+use mathlib.Core.Logic.{⊎-elim}
+use mathlib.Core.List.{List, [], _∷_, _++_, map, append-nil, append-assoc}
+use Prim.Native.Nat.{ℕ, zero, suc, _+_, _-_, _*_, _≤_, _<_}
+use native.Mathlib.Omega.{arith}
+use native.Mathlib.Numerals.{add-one}
+use borrow.Author.Tests.{lt-ltb, le-ltb, le-leb, lt-leb, eq-eqb, ne-eqb, eqb-true, eqb-false, ltb-true, ltb-false, leb-true, leb-false}
+use lib.Dec.{eqb, leb, ltb}
+use lib.ListN.{length, take, drop, getD, set, replicate, length-set, length-append, length-take, length-drop, length-replicate, length-map}
+use Rattle.text.specs.Shown.{textIn}
+use Rattle.encode_scalar.proofs.Parts.{text-part}
+use borrow.Author.Needs.{needs}
+use Rattle.encode_scalar.proofs.write_text.Statement.{statement}
+use Rattle.encode_scalar.proofs.write_text.Tie as tie
+
+encode-text-requires : tie.Need-encode-text-requires
+encode-text-requires c κs = search needs
+
+same-length : tie.Need-same-length
+same-length c = search needs
+
+returns : tie.Need-returns
+returns c = (c .before .before .encode-text .ensures .0, text-part (c .before .before .before .before .before .before .args .page) (c .before .before .before .before .before .before .args .right) (c .before .before .before .before .before .before .args .pad) (c .before .before .before .before .before .before .args .part .now) _ (textIn (c .before .before .before .before .before .before .args .v) (c .before .before .before .before .before .before .args .text .now)) (c .before .before .encode-text .ensures .1))
+
+pub write-text-spec : {M : Type 1} → statement M
+write-text-spec = tie.close (tie.spec encode-text-requires same-length returns)

@@ -1,0 +1,163 @@
+-- What writing a value into a scalar field asks and gives, by the field's kind and its words p, q, r, s; w is its width.
+use mathlib.Core.List.{List, [], _∷_, _++_, map}
+use mathlib.Core.Bool.{Bool, true, false, not, _&&_, cond}
+use Prim.Native.Nat.{ℕ, _%_}
+use lib.Dec.{eqb, leb}
+use lib.ListN.{length, drop}
+use Rattle.value.specs.declared.Number.{Number}
+use Rattle.value.specs.declared.Number.the-variants.{Of, Bad, Big}
+use Rattle.value.specs.declared.Scalar.{Scalar}
+use Rattle.value.specs.declared.Scalar.the-variants.{Null, Text, Int, Decimal, Float as FloatV, FloatBits, Bool as BoolV}
+use Rattle.value.specs.Scalar.{scalarOf}
+use Rattle.ebcdic.specs.Ebcdic.{ontoPage}
+use Rattle.text.specs.Text.{written, padded, front}
+use Rattle.text.specs.Shown.{Shows, shows, none, textIn, refusalAt}
+use Rattle.display.specs.Display.{wholeIn, intFits, intBytes, decimalFits}
+use Rattle.binary.specs.Binary.{widthOk, integerBytes}
+use Rattle.float.specs.declared.Floated.{Floated}
+use Rattle.float.specs.declared.Floated.the-variants.{Word, Refused as Unfloated}
+use Rattle.float.specs.Convert.{floatedOf, decimalFor}
+use Rattle.float.specs.Field.{fieldOk, floatBytes}
+use Rattle.hex.specs.Hex as Hex
+use Rattle.packed.specs.Packed as Packed
+use Rattle.zoned.specs.Zoned as Zoned
+use Rattle.edited.specs.Edited as Edited
+use Rattle.decode_scalar.specs.Decode.{flag}
+
+-- ---- Text
+
+abbrev pub textBytes : ℕ → Bool → ℕ → ℕ → Shows → List ℕ
+textBytes page right pad w (shows t) = written page right pad w t
+textBytes page right pad w none = []
+
+-- ---- Int and Binary: the integer that a value stands for
+
+abbrev pub intJudged : ℕ → Bool → ℕ → Number → ℕ
+intJudged w signed sign (Of negative size) = cond (intFits w negative size signed sign) 0 14
+intJudged w signed sign Bad = 13
+intJudged w signed sign Big = 13
+
+abbrev pub intWritten : ℕ → ℕ → ℕ → Number → List ℕ
+intWritten page w sign (Of negative size) = map (ontoPage page) (intBytes w negative size sign)
+intWritten page w sign Bad = []
+intWritten page w sign Big = []
+
+abbrev pub binaryJudged : ℕ → Number → ℕ
+binaryJudged w (Of negative size) = cond (widthOk w) 0 14
+binaryJudged w Bad = 13
+binaryJudged w Big = 13
+
+abbrev pub binaryWritten : ℕ → ℕ → Number → List ℕ
+binaryWritten order w (Of negative size) = integerBytes order w negative size
+binaryWritten order w Bad = []
+binaryWritten order w Big = []
+
+-- ---- Float
+
+abbrev pub floatJudged : ℕ → ℕ → Floated → ℕ
+floatJudged bits w (Word x) = cond (fieldOk bits w) 0 14
+floatJudged bits w Unfloated = 13
+
+abbrev pub floatWritten : ℕ → ℕ → ℕ → Floated → List ℕ
+floatWritten order bits w (Word x) = floatBytes order bits w x
+floatWritten order bits w Unfloated = []
+
+-- ---- Hex takes a Text, and Null as an empty one
+
+abbrev pub hexText : Scalar → List ℕ → Shows
+hexText Null text = shows []
+hexText (Text start count) text = shows text
+hexText (Int negative size) text = none
+hexText (Decimal negative size scale) text = none
+hexText (FloatV x) text = none
+hexText (FloatBits x) text = none
+hexText (BoolV b) text = none
+
+abbrev pub hexJudged : ℕ → Shows → ℕ
+hexJudged w (shows t) = Hex.judgedOf w t
+hexJudged w none = 13
+
+abbrev pub hexWritten : ℕ → ℕ → Shows → List ℕ
+hexWritten order w (shows t) = Hex.bytesOf order w t
+hexWritten order w none = []
+
+-- ---- Bool: "sets one byte"; only Bool 1 and Int 1 write 1
+
+abbrev pub boolIn : Scalar → Bool
+boolIn Null = false
+boolIn (Text start count) = false
+boolIn (Int negative size) = not negative && eqb size 1
+boolIn (Decimal negative size scale) = false
+boolIn (FloatV x) = false
+boolIn (FloatBits x) = false
+boolIn (BoolV b) = b
+
+-- ---- Decimal: "p 0 Display 1 Comp3 2 Zoned, q sign, r scale, s precision"
+
+abbrev pub decimalFit : ℕ → ℕ → ℕ → ℕ → Bool → ℕ → Bool
+decimalFit p q s w negative size =
+    cond (eqb p 0) (decimalFits w s negative size q) (cond (eqb p 1) (Packed.fitsOf w size) (Zoned.fitsOf w size))
+
+abbrev pub decimalJudged : ℕ → ℕ → ℕ → ℕ → Number → ℕ
+decimalJudged p q s w (Of negative size) = cond (decimalFit p q s w negative size) 0 14
+decimalJudged p q s w Bad = 13
+decimalJudged p q s w Big = 14
+
+abbrev pub decimalWritten : ℕ → ℕ → ℕ → ℕ → Number → List ℕ
+decimalWritten p q page w (Of negative size) =
+    cond (eqb p 0) (map (ontoPage page) (intBytes w negative size q))
+    (cond (eqb p 1) (Packed.encodedOf w negative size (flag q))
+    (map (ontoPage page) (Zoned.encodedOf w negative size (flag q))))
+decimalWritten p q page w Bad = []
+decimalWritten p q page w Big = []
+
+-- ---- Edited
+
+abbrev pub editedWritten : ℕ → List ℕ → Number → List ℕ
+editedWritten page mask (Of negative size) = map (ontoPage page) (Edited.edited negative size mask)
+editedWritten page mask Bad = []
+editedWritten page mask Big = []
+
+-- ---- all kinds
+
+-- the kinds that take a number, and Hex: the number that refuses the value at this width, 0 for none
+unfoldable pub numberJudged : ℕ → ℕ → ℕ → ℕ → ℕ → List ℕ → ℕ → Scalar → List ℕ → ℕ
+numberJudged kind p q r s mask w v text =
+    cond (eqb kind 1) (intJudged w (flag p) q (wholeIn v text))
+    (cond (eqb kind 2) (binaryJudged w (wholeIn v text))
+    (cond (eqb kind 3) (floatJudged q w (floatedOf v))
+    (cond (eqb kind 4) (hexJudged w (hexText v text))
+    (cond (eqb kind 7) (decimalJudged p q s w (decimalFor v r))
+    (cond (eqb kind 8) (Edited.answerOf w mask (decimalFor v r))
+    0)))))
+
+unfoldable pub numberBytes : ℕ → ℕ → ℕ → ℕ → List ℕ → ℕ → ℕ → Scalar → List ℕ → List ℕ
+numberBytes kind p q r mask page w v text =
+    cond (eqb kind 1) (intWritten page w q (wholeIn v text))
+    (cond (eqb kind 2) (binaryWritten p w (wholeIn v text))
+    (cond (eqb kind 3) (floatWritten p q w (floatedOf v))
+    (cond (eqb kind 4) (hexWritten p w (hexText v text))
+    (cond (eqb kind 7) (decimalWritten p q page w (decimalFor v r))
+    (cond (eqb kind 8) (editedWritten page mask (decimalFor v r))
+    [])))))
+
+-- "per field: value of a kind Rust takes there .. ? 13. Mask without a repeated $, + or -? 15. Value fits .. ? 14. Mask characters lawful? 15."
+-- A List or Struct (tags 6 and 7) is refused by 13, but a Text, a Bool and a Pad take it as they take Null
+unfoldable pub judgedOf : ℕ → ℕ → ℕ → ℕ → ℕ → List ℕ → ℕ → ℕ → Scalar → List ℕ → ℕ
+judgedOf kind p q r s mask w tag v text =
+    cond (eqb kind 0) (refusalAt w (textIn v text))
+    (cond (eqb kind 5) 0
+    (cond (eqb kind 6) 0
+    (cond (leb 6 tag) 13 (numberJudged kind p q r s mask w v text))))
+
+-- the bytes that are written: one for a Bool, and for all others as many as the field has
+unfoldable pub bytesOf : ℕ → ℕ → ℕ → ℕ → List ℕ → ℕ → ℕ → Scalar → List ℕ → List ℕ
+bytesOf kind p q r mask page w v text =
+    cond (eqb kind 0) (textBytes page (flag p) (r % 256) w (textIn v text))
+    (cond (eqb kind 5) (cond (boolIn v) 1 0 ∷ [])
+    (cond (eqb kind 6) (padded page (r % 256) w)
+    (numberBytes kind p q r mask page w v text)))
+
+-- the part after writing: the bytes at its front, or, refused, the part as it was
+abbrev pub partAfter : ℕ → List ℕ → List ℕ → List ℕ
+partAfter refusal bytes part = cond (eqb refusal 0) (cond (leb (length bytes) (length part)) (front bytes part) part) part

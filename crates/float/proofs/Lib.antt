@@ -1,0 +1,9 @@
+pub mod Values
+pub mod Powers
+pub mod Fields
+pub mod Rule
+pub mod Rounding
+pub mod Patterns
+pub mod Narrow
+pub mod Bytes
+pub mod Back

@@ -1,0 +1,430 @@
+// Floating-point fields: binary16, binary32 and binary64 read and written, and floats as decimals.
+
+use value::Number;
+use value::Scalar;
+ghost use mathlib.Core.Path.{_≡_};
+ghost use Prim.Native.Nat.{_+_, _-_, _*_, _/_, _%_, _^_, _<_};
+ghost use mathlib.Core.Bool.{true, false, cond};
+ghost use lib.IntN.{pos};
+ghost use lib.Dec.{ltb};
+ghost use lib.Ieee as Ieee;
+ghost use lib.Ieee.{binary32, binary64};
+ghost use lib.Ieee.Exact.{HasValue};
+ghost use lib.Ieee.Nearest.{closest};
+ghost use Rattle.value.specs.Digits.{capped, signedOf};
+ghost use Rattle.value.specs.Rounding.{rounded, floatRule};
+ghost use Rattle.float.specs.declared.Floated.the-variants.{Word, Refused};
+ghost use Rattle.float.specs.Half.{sig, halfWord};
+ghost use Rattle.float.specs.Single.{singleWord, singleSize, wideWord, cutSize, cutWord};
+ghost use Rattle.float.specs.Decimal.{toDecimal, ofDecimal};
+ghost use Rattle.float.specs.Convert.{floatedOf, decimalFor};
+ghost use Rattle.float.specs.Field.{fieldOk, wordFor, patternFor, floatIn, floatBytes};
+ghost use lib.ListN.{length};
+
+// The f64 word of a value, where it has one.
+pub enum Floated {
+    Word(u64),
+    Refused,
+}
+
+// What reading a Float field answers.
+pub enum Parsed {
+    Value(Scalar),
+    Bad,
+}
+
+// ---- binary16 and binary32, read
+
+// 2^(e - 25) at e, and at 0 as at 1.
+const POWERS: [f64; 31] = [
+    0.000000059604644775390625,
+    0.000000059604644775390625,
+    0.00000011920928955078125,
+    0.0000002384185791015625,
+    0.000000476837158203125,
+    0.00000095367431640625,
+    0.0000019073486328125,
+    0.000003814697265625,
+    0.00000762939453125,
+    0.0000152587890625,
+    0.000030517578125,
+    0.00006103515625,
+    0.0001220703125,
+    0.000244140625,
+    0.00048828125,
+    0.0009765625,
+    0.001953125,
+    0.00390625,
+    0.0078125,
+    0.015625,
+    0.03125,
+    0.0625,
+    0.125,
+    0.25,
+    0.5,
+    1.0,
+    2.0,
+    4.0,
+    8.0,
+    16.0,
+    32.0,
+];
+
+// m * 2^(e - 25), and for e = 0 what it is for e = 1, in one multiplication that rounds nothing.
+fn scaled(m: u64, e: usize) -> f64
+    requires { ⌜ (m < 2048) × (e < 31) ⌝ }
+    ensures { λ r. ⌜ HasValue r false (m * 2 ^ (e - 1)) (2 ^ 24) ⌝ }
+{
+    (m as f64) * POWERS[e]
+}
+
+// The significand: the digits t, with a leading one of the weight h unless the exponent's field is 0.
+fn significand(h: u64, e: u64, t: u64) -> u64
+    requires { ⌜ (t < h) × (h < 2 ^ 62) ⌝ }
+    ensures { λ r. ⌜ r ≡ sig h e t ⌝ }
+{
+    if e == 0 { t } else { h + t }
+}
+
+// The f64 pattern of the binary16 pattern h.
+fn half_word(h: u64) -> u64
+    requires { ⌜ h < 65536 ⌝ }
+    ensures { λ r. ⌜ r ≡ halfWord h ⌝ }
+{
+    let e = h % 32768 / 1024;
+    let t = h % 1024;
+    if e == 31 {
+        if t == 0 {
+            if h < 32768 {
+                0x7FF0_0000_0000_0000
+            } else {
+                0xFFF0_0000_0000_0000
+            }
+        } else {
+            0x7FF8_0000_0000_0000
+        }
+    } else {
+        let x = scaled(significand(1024, e, t), e as usize);
+        if h < 32768 {
+            f64::to_bits(x)
+        } else {
+            f64::to_bits(-x)
+        }
+    }
+}
+
+// A binary32 pattern as an f64's word.
+fn wide_word(v: u64) -> u64
+    requires { ⌜ v < 2 ^ 32 ⌝ }
+    ensures { λ r. ⌜ r ≡ wideWord v ⌝ }
+{
+    if v % 0x8000_0000 > 0x7F80_0000 {
+        return 0x7FF8_0000_0000_0000;
+    }
+    f64::to_bits(f32::from_bits(v as u32) as f64)
+}
+
+// ---- binary32 and binary16, written
+
+// m / 2^k to the nearest whole number, a tie to the even one.
+fn nearest_even(m: u64, k: u64) -> u64
+    requires { ⌜ m < 2 ^ 53 ⌝ }
+    ensures { λ r. ⌜ r ≡ closest m (2 ^ k) ⌝ }
+{
+    if k > 60 {
+        return 0;
+    }
+    let u = 1 << k;
+    let q = m / u;
+    let r = m % u * 2;
+    if r < u {
+        q
+    } else if r == u {
+        q + q % 2
+    } else {
+        q + 1
+    }
+}
+
+// The binary32 pattern of the size of a finite f64, from the exponent's field and the digits.
+fn single_size(x: u64, t: u64) -> u64
+    requires { ⌜ t < 2 ^ 52 ⌝ }
+    ensures { λ r. ⌜ r ≡ singleSize x t ⌝ }
+{
+    let m = significand(0x10_0000_0000_0000, x, t);
+    if x == 0 {
+        return nearest_even(m, 925);
+    }
+    if x < 897 {
+        return nearest_even(m, 926 - x);
+    }
+    let k = x - 897;
+    if k > 253 {
+        0x7F80_0000
+    } else {
+        k * 8388608 + nearest_even(m, 29)
+    }
+}
+
+// The binary32 pattern of an f64's word, rounded.
+fn single_word(w: u64) -> u64
+    ensures { λ r. ⌜ r ≡ singleWord w ⌝ }
+{
+    let x = w % 0x8000_0000_0000_0000 / 0x10_0000_0000_0000;
+    let t = w % 0x10_0000_0000_0000;
+    if x == 2047 {
+        if t == 0 {
+            if w < 0x8000_0000_0000_0000 {
+                0x7F80_0000
+            } else {
+                0xFF80_0000
+            }
+        } else {
+            0x7FC0_0000
+        }
+    } else {
+        let a = single_size(x, t);
+        if w < 0x8000_0000_0000_0000 {
+            a
+        } else {
+            0x8000_0000 + a
+        }
+    }
+}
+
+// A binary32 pattern's fields, cut to a binary16 size.
+fn cut_size(e: u64, t: u64) -> u64
+    requires { ⌜ (e < 256) × (t < 2 ^ 23) ⌝ }
+    ensures { λ r. ⌜ (r ≡ cutSize e t) × (r < 32768) ⌝ }
+{
+    if e < 113 {
+        0
+    } else if e < 143 {
+        (e - 112) * 1024 + t / 8192
+    } else {
+        31744
+    }
+}
+
+// The binary16 pattern of an f64's word: at binary32, and cut.
+fn cut_word(w: u64) -> u64
+    ensures { λ r. ⌜ r ≡ cutWord w ⌝ }
+{
+    let v = single_word(w);
+    let a = cut_size(v % 0x8000_0000 / 8388608, v % 8388608);
+    if w < 0x8000_0000_0000_0000 {
+        a
+    } else {
+        32768 + a
+    }
+}
+
+// ---- decimals
+
+const TENS: [f64; 19] = [
+    1.0,
+    10.0,
+    100.0,
+    1000.0,
+    10000.0,
+    100000.0,
+    1000000.0,
+    10000000.0,
+    100000000.0,
+    1000000000.0,
+    10000000000.0,
+    100000000000.0,
+    1000000000000.0,
+    10000000000000.0,
+    100000000000000.0,
+    1000000000000000.0,
+    10000000000000000.0,
+    100000000000000000.0,
+    1000000000000000000.0,
+];
+
+fn ten(k: u64) -> f64
+    requires { ⌜ k < 19 ⌝ }
+    ensures { λ r. ⌜ r ≡ Ieee.ofInt binary64 (pos (10 ^ k)) ⌝ }
+{
+    let i = k as usize;
+    TENS[i]
+}
+
+// m / 2^k to the nearest whole number, a half away from zero.
+fn round_half_away(m: u64, k: u64) -> u64
+    requires { ⌜ m < 2 ^ 53 ⌝ }
+    ensures { λ r. ⌜ r ≡ rounded floatRule m (2 ^ k) ⌝ }
+{
+    if k > 60 {
+        return 0;
+    }
+    (2 * m + (1 << k)) >> (k + 1)
+}
+
+// The size of a finite f64 with the exponent's field x and the digits t, as a whole number that stops counting at 10^18.
+fn whole_size(x: u64, t: u64) -> u64
+    requires { ⌜ t < 2 ^ 52 ⌝ }
+    ensures { λ r. ⌜ r ≡ capped (rounded floatRule (sig (2 ^ 52) x t * 2 ^ (x - 1)) (2 ^ 1074)) ⌝ }
+{
+    let m = significand(0x10_0000_0000_0000, x, t);
+    if x == 0 {
+        return round_half_away(m, 1074);
+    }
+    if x < 1075 {
+        return round_half_away(m, 1075 - x);
+    }
+    let k = x - 1075;
+    if k > 10 {
+        return 1000000000000000000;
+    }
+    let n = m << k;
+    if n < 1000000000000000000 {
+        return n;
+    }
+    1000000000000000000
+}
+
+// x * 10^scale as a whole number.
+pub fn to_decimal(x: f64, scale: u64) -> Number
+    ensures { λ r. ⌜ r ≡ toDecimal x scale ⌝ }
+{
+    if scale > 18 {
+        return Number::Bad;
+    }
+    let y = x * ten(scale);
+    if y != y {
+        return Number::Bad;
+    }
+    let b = f64::to_bits(y);
+    let e = b % 0x8000_0000_0000_0000 / 0x10_0000_0000_0000;
+    let t = b % 0x10_0000_0000_0000;
+    if e == 2047 {
+        return Number::Big;
+    }
+    value::number_of(value::is_minus(b), whole_size(e, t))
+}
+
+// The f64 nearest to a sign and a size; 0 has no sign.
+fn nearest_float(negative: bool, size: u64) -> f64
+    ensures { λ r. ⌜ r ≡ Ieee.ofInt binary64 (signedOf negative size) ⌝ }
+{
+    if size == 0 {
+        return 0.0;
+    }
+    let x = std::num::nearest_u64_to_f64(size);
+    if negative {
+        return -x;
+    }
+    x
+}
+
+// The decimal's integer over 10^scale.
+fn of_decimal(negative: bool, size: u64, scale: u64) -> f64
+    requires { ⌜ scale < 19 ⌝ }
+    ensures { λ r. ⌜ r ≡ ofDecimal negative size scale ⌝ }
+{
+    nearest_float(negative, size) / ten(scale)
+}
+
+// ---- scalars
+
+// The f64 word that a scalar gives a Float field.
+pub fn as_f64(v: Scalar) -> Floated
+    ensures { λ r. ⌜ r ≡ floatedOf v ⌝ }
+{
+    match v {
+        Scalar::Null => Floated::Word(0),
+        Scalar::Text(_, _) => Floated::Refused,
+        Scalar::Int(negative, size) => Floated::Word(value::float_word(nearest_float(
+            negative,
+            size,
+        ))),
+        Scalar::Decimal(negative, size, scale) => decimal_word(negative, size, scale),
+        Scalar::Float(x) => Floated::Word(value::float_word(x)),
+        Scalar::FloatBits(w) => Floated::Word(w),
+        Scalar::Bool(_) => Floated::Refused,
+    }
+}
+
+fn decimal_word(negative: bool, size: u64, scale: u64) -> Floated
+    ensures { λ r. ⌜ r ≡ cond (ltb 18 scale) Refused (Word (Ieee.toBits binary64 (ofDecimal negative size scale))) ⌝ }
+{
+    if scale > 18 {
+        return Floated::Refused;
+    }
+    Floated::Word(value::float_word(of_decimal(negative, size, scale)))
+}
+
+// The number that a scalar gives a Decimal field of a scale.
+pub fn as_decimal(v: Scalar, scale: u64) -> Number
+    ensures { λ r. ⌜ r ≡ decimalFor v scale ⌝ }
+{
+    match v {
+        Scalar::Null => Number::Of(false, 0),
+        Scalar::Text(_, _) => Number::Bad,
+        Scalar::Int(negative, size) => value::rescale(negative, size, 0, scale),
+        Scalar::Decimal(negative, size, from) => value::rescale(negative, size, from, scale),
+        Scalar::Float(x) => to_decimal(x, scale),
+        Scalar::FloatBits(_) => Number::Bad,
+        Scalar::Bool(_) => Number::Bad,
+    }
+}
+
+// ---- fields
+
+// Whether a Float field of a width may have so many bits.
+pub fn field_ok(bits: u32, width: usize) -> bool
+    ensures { λ r. ⌜ r ≡ fieldOk bits width ⌝ }
+{
+    match bits {
+        16 => width == 2,
+        32 => width == 4,
+        64 => width == 8,
+        _ => false,
+    }
+}
+
+fn word_for(bits: u32, v: u64) -> u64
+    requires { ⌜ v < 2 ^ bits ⌝ }
+    ensures { λ r. ⌜ r ≡ wordFor bits v ⌝ }
+{
+    match bits {
+        16 => half_word(v),
+        32 => wide_word(v),
+        _ => v,
+    }
+}
+
+fn pattern_for(bits: u32, w: u64) -> u64
+    ensures { λ r. ⌜ r ≡ patternFor bits w ⌝ }
+{
+    match bits {
+        16 => cut_word(w),
+        32 => single_word(w),
+        _ => w,
+    }
+}
+
+// The value of a Float field.
+pub fn parse_float(part: &[u8], bits: u32, order: u32) -> Parsed
+    ensures { λ r. ⌜ r ≡ floatIn order bits (now (part .entry)) ⌝ }
+{
+    if field_ok(bits, part.len()) {
+        let v = binary::read_word(part, order);
+        return Parsed::Value(value::float_scalar(word_for(bits, v)));
+    }
+    Parsed::Bad
+}
+
+// Writes an f64's word; refuses a width that a Float field can't have, and leaves the part as it was.
+pub fn encode_float(part: &mut [u8], word: u64, bits: u32, order: u32) -> bool
+    ensures { λ r. ⌜ r ≡ fieldOk bits (length (now (part .entry))) ⌝ }
+    ensures { λ _. ⌜ now (part .exit) ≡ cond (fieldOk bits (length (now (part .entry)))) (floatBytes order bits (length (now (part .entry))) word) (now (part .entry)) ⌝ }
+{
+    if field_ok(bits, part.len()) {
+        binary::put_word(part, order, pattern_for(bits, word));
+        return true;
+    }
+    false
+}

@@ -1,0 +1,3 @@
+-- Hex fields.
+pub mod Hex
+pub mod Examples

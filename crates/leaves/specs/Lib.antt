@@ -1,0 +1,2 @@
+-- The leaves as C functions.
+pub mod Leaves

@@ -1,0 +1,109 @@
+use mathlib.Core.Path.{_≡_, refl, sym, ap, _∙_, subst}
+use mathlib.Core.Bool.{Bool, true, false}
+use mathlib.Core.Logic.{⊎-elim}
+use mathlib.Core.List.{List, [], _∷_, _++_, map, append-nil, append-assoc}
+use Prim.Native.Nat.{ℕ, zero, suc, _+_, _-_, _*_, _≤_, _<_}
+use native.Mathlib.Omega.{arith}
+use native.Mathlib.Numerals.{add-one}
+use borrow.Author.Tests.{lt-ltb, le-ltb, le-leb, lt-leb, eq-eqb, ne-eqb, eqb-true, eqb-false, ltb-true, ltb-false, leb-true, leb-false}
+use lib.Dec.{eqb, leb, ltb}
+use lib.ListN.{length, take, drop, getD, set, replicate, length-set, length-append, length-take, length-drop, length-replicate, length-map}
+use Rattle.text.specs.Text.{cut}
+use Rattle.text.proofs.Cuts.{right-part, left-part}
+use borrow.Author.Needs.{needs}
+use Rattle.text.proofs.trimmed.Statement.{statement}
+use Rattle.text.proofs.trimmed.Tie as tie
+
+onto-page-requires : tie.Need-onto-page-requires
+onto-page-requires c κs = search needs
+
+pad-start-requires : tie.Need-pad-start-requires
+pad-start-requires c κs = search needs
+
+sub-t : tie.Need-sub-t
+sub-t c = search needs
+
+part-t-start : tie.Need-part-t-start
+part-t-start c = search needs
+
+part-t-end : tie.Need-part-t-end
+part-t-end c = search needs
+
+zero-at-requires : tie.Need-zero-at-requires
+zero-at-requires c κs = search needs
+
+sub-result : tie.Need-sub-result
+sub-result c = search needs
+
+part-result-start : tie.Need-part-result-start
+part-result-start c = search needs
+
+part-result-end : tie.Need-part-result-end
+part-result-end c = search needs
+
+returns : tie.Need-returns
+returns c =
+    let a = c .before .before .before .before .before .before .before .before .args in
+    rw (c .before .before .before .before .before .before .if1 .taken, c .before .before .before .before .if2 .taken)
+    (right-part (a .page) (a .pad) (omega arith) (a .s .now) (λ k _. omega (arith, c .before .before .before .before .before .before .before .shared-slice-known .given k)) (c .before .before .before .before .before .onto-page .result) (c .before .before .before .pad-start .result) (c .before .zero-at .result)
+    (c .before .before .before .before .before .onto-page .ensures) (c .before .before .before .pad-start .ensures .1) (c .before .zero-at .ensures .1))
+
+pad-end-requires : tie.Need-pad-end-requires
+pad-end-requires c κs = search needs
+
+sub-t-2 : tie.Need-sub-t-2
+sub-t-2 c = search needs
+
+part-t-start-2 : tie.Need-part-t-start-2
+part-t-start-2 c = search needs
+
+part-t-end-2 : tie.Need-part-t-end-2
+part-t-end-2 c = search needs
+
+zero-at-requires-2 : tie.Need-zero-at-requires-2
+zero-at-requires-2 c κs = search needs
+
+sub-result-2 : tie.Need-sub-result-2
+sub-result-2 c = search needs
+
+part-result-start-2 : tie.Need-part-result-start-2
+part-result-start-2 c = search needs
+
+part-result-end-2 : tie.Need-part-result-end-2
+part-result-end-2 c = search needs
+
+returns-2 : tie.Need-returns-2
+returns-2 c =
+    let a = c .before .before .before .before .before .before .before .before .args in
+    rw (c .before .before .before .before .before .before .if1 .taken, c .before .before .before .before .if2 .left)
+    (left-part (a .page) (a .pad) (omega arith) (a .s .now) (λ k _. omega (arith, c .before .before .before .before .before .before .before .shared-slice-known .given k)) (c .before .before .before .before .before .onto-page .result) (c .before .before .before .pad-end .result) (c .before .zero-at2 .result)
+    (c .before .before .before .before .before .onto-page .ensures) (c .before .before .before .pad-end .ensures .1) (c .before .zero-at2 .ensures .1))
+
+returns-3 : tie.Need-returns-3
+unfolding cut
+returns-3 c = rw (c .if1 .left)
+
+pub trimmed-spec : {M : Type 1} → statement M
+trimmed-spec =
+    tie.close
+    (tie.spec
+    onto-page-requires
+    pad-start-requires
+    sub-t
+    part-t-start
+    part-t-end
+    zero-at-requires
+    sub-result
+    part-result-start
+    part-result-end
+    returns
+    pad-end-requires
+    sub-t-2
+    part-t-start-2
+    part-t-end-2
+    zero-at-requires-2
+    sub-result-2
+    part-result-start-2
+    part-result-end-2
+    returns-2
+    returns-3)

@@ -1,0 +1,87 @@
+-- Worked texts, by computation.
+use mathlib.Core.Path.{_≡_, refl}
+use mathlib.Core.List.{[], _∷_}
+use mathlib.Core.Bool.{true, false}
+use Rattle.lists.specs.Scan.{leftBy, rightBy, beforeBy}
+use Rattle.ebcdic.specs.Ebcdic.{fromPage, ontoPage, toAscii, asciiTable, toEbcdic, ebcdicTable}
+use Rattle.text.specs.Text.{cut, readText, written}
+use Rattle.text.specs.Shown.{digitCount, wholeText, intText, decimalText, textIn, refusalAt}
+use Rattle.value.specs.declared.Scalar.the-variants.{Text, Decimal, FloatBits}
+
+-- `AB  ` left-justified
+left-cut : readText 0 false true 32 (65 ∷ 66 ∷ 32 ∷ 32 ∷ []) ≡ 65 ∷ 66 ∷ []
+unfolding cut leftBy rightBy beforeBy fromPage
+left-cut = refl
+
+-- `  A ` right-justified
+right-cut : readText 0 true true 32 (32 ∷ 32 ∷ 65 ∷ 32 ∷ []) ≡ 65 ∷ 32 ∷ []
+unfolding cut leftBy rightBy beforeBy fromPage
+right-cut = refl
+
+-- the pad first, then the 0 byte
+zero-cut : readText 0 false true 32 (65 ∷ 66 ∷ 32 ∷ 0 ∷ 88 ∷ 32 ∷ []) ≡ 65 ∷ 66 ∷ 32 ∷ []
+unfolding cut leftBy rightBy beforeBy fromPage
+zero-cut = refl
+
+untrimmed : readText 0 false false 32 (65 ∷ 0 ∷ 32 ∷ []) ≡ 65 ∷ 0 ∷ 32 ∷ []
+unfolding cut fromPage
+untrimmed = refl
+
+-- `OK` on page 1, pads translated too
+ebcdic-cut : readText 1 false true 32 (0xD6 ∷ 0xD2 ∷ 0x40 ∷ []) ≡ 79 ∷ 75 ∷ []
+unfolding cut leftBy rightBy beforeBy fromPage toAscii asciiTable
+ebcdic-cut = refl
+
+ebcdic-right : written 1 true 32 4 (79 ∷ 75 ∷ []) ≡ 0x40 ∷ 0x40 ∷ 0xD6 ∷ 0xD2 ∷ []
+unfolding written ontoPage toEbcdic ebcdicTable
+ebcdic-right = refl
+
+-- a byte from 0x80, and one as the pad
+high-bytes : readText 0 true true 0xFF (0xFF ∷ 0x80 ∷ 0xFF ∷ []) ≡ 0x80 ∷ 0xFF ∷ []
+unfolding cut leftBy rightBy beforeBy fromPage
+high-bytes = refl
+
+nothing : wholeText 0 ≡ 48 ∷ []
+unfolding digitCount
+nothing = refl
+
+-- `-10`
+minus-ten : intText true 10 ≡ 45 ∷ 49 ∷ 48 ∷ []
+unfolding digitCount
+minus-ten = refl
+
+no-minus-zero : intText true 0 ≡ 48 ∷ []
+unfolding digitCount
+no-minus-zero = refl
+
+-- `-123.45`
+minus-123-45 : decimalText true 12345 2 ≡ 45 ∷ 49 ∷ 50 ∷ 51 ∷ 46 ∷ 52 ∷ 53 ∷ []
+unfolding digitCount decimalText
+minus-123-45 = refl
+
+-- `0.005`
+five-thousandths : decimalText false 5 3 ≡ 48 ∷ 46 ∷ 48 ∷ 48 ∷ 53 ∷ []
+unfolding digitCount decimalText
+five-thousandths = refl
+
+-- `-9223372036854775808`
+least-int : intText true 9223372036854775808
+    ≡ 45 ∷ 57 ∷ 50 ∷ 50 ∷ 51 ∷ 51 ∷ 55 ∷ 50 ∷ 48 ∷ 51 ∷ 54 ∷ 56 ∷ 53 ∷ 52 ∷ 55 ∷ 55 ∷ 53 ∷ 56 ∷ 48 ∷ 56 ∷ []
+unfolding digitCount
+least-int = refl
+
+-- what is refused: a Float, a text that is too long
+float-refused : refusalAt 24 (textIn (FloatBits 0x3FF0000000000000) []) ≡ 13
+float-refused = refl
+
+text-too-long : refusalAt 1 (textIn (Text 0 2) (65 ∷ 66 ∷ [])) ≡ 14
+text-too-long = refl
+
+-- `-1.2` takes four bytes
+decimal-fits : refusalAt 4 (textIn (Decimal true 12 1) []) ≡ 0
+unfolding digitCount decimalText
+decimal-fits = refl
+
+decimal-too-long : refusalAt 3 (textIn (Decimal true 12 1) []) ≡ 14
+unfolding digitCount decimalText
+decimal-too-long = refl

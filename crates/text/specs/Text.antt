@@ -1,0 +1,62 @@
+-- Text fields and Pads: the text of a field's bytes, a field's bytes for a text, and the texts that come back.
+use Prim.Native.Nat.{ℕ, _-_, _≤_, _<_}
+use mathlib.Core.Path.{_≡_}
+use mathlib.Core.Bool.{Bool, false, cond}
+use mathlib.Core.List.{List, _++_, map}
+use lib.ListN.{length, drop, replicate, getD}
+use lib.Dec.{eqb, leb}
+use Rattle.lists.specs.Scan.{leftBy, rightBy, beforeBy}
+use Rattle.ebcdic.specs.Ebcdic.{fromPage, ontoPage}
+use Rattle.text.specs.declared.Put.{Put}
+use Rattle.text.specs.declared.Put.the-variants.{Length, Full}
+
+-- a byte is the byte b
+abbrev pub isByte : ℕ → ℕ → Bool
+isByte b x = eqb x b
+
+-- "pad cut at the unjustified end, then all from the first 0 byte on; neither without trim"
+unfoldable pub cut : Bool → Bool → ℕ → List ℕ → List ℕ
+cut right trim pad s =
+    cond trim (beforeBy (isByte 0) (cond right (leftBy (isByte pad) s) (rightBy (isByte pad) s))) s
+
+-- the text of a field's bytes, which stand on a page
+abbrev pub readText : ℕ → Bool → Bool → ℕ → List ℕ → List ℕ
+readText page right trim pad s = cut right trim pad (map (fromPage page) s)
+
+-- a text at the front of a buffer, the rest of which stays
+abbrev pub front : List ℕ → List ℕ → List ℕ
+front t out = t ++ drop (length t) out
+
+-- a text to the front of a buffer, if it has room; else the buffer stays
+abbrev pub putOf : List ℕ → List ℕ → Put
+putOf t out = cond (leb (length t) (length out)) (Length (length t)) Full
+
+abbrev pub putIn : List ℕ → List ℕ → List ℕ
+putIn t out = cond (leb (length t) (length out)) (front t out) out
+
+-- ---- what is written
+
+-- a text at the left or right of w bytes, pads elsewhere
+abbrev pub justified : Bool → ℕ → ℕ → List ℕ → List ℕ
+justified right pad w t = cond right (replicate (w - length t) pad ++ t) (t ++ replicate (w - length t) pad)
+
+-- each byte of it as it stands on a page
+unfoldable pub written : ℕ → Bool → ℕ → ℕ → List ℕ → List ℕ
+written page right pad w t = map (ontoPage page) (justified right pad w t)
+
+-- a field after a text was written, if it has room; else as it was
+abbrev pub writtenIn : ℕ → Bool → ℕ → List ℕ → List ℕ → List ℕ
+writtenIn page right pad part t = cond (leb (length t) (length part)) (written page right pad (length part) t) part
+
+-- a Pad of w bytes
+abbrev pub padded : ℕ → ℕ → ℕ → List ℕ
+padded page pad w = replicate w (ontoPage page pad)
+
+-- ---- the texts that come back
+-- "Text: length at most width, no 0 byte, no pad byte at its cut end; untrimmed, length equal to width."
+pub record Fits (right trim : Bool) (pad w : ℕ) (t : List ℕ) : Type 0 where
+  pub bytes : (k : ℕ) → k < length t → getD t k 0 < 256
+  pub room : length t ≤ w
+  pub noZero : (k : ℕ) → k < length t → getD t k 0 ≡ 0 → ⊥
+  pub noPad : 0 < length t → getD t (cond right 0 (length t - 1)) 0 ≡ pad → ⊥
+  pub whole : trim ≡ false → length t ≡ w

@@ -1,0 +1,62 @@
+use mathlib.Core.Path.{_≡_, refl, sym, ap, _∙_, subst}
+use mathlib.Core.Bool.{Bool, true, false}
+use mathlib.Core.Logic.{⊎-elim}
+use mathlib.Core.List.{List, [], _∷_, _++_, map, append-nil, append-assoc}
+use Prim.Native.Nat.{ℕ, zero, suc, _+_, _-_, _*_, _≤_, _<_}
+use native.Mathlib.Omega.{arith}
+use native.Mathlib.Numerals.{add-one}
+use borrow.Author.Tests.{lt-ltb, le-ltb, le-leb, lt-leb, eq-eqb, ne-eqb, eqb-true, eqb-false, ltb-true, ltb-false, leb-true, leb-false}
+use lib.Dec.{eqb, leb, ltb}
+use lib.ListN.{length, take, drop, getD, set, replicate, length-set, length-append, length-take, length-drop, length-replicate, length-map}
+use borrow.Author.Needs.{needs}
+use Rattle.vectors.proofs.halves.Statement.{statement}
+use Rattle.vectors.proofs.halves.Tie as tie
+
+abbrev Inv-loop : tie.InvT-loop
+Inv-loop sum₀ h₀ t3 sum h = h ≤ 65536
+
+abbrev μ-loop : tie.MeasureT-loop
+μ-loop sum₀ h₀ t3 sum h = 65536 - h
+
+loop-holds : tie.Need-loop-holds Inv-loop μ-loop
+loop-holds c = search needs
+
+read-half-requires : tie.Need-read-half-requires Inv-loop μ-loop
+read-half-requires c κs = search needs
+
+mixed-requires : tie.Need-mixed-requires Inv-loop μ-loop
+mixed-requires c κs = search needs
+
+add-h : tie.Need-add-h Inv-loop μ-loop
+add-h c = search needs
+
+loop-less : tie.Need-loop-less Inv-loop μ-loop
+loop-less c = search needs
+
+loop-again : tie.Need-loop-again Inv-loop μ-loop
+loop-again c = search needs
+
+slice-aggregate-verdict : tie.Need-slice-aggregate-verdict Inv-loop μ-loop
+slice-aggregate-verdict c = search needs
+
+verdict-requires : tie.Need-verdict-requires Inv-loop μ-loop
+verdict-requires c κs = search needs
+
+returns : tie.Need-returns Inv-loop μ-loop
+returns c = search needs
+
+pub halves-spec : {M : Type 1} → statement M
+halves-spec =
+    tie.close
+    (tie.spec
+    Inv-loop
+    μ-loop
+    loop-holds
+    read-half-requires
+    mixed-requires
+    add-h
+    loop-less
+    loop-again
+    slice-aggregate-verdict
+    verdict-requires
+    returns)

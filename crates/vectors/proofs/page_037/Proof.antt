@@ -1,0 +1,70 @@
+use mathlib.Core.Path.{_≡_, refl, sym, ap, _∙_, subst}
+use mathlib.Core.Bool.{Bool, true, false}
+use mathlib.Core.Logic.{⊎-elim}
+use mathlib.Core.List.{List, [], _∷_, _++_, map, append-nil, append-assoc}
+use Prim.Native.Nat.{ℕ, zero, suc, _+_, _-_, _*_, _≤_, _<_}
+use native.Mathlib.Omega.{arith}
+use native.Mathlib.Numerals.{add-one}
+use borrow.Author.Tests.{lt-ltb, le-ltb, le-leb, lt-leb, eq-eqb, ne-eqb, eqb-true, eqb-false, ltb-true, ltb-false, leb-true, leb-false}
+use lib.Dec.{eqb, leb, ltb}
+use lib.ListN.{length, take, drop, getD, set, replicate, length-set, length-append, length-take, length-drop, length-replicate, length-map}
+use borrow.Author.Needs.{needs}
+use Rattle.vectors.proofs.page_037.Statement.{statement}
+use Rattle.vectors.proofs.page_037.Tie as tie
+
+abbrev Inv-loop : tie.InvT-loop
+Inv-loop agree₀ b₀ t3 agree b = b ≤ 255
+
+abbrev μ-loop : tie.MeasureT-loop
+μ-loop agree₀ b₀ t3 agree b = 255 - b
+
+loop-holds : tie.Need-loop-holds Inv-loop μ-loop
+loop-holds c = search needs
+
+page-agrees-requires : tie.Need-page-agrees-requires Inv-loop μ-loop
+page-agrees-requires c κs = search needs
+
+more-requires : tie.Need-more-requires Inv-loop μ-loop
+more-requires c κs = search needs
+
+add-b : tie.Need-add-b Inv-loop μ-loop
+add-b c = search needs
+
+loop-less : tie.Need-loop-less Inv-loop μ-loop
+loop-less c = search needs
+
+loop-again : tie.Need-loop-again Inv-loop μ-loop
+loop-again c = search needs
+
+page-agrees-requires-2 : tie.Need-page-agrees-requires-2 Inv-loop μ-loop
+page-agrees-requires-2 c κs = search needs
+
+more-requires-2 : tie.Need-more-requires-2 Inv-loop μ-loop
+more-requires-2 c κs = search needs
+
+slice-aggregate-line : tie.Need-slice-aggregate-line Inv-loop μ-loop
+slice-aggregate-line c = search needs
+
+line-requires : tie.Need-line-requires Inv-loop μ-loop
+line-requires c κs = search needs
+
+returns : tie.Need-returns Inv-loop μ-loop
+returns c = search needs
+
+pub page-037-spec : {M : Type 1} → statement M
+page-037-spec =
+    tie.close
+    (tie.spec
+    Inv-loop
+    μ-loop
+    loop-holds
+    page-agrees-requires
+    more-requires
+    add-b
+    loop-less
+    loop-again
+    page-agrees-requires-2
+    more-requires-2
+    slice-aggregate-line
+    line-requires
+    returns)

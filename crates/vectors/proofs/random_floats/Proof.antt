@@ -1,0 +1,102 @@
+use mathlib.Core.Path.{_≡_, refl, sym, ap, _∙_, subst}
+use mathlib.Core.Bool.{Bool, true, false}
+use mathlib.Core.Logic.{⊎-elim}
+use mathlib.Core.List.{List, [], _∷_, _++_, map, append-nil, append-assoc}
+use Prim.Native.Nat.{ℕ, zero, suc, _+_, _-_, _*_, _≤_, _<_}
+use native.Mathlib.Omega.{arith}
+use native.Mathlib.Numerals.{add-one}
+use borrow.Author.Tests.{lt-ltb, le-ltb, le-leb, lt-leb, eq-eqb, ne-eqb, eqb-true, eqb-false, ltb-true, ltb-false, leb-true, leb-false}
+use lib.Dec.{eqb, leb, ltb}
+use lib.ListN.{length, take, drop, getD, set, replicate, length-set, length-append, length-take, length-drop, length-replicate, length-map}
+use borrow.Author.Needs.{needs}
+use Rattle.vectors.proofs.random_floats.Statement.{statement}
+use Rattle.vectors.proofs.random_floats.Tie as tie
+
+abbrev Inv-loop : tie.InvT-loop
+Inv-loop x₀ single₀ half₀ wider₀ i₀ t7 t8 t9 x single half wider i = i ≤ 100000
+
+abbrev μ-loop : tie.MeasureT-loop
+μ-loop x₀ single₀ half₀ wider₀ i₀ t7 t8 t9 x single half wider i = 100000 - i
+
+loop-holds : tie.Need-loop-holds Inv-loop μ-loop
+loop-holds c = search needs
+
+next-requires : tie.Need-next-requires Inv-loop μ-loop
+next-requires c κs = search needs
+
+near-single-requires : tie.Need-near-single-requires Inv-loop μ-loop
+near-single-requires c κs = search needs
+
+write-single-requires : tie.Need-write-single-requires Inv-loop μ-loop
+write-single-requires c κs = search needs
+
+mixed-requires : tie.Need-mixed-requires Inv-loop μ-loop
+mixed-requires c κs = search needs
+
+write-half-requires : tie.Need-write-half-requires Inv-loop μ-loop
+write-half-requires c κs = search needs
+
+mixed-requires-2 : tie.Need-mixed-requires-2 Inv-loop μ-loop
+mixed-requires-2 c κs = search needs
+
+read-single-requires : tie.Need-read-single-requires Inv-loop μ-loop
+read-single-requires c κs = search needs
+
+mixed-requires-3 : tie.Need-mixed-requires-3 Inv-loop μ-loop
+mixed-requires-3 c κs = search needs
+
+add-i : tie.Need-add-i Inv-loop μ-loop
+add-i c = search needs
+
+loop-less : tie.Need-loop-less Inv-loop μ-loop
+loop-less c = search needs
+
+loop-again : tie.Need-loop-again Inv-loop μ-loop
+loop-again c = search needs
+
+slice-aggregate-verdict : tie.Need-slice-aggregate-verdict Inv-loop μ-loop
+slice-aggregate-verdict c = search needs
+
+verdict-requires : tie.Need-verdict-requires Inv-loop μ-loop
+verdict-requires c κs = search needs
+
+slice-aggregate-verdict-2 : tie.Need-slice-aggregate-verdict-2 Inv-loop μ-loop
+slice-aggregate-verdict-2 c = search needs
+
+verdict-requires-2 : tie.Need-verdict-requires-2 Inv-loop μ-loop
+verdict-requires-2 c κs = search needs
+
+slice-aggregate-verdict-3 : tie.Need-slice-aggregate-verdict-3 Inv-loop μ-loop
+slice-aggregate-verdict-3 c = search needs
+
+verdict-requires-3 : tie.Need-verdict-requires-3 Inv-loop μ-loop
+verdict-requires-3 c κs = search needs
+
+returns : tie.Need-returns Inv-loop μ-loop
+returns c = search needs
+
+pub random-floats-spec : {M : Type 1} → statement M
+random-floats-spec =
+    tie.close
+    (tie.spec
+    Inv-loop
+    μ-loop
+    loop-holds
+    next-requires
+    near-single-requires
+    write-single-requires
+    mixed-requires
+    write-half-requires
+    mixed-requires-2
+    read-single-requires
+    mixed-requires-3
+    add-i
+    loop-less
+    loop-again
+    slice-aggregate-verdict
+    verdict-requires
+    slice-aggregate-verdict-2
+    verdict-requires-2
+    slice-aggregate-verdict-3
+    verdict-requires-3
+    returns)

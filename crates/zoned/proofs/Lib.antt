@@ -1,0 +1,4 @@
+pub mod Reading
+pub mod Paged
+pub mod Writing
+pub mod Back

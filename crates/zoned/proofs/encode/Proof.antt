@@ -1,0 +1,83 @@
+use mathlib.Core.Path.{_≡_, refl, sym, ap, _∙_, subst}
+use mathlib.Core.Bool.{Bool, true, false}
+use mathlib.Core.Logic.{⊎-elim}
+use mathlib.Core.List.{List, [], _∷_, _++_, map, append-nil, append-assoc}
+use Prim.Native.Nat.{ℕ, zero, suc, _+_, _-_, _*_, _≤_, _<_}
+use native.Mathlib.Omega.{arith}
+use native.Mathlib.Numerals.{add-one}
+use borrow.Author.Tests.{lt-ltb, le-ltb, le-leb, lt-leb, eq-eqb, ne-eqb, eqb-true, eqb-false, ltb-true, ltb-false, leb-true, leb-false}
+use lib.Dec.{eqb, leb, ltb}
+use lib.ListN.{length, take, drop, getD, set, replicate, length-set, length-append, length-take, length-drop, length-replicate, length-map}
+use Rattle.zoned.specs.Zoned.{fitsOf}
+use Rattle.zoned.proofs.Writing.{fits-some, written}
+use borrow.Author.Needs.{needs}
+use Rattle.zoned.proofs.encode.Statement.{statement}
+use Rattle.zoned.proofs.encode.Tie as tie
+
+fits-requires : tie.Need-fits-requires
+fits-requires c κs = search needs
+
+sub-last : tie.Need-sub-last
+sub-last c = fits-some (length (c .before .before .before .args .part .now)) (c .before .before .before .args .size) (sym (c .before .fits2 .ensures) ∙ c .if1 .taken)
+
+sub-zero-pad : tie.Need-sub-zero-pad
+sub-zero-pad c = search needs
+
+part-zero-pad-start : tie.Need-part-zero-pad-start
+part-zero-pad-start c = search needs
+
+part-zero-pad-end : tie.Need-part-zero-pad-end
+part-zero-pad-end c = search needs
+
+drop-digit-requires : tie.Need-drop-digit-requires
+drop-digit-requires c κs = search needs
+
+zero-pad-requires : tie.Need-zero-pad-requires
+zero-pad-requires c κs = search needs
+
+last-digit-requires : tie.Need-last-digit-requires
+last-digit-requires c κs = search needs
+
+last-byte-requires : tie.Need-last-byte-requires
+last-byte-requires c κs = search needs
+
+onto-page-requires : tie.Need-onto-page-requires
+onto-page-requires c κs = search needs
+
+slice-write-part : tie.Need-slice-write-part
+slice-write-part c =
+    let h = fits-some (length (c .before .before .before .before .before .before .before .before .before .before .before .args .part .now)) (c .before .before .before .before .before .before .before .before .before .before .before .args .size) (sym (c .before .before .before .before .before .before .before .before .before .fits2 .ensures) ∙ c .before .before .before .before .before .before .before .before .if1 .taken) in
+    omega arith
+
+same-length : tie.Need-same-length
+same-length c = search needs
+
+returns : tie.Need-returns
+returns c =
+    let t : fitsOf (length (c .before .before .before .before .before .before .before .before .before .before .before .args .part .now)) (c .before .before .before .before .before .before .before .before .before .before .before .args .size) ≡ true = sym (c .before .before .before .before .before .before .before .before .before .fits2 .ensures) ∙ c .before .before .before .before .before .before .before .before .if1 .taken in
+    let h = fits-some (length (c .before .before .before .before .before .before .before .before .before .before .before .args .part .now)) (c .before .before .before .before .before .before .before .before .before .before .before .args .size) t in
+    rw t (refl, written (c .before .before .before .before .before .before .before .before .before .before .before .args .page) (c .before .before .before .before .before .before .before .before .before .before .before .args .part .now) (c .before .before .before .before .before .zero-pad .last .0) (c .before .before .before .before .before .before .before .before .before .before .before .args .size) (c .before .before .last-digit .result) (c .before .before .before .before .before .before .before .before .before .before .before .args .negative) (c .before .before .before .before .before .before .before .before .before .before .before .args .signed) (c .onto-page .result) (c .before .last-byte .result) h (c .before .before .before .before .before .zero-pad .ensures ∙ rw (c .before .before .before .before .before .before .drop-digit .ensures) refl) (c .before .before .last-digit .ensures .0) (c .before .last-byte .ensures) (c .onto-page .ensures))
+
+returns-2 : tie.Need-returns-2
+returns-2 c =
+    let t : fitsOf (length (c .before .before .before .args .part .now)) (c .before .before .before .args .size) ≡ false = sym (c .before .fits2 .ensures) ∙ c .if1 .left in
+    rw t (refl, refl)
+
+pub encode-spec : {M : Type 1} → statement M
+encode-spec =
+    tie.close
+    (tie.spec
+    fits-requires
+    sub-last
+    sub-zero-pad
+    part-zero-pad-start
+    part-zero-pad-end
+    drop-digit-requires
+    zero-pad-requires
+    last-digit-requires
+    last-byte-requires
+    onto-page-requires
+    slice-write-part
+    same-length
+    returns
+    returns-2)

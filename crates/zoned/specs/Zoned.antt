@@ -1,0 +1,63 @@
+-- What a zoned field of any width says, over bytes as ASCII, and the bytes of a number in one.
+use mathlib.Core.List.{List, [], _∷_, _++_}
+use mathlib.Core.Bool.{Bool, true, false, _&&_, _||_, cond}
+use Prim.Native.Nat.{ℕ, _+_, _-_, _/_}
+use lib.Dec.{ltb, leb, eqb}
+use lib.ListN.{length}
+use Rattle.value.specs.declared.Number.{Number}
+use Rattle.value.specs.declared.Number.the-variants.{Bad}
+use Rattle.value.specs.Digits.{digitAt}
+use Rattle.value.specs.Number.{numberOf}
+use Rattle.value.specs.Field.{fieldOf}
+use Rattle.display.specs.Display.{padded, roomFor}
+
+-- a digit's byte, 0x30 to 0x39; any other is no digit, 10 or more
+abbrev pub digitOf : ℕ → ℕ
+digitOf b = cond (ltb b 0x30) 10 (b - 0x30)
+
+abbrev pub zone : ℕ → List ℕ
+zone b = digitOf b ∷ []
+
+-- "last byte 0-9, { A-I positive, } J-R negative": its digit
+abbrev pub lastDigit : ℕ → ℕ
+lastDigit b =
+    cond (ltb b 0x3A) (digitOf b)
+    (cond (ltb b 0x41) 10
+    (cond (ltb b 0x4A) (b - 0x40)
+    (cond (ltb b 0x53) (b - 0x49)
+    (cond (eqb b 0x7B) 0
+    (cond (eqb b 0x7D) 0 10)))))
+
+-- and its sign
+abbrev pub minus : ℕ → Bool
+minus b = (leb 0x4A b && ltb b 0x53) || eqb b 0x7D
+
+-- what a lawful field answers
+abbrev pub narrow : ℕ → ℕ → Number
+narrow b size = numberOf (minus b) size
+
+-- a last byte that has a digit has a sign
+abbrev pub anySign : ℕ → Bool
+anySign b = true
+
+-- "Bytes lawful (.. packed and zoned from 1)"
+unfoldable pub decodeOf : List ℕ → Number
+decodeOf part = cond (ltb 0 (length part)) (fieldOf zone lastDigit anySign narrow Bad part) Bad
+
+-- ---- writing
+
+-- a digit over which a sign stands
+abbrev pub overpunch : ℕ → Bool → ℕ
+overpunch d negative = cond (eqb d 0) (cond negative 0x7D 0x7B) (cond negative (0x49 + d) (0x40 + d))
+
+-- the last byte: overpunched where the field has a sign, else a plain digit
+abbrev pub lastByte : ℕ → Bool → Bool → ℕ
+lastByte size negative signed = cond signed (overpunch (digitAt 0 size) negative) (48 + digitAt 0 size)
+
+-- the w low digits of the size, the sign over the last one
+abbrev pub encodedOf : ℕ → Bool → ℕ → Bool → List ℕ
+encodedOf w negative size signed = padded (w - 1) (size / 10) ++ (lastByte size negative signed ∷ [])
+
+-- a field of w bytes has w digits
+abbrev pub fitsOf : ℕ → ℕ → Bool
+fitsOf w size = roomFor w size

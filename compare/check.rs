@@ -36,7 +36,7 @@ pub struct Group {
     cases: u64,
     accepted: u64,
     refused: BTreeMap<u32, u64>,
-    listed: BTreeMap<&'static str, u64>,
+    listed: BTreeMap<&'static str, (u64, usize, String)>,
     unlisted: u64,
     smallest: Option<(usize, String)>,
 }
@@ -68,7 +68,13 @@ impl Tally {
         }
         match seen {
             Seen::Same => {}
-            Seen::Listed(rule) => *g.listed.entry(rule).or_default() += 1,
+            Seen::Listed(rule) => {
+                let l = g.listed.entry(rule).or_insert((0, usize::MAX, String::new()));
+                l.0 += 1;
+                if size < l.1 {
+                    (l.1, l.2) = (size, input());
+                }
+            }
             Seen::Other(how) => {
                 g.unlisted += 1;
                 if g.smallest.as_ref().map_or(true, |(n, _)| size < *n) {
@@ -80,19 +86,23 @@ impl Tally {
     /// Prints the table; answers whether every difference is a listed one.
     pub fn print(&self, wanted: u64, seed: u64) -> bool {
         println!("{:<16}{:>10}{:>10}   refused by number", "group", "cases", "accepted");
-        let mut listed: BTreeMap<&str, u64> = BTreeMap::new();
+        let mut listed: BTreeMap<&str, (u64, usize, &str)> = BTreeMap::new();
         let mut unlisted = 0;
         for (name, g) in &self.groups {
             let by: Vec<String> = g.refused.iter().map(|(n, c)| format!("{n}: {c}")).collect();
             println!("{:<16}{:>10}{:>10}   {}", name, g.cases, g.accepted, by.join(", "));
-            for (rule, c) in &g.listed {
-                *listed.entry(rule).or_default() += c;
+            for (rule, (c, size, input)) in &g.listed {
+                let l = listed.entry(rule).or_insert((0, usize::MAX, ""));
+                l.0 += c;
+                if *size < l.1 {
+                    (l.1, l.2) = (*size, input);
+                }
             }
             unlisted += g.unlisted;
         }
-        println!("\nlisted differences");
-        for (rule, c) in &listed {
-            println!("{c:>10}  {rule}");
+        println!("\nlisted differences, each with the smallest input that showed it");
+        for (rule, (c, _, input)) in &listed {
+            println!("{c:>10}  {rule}\n{:12}{input}", "");
         }
         for (name, g) in &self.groups {
             if let Some((_, input)) = &g.smallest {

@@ -21,7 +21,8 @@ use Rattle.lists.proofs.Lists.{getD-map}
 use Rattle.ebcdic.specs.Ebcdic.{fromPage, ontoPage}
 use Rattle.ebcdic.proofs.Laws.{bytes-back, onto-byte}
 use Rattle.display.specs.Display.{isBlank, trimmed, isDigit, digitIn, isAscii, keptOf, withSign, isSeparate, isSign, signAt, restOf, digitsIn, wholeOf, intIn, intOf, decimalOf}
-use Rattle.display.specs.Display.{asciiOf, padded, roomFor, signByte, intFits, intBytes, hasSign, decimalFits}
+use Rattle.value.specs.Digits.{asciiOf, digitText}
+use Rattle.display.specs.Display.{roomFor, signByte, intFits, intBytes, hasSign, decimalFits}
 use Rattle.display.proofs.Writing.{room-some, room-below, separate-width}
 
 -- ---- bytes that are no blanks: from + to 9
@@ -38,14 +39,14 @@ inked-snoc x [] a b h = inked-cons x [] a b h
 inked-snoc x (y ∷ t) a b h =
     inked-cons y (t ++ (x ∷ [])) (h 0 (zero-lt-suc (length t)) .0) (h 0 (zero-lt-suc (length t)) .1) (inked-snoc x t a b (λ j k. h (suc j) (omega arith)))
 
-inked-padded : (w size : ℕ) → Inked (padded w size)
-inked-padded zero size = λ k h. absurd (not-suc-le-zero h)
-inked-padded (suc w) size =
+inked-digitText : (w size : ℕ) → Inked (digitText w size)
+inked-digitText zero size = λ k h. absurd (not-suc-le-zero h)
+inked-digitText (suc w) size =
     let d = digit-below w size in
-    inked-cons (asciiOf (digitAt w size)) (padded w size) (omega arith) (omega arith) (inked-padded w size)
+    inked-cons (asciiOf (digitAt w size)) (digitText w size) (omega arith) (omega arith) (inked-digitText w size)
 
-pub padded-below : (w size k : ℕ) → k < length (padded w size) → getD (padded w size) k 0 < 256
-padded-below w size k h = let i = inked-padded w size k h .1 in omega arith
+pub text-below : (w size k : ℕ) → k < length (digitText w size) → getD (digitText w size) k 0 < 256
+text-below w size k h = let i = inked-digitText w size k h .1 in omega arith
 
 no-blank : (x : ℕ) → 43 ≤ x → isBlank x ≡ false
 no-blank x h = rw (ne-eqb x 32 (omega arith), lt-leb x 13 (omega arith), and-false)
@@ -67,17 +68,17 @@ inked-bytes : (w : ℕ) (negative : Bool) (size sign : ℕ) → Inked (intBytes 
 unfolding intBytes
 inked-bytes w negative size sign = by (eqb sign 2) (eqb sign 3)
   where
-    by : (a b : Bool) → Inked (cond a (signByte negative ∷ padded (w - 1) size) (cond b (padded (w - 1) size ++ (signByte negative ∷ [])) (padded w size)))
-    by true b = inked-cons (signByte negative) (padded (w - 1) size) (sign-low negative) (sign-high negative) (inked-padded (w - 1) size)
-    by false true = inked-snoc (signByte negative) (padded (w - 1) size) (sign-low negative) (sign-high negative) (inked-padded (w - 1) size)
-    by false false = inked-padded w size
+    by : (a b : Bool) → Inked (cond a (signByte negative ∷ digitText (w - 1) size) (cond b (digitText (w - 1) size ++ (signByte negative ∷ [])) (digitText w size)))
+    by true b = inked-cons (signByte negative) (digitText (w - 1) size) (sign-low negative) (sign-high negative) (inked-digitText (w - 1) size)
+    by false true = inked-snoc (signByte negative) (digitText (w - 1) size) (sign-low negative) (sign-high negative) (inked-digitText (w - 1) size)
+    by false false = inked-digitText w size
 
 -- ---- a text of digits alone
 
-pub length-padded : (w size : ℕ) → length (padded w size) ≡ w
-length-padded w size = length-map (digitsOf w size) asciiOf ∙ length-digits w size
+pub length-digitText : (w size : ℕ) → length (digitText w size) ≡ w
+length-digitText w size = length-map (digitsOf w size) asciiOf ∙ length-digits w size
 
-first-digit : (w size : ℕ) → 0 < w → 48 ≤ getD (padded w size) 0 0
+first-digit : (w size : ℕ) → 0 < w → 48 ≤ getD (digitText w size) 0 0
 first-digit zero size h = absurd (not-suc-le-zero h)
 first-digit (suc w) size h = omega arith
 
@@ -86,37 +87,37 @@ digit-tests w size =
     let d = digit-below w size in
     (rw (le-leb 48 (asciiOf (digitAt w size)) (omega arith), le-leb (asciiOf (digitAt w size)) 57 (omega arith)), lt-ltb (asciiOf (digitAt w size)) 128 (omega arith))
 
-all-digits : (w size : ℕ) → everyBy isDigit (padded w size) ≡ true
+all-digits : (w size : ℕ) → everyBy isDigit (digitText w size) ≡ true
 unfolding everyBy
 all-digits zero size = refl
 all-digits (suc w) size = rw (digit-tests w size .0) (all-digits w size)
 
-all-ascii : (w size : ℕ) → everyBy isAscii (padded w size) ≡ true
+all-ascii : (w size : ℕ) → everyBy isAscii (digitText w size) ≡ true
 unfolding everyBy
 all-ascii zero size = refl
 all-ascii (suc w) size = rw (digit-tests w size .1) (all-ascii w size)
 
-digits-back : (w size : ℕ) → map digitIn (padded w size) ≡ digitsOf w size
+digits-back : (w size : ℕ) → map digitIn (digitText w size) ≡ digitsOf w size
 digits-back zero size = refl
 digits-back (suc w) size =
     let e : digitIn (asciiOf (digitAt w size)) ≡ digitAt w size = omega arith in
     rw (e, digits-back w size)
 
-digits-read : (bound : ℕ) (negative : Bool) (w size : ℕ) → 0 < w → size < 10 ^ w → size < bound → digitsIn bound negative (padded w size) ≡ Of (ltb 0 size && negative) size
+digits-read : (bound : ℕ) (negative : Bool) (w size : ℕ) → 0 < w → size < 10 ^ w → size < bound → digitsIn bound negative (digitText w size) ≡ Of (ltb 0 size && negative) size
 unfolding digitsIn
 digits-read bound negative w size h k b =
-    rw (length-padded w size, lt-ltb 0 w h, all-digits w size, digits-back w size, value-of-digits w size k) (numberIn-fits bound negative size b)
+    rw (length-digitText w size, lt-ltb 0 w h, all-digits w size, digits-back w size, value-of-digits w size k) (numberIn-fits bound negative size b)
 
-whole-read : (w size : ℕ) → 0 < w → size < 10 ^ w → size < 2 ^ 63 → wholeOf (padded w size) ≡ Of (ltb 0 size && false) size
+whole-read : (w size : ℕ) → 0 < w → size < 10 ^ w → size < 2 ^ 63 → wholeOf (digitText w size) ≡ Of (ltb 0 size && false) size
 unfolding wholeOf
 whole-read w size h k b =
     let f = first-digit w size h in
-    rw (ne-eqb (getD (padded w size) 0 0) 45 (omega arith), ne-eqb (getD (padded w size) 0 0) 43 (omega arith)) (digits-read (2 ^ 63) false w size h k b)
+    rw (ne-eqb (getD (digitText w size) 0 0) 45 (omega arith), ne-eqb (getD (digitText w size) 0 0) 43 (omega arith)) (digits-read (2 ^ 63) false w size h k b)
 
-kept-read : (w size : ℕ) → size < 10 ^ w → size < limit → keptOf (padded w size) ≡ Of (ltb 0 size && false) size
+kept-read : (w size : ℕ) → size < 10 ^ w → size < limit → keptOf (digitText w size) ≡ Of (ltb 0 size && false) size
 unfolding keptOf
 kept-read w size k b =
-    rw (all-ascii w size, keep-every isDigit (padded w size) (all-digits w size), digits-back w size, value-of-digits w size k) (numberIn-fits limit false size b)
+    rw (all-ascii w size, keep-every isDigit (digitText w size) (all-digits w size), digits-back w size, value-of-digits w size k) (numberIn-fits limit false size b)
 
 -- ---- the parts of a written field
 
@@ -153,7 +154,7 @@ a-minus false = refl
 record Parts (w : ℕ) (negative : Bool) (size sign : ℕ) (t : List ℕ) : Type 0 where
   taken : isSign (signAt sign t) ≡ isSeparate sign
   minus : eqb (signAt sign t) 45 ≡ (isSeparate sign && negative)
-  rest : restOf sign t ≡ padded (placesOf sign w) size
+  rest : restOf sign t ≡ digitText (placesOf sign w) size
 
 parts : (w : ℕ) (negative : Bool) (size sign : ℕ) → Parts w negative size sign (intBytes w negative size sign)
 unfolding intBytes signAt restOf
@@ -166,9 +167,9 @@ parts w negative size sign = by (eqb sign 2) (eqb sign 3) refl refl
       rest = rw (ea, a-sign negative);
     }
     by false true ea eb = record {
-      taken = rw (ea, eb, last-snoc (padded (w - 1) size) (signByte negative)) (a-sign negative);
-      minus = rw (ea, eb, last-snoc (padded (w - 1) size) (signByte negative)) (a-minus negative);
-      rest = rw (ea, eb, last-snoc (padded (w - 1) size) (signByte negative), a-sign negative) (front-snoc (padded (w - 1) size) (signByte negative));
+      taken = rw (ea, eb, last-snoc (digitText (w - 1) size) (signByte negative)) (a-sign negative);
+      minus = rw (ea, eb, last-snoc (digitText (w - 1) size) (signByte negative)) (a-minus negative);
+      rest = rw (ea, eb, last-snoc (digitText (w - 1) size) (signByte negative), a-sign negative) (front-snoc (digitText (w - 1) size) (signByte negative));
     }
     by false false ea eb = record {
       taken = rw (ea, eb);
@@ -209,17 +210,17 @@ length-bytes w negative size signed sign h = by (eqb sign 2) (eqb sign 3) refl r
     some = room-some (placesOf sign w) size (fits-room w negative size signed sign h)
 
     by : (a b : Bool) → eqb sign 2 ≡ a → eqb sign 3 ≡ b
-        → length (cond a (signByte negative ∷ padded (w - 1) size) (cond b (padded (w - 1) size ++ (signByte negative ∷ [])) (padded w size))) ≡ w
+        → length (cond a (signByte negative ∷ digitText (w - 1) size) (cond b (digitText (w - 1) size ++ (signByte negative ∷ [])) (digitText w size))) ≡ w
     by true b ea eb =
         let k : 0 < w - 1 = rw ea at some in
-        let l = length-padded (w - 1) size in
+        let l = length-digitText (w - 1) size in
         omega arith
     by false true ea eb =
         let k : 0 < w - 1 = rw (ea, eb) at some in
-        let l = length-padded (w - 1) size in
-        let m = length-append (padded (w - 1) size) (signByte negative ∷ []) in
+        let l = length-digitText (w - 1) size in
+        let m = length-append (digitText (w - 1) size) (signByte negative ∷ []) in
         m ∙ omega arith
-    by false false ea eb = length-padded w size
+    by false false ea eb = length-digitText w size
 
 pub bytes-below : (w : ℕ) (negative : Bool) (size sign k : ℕ) → k < length (intBytes w negative size sign) → getD (intBytes w negative size sign) k 0 < 256
 bytes-below w negative size sign k h = let i = inked-bytes w negative size sign k h .1 in omega arith
@@ -252,11 +253,11 @@ module _ (page w : ℕ) (negative : Bool) (size : ℕ) (signed : Bool) (sign : �
       let r = parts w negative size sign in
       let d = placesOf sign w in
       let some = room-some d size room in
-      rw (bytes, trimmed-inked t (inked-bytes w negative size sign), r .rest, trimmed-inked (padded d size) (inked-padded d size), length-padded d size, ne-eqb d 0 (omega arith), r .taken, r .minus)
+      rw (bytes, trimmed-inked t (inked-bytes w negative size sign), r .rest, trimmed-inked (digitText d size) (inked-digitText d size), length-digitText d size, ne-eqb d 0 (omega arith), r .taken, r .minus)
       (by (isSeparate sign) refl some)
     where
       by : (s : Bool) → isSeparate sign ≡ s → 0 < placesOf sign w
-          → cond s (digitsIn (2 ^ 63) (s && negative) (padded (placesOf sign w) size)) (wholeOf (padded (placesOf sign w) size)) ≡ Of (ltb 0 size && negative) size
+          → cond s (digitsIn (2 ^ 63) (s && negative) (digitText (placesOf sign w) size)) (wholeOf (digitText (placesOf sign w) size)) ≡ Of (ltb 0 size && negative) size
       by true e h = digits-read (2 ^ 63) negative (placesOf sign w) size h (room-below (placesOf sign w) size room) b
       by false e h = whole-read (placesOf sign w) size h (room-below (placesOf sign w) size room) b ∙ ap (λ (n : Bool). Of (ltb 0 size && n) size) (sym (keeps e))
 

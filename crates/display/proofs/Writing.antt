@@ -16,11 +16,12 @@ use Rattle.value.proofs.Digits.{next-place, length-digits}
 use Rattle.value.proofs.Word.{power-is}
 use Rattle.lists.proofs.Lists.{drop-set, map-append}
 use Rattle.ebcdic.specs.Ebcdic.{ontoPage}
-use Rattle.display.specs.Display.{asciiOf, padded, roomFor, isSeparate, signByte, intFits, intBytes, intWritten, hasSign, decimalFits, decimalWritten}
+use Rattle.value.specs.Digits.{asciiOf, digitText}
+use Rattle.display.specs.Display.{roomFor, isSeparate, signByte, intFits, intBytes, intWritten, hasSign, decimalFits, decimalWritten}
 
 -- from i on a text of w digits is written, each as f of it; rest is what is left of the size
 pub record Written (f : ℕ → ℕ) (l : List ℕ) (w size i rest : ℕ) : Type 0 where
-  pub tail : drop i l ≡ map f (padded (w - i) size)
+  pub tail : drop i l ≡ map f (digitText (w - i) size)
   pub left : rest ≡ size / 10 ^ (w - i)
 
 pub written-none : (f : ℕ → ℕ) (l : List ℕ) (size : ℕ) → Written f l (length l) size (length l) size
@@ -41,7 +42,7 @@ written-more f l w size i rest b next h m k r eb en =
       left = rw (e, en, r .left, next-place);
     }
 
-pub written-all : (f : ℕ → ℕ) (l : List ℕ) (w size i rest : ℕ) → i ≡ 0 → Written f l w size i rest → l ≡ map f (padded w size)
+pub written-all : (f : ℕ → ℕ) (l : List ℕ) (w size i rest : ℕ) → i ≡ 0 → Written f l w size i rest → l ≡ map f (digitText w size)
 written-all f l w size i rest z r = let e : w - 0 ≡ w = omega arith in rw (z, e) at (r .tail)
 
 -- ---- room
@@ -82,13 +83,13 @@ trail-separate sign e = rw e
 
 -- ---- what encode leaves
 
-pub padded-length : (f : ℕ → ℕ) (w size : ℕ) → length (map f (padded w size)) ≡ w
-padded-length f w size = length-map (padded w size) f ∙ length-map (digitsOf w size) asciiOf ∙ length-digits w size
+pub text-length : (f : ℕ → ℕ) (w size : ℕ) → length (map f (digitText w size)) ≡ w
+text-length f w size = length-map (digitText w size) f ∙ length-map (digitsOf w size) asciiOf ∙ length-digits w size
 
-set-first : (f : ℕ → ℕ) (w size x : ℕ) → 0 < w → set (map f (padded w size)) 0 (f x) ≡ map f (x ∷ padded (w - 1) size)
+set-first : (f : ℕ → ℕ) (w size x : ℕ) → 0 < w → set (map f (digitText w size)) 0 (f x) ≡ map f (x ∷ digitText (w - 1) size)
 set-first f w size x h =
     let e : w ≡ suc (w - 1) = omega arith in
-    ap (λ (n : ℕ). set (map f (padded n size)) 0 (f x)) e
+    ap (λ (n : ℕ). set (map f (digitText n size)) 0 (f x)) e
 
 pub set-behind : (ys zs : List ℕ) (b k : ℕ) → k ≡ length ys → length zs ≡ 1 → set (ys ++ zs) k b ≡ ys ++ (b ∷ [])
 set-behind ys zs b k e h = rw e (go ys)
@@ -108,22 +109,22 @@ module _ (page : ℕ) (negative : Bool) (size : ℕ) (signed : Bool) (sign : ℕ
   encode-not h = rw h
 
   module _ (h : intFits (length part) negative size signed sign ≡ true) where
-    pub encode-first : (l : List ℕ) (b : ℕ) → sign ≡ 2 → l ≡ map (ontoPage page) (padded (length part) size) → b ≡ ontoPage page (signByte negative)
+    pub encode-first : (l : List ℕ) (b : ℕ) → sign ≡ 2 → l ≡ map (ontoPage page) (digitText (length part) size) → b ≡ ontoPage page (signByte negative)
         → set l 0 b ≡ intWritten page negative size signed sign part
     unfolding intWritten intBytes
     encode-first l b e el eb =
         let k : 1 < length part = separate-width (length part) negative size signed sign (lead-separate sign e) h in
         rw (h, eq-eqb sign 2 e, el, eb) (set-first (ontoPage page) (length part) size (signByte negative) (omega arith))
 
-    pub encode-last : (l zs : List ℕ) (b : ℕ) → sign ≡ 3 → l ≡ map (ontoPage page) (padded (length part - 1) size) → length zs ≡ 1 → b ≡ ontoPage page (signByte negative)
+    pub encode-last : (l zs : List ℕ) (b : ℕ) → sign ≡ 3 → l ≡ map (ontoPage page) (digitText (length part - 1) size) → length zs ≡ 1 → b ≡ ontoPage page (signByte negative)
         → set (l ++ zs) (length part - 1) b ≡ intWritten page negative size signed sign part
     unfolding intWritten intBytes
     encode-last l zs b e el z eb =
         rw (h, ne-eqb sign 2 (omega arith), eq-eqb sign 3 e, el, eb)
-        (set-behind (map (ontoPage page) (padded (length part - 1) size)) zs (ontoPage page (signByte negative)) (length part - 1) (sym (padded-length (ontoPage page) (length part - 1) size)) z
-        ∙ sym (map-append (ontoPage page) (padded (length part - 1) size) (signByte negative ∷ [])))
+        (set-behind (map (ontoPage page) (digitText (length part - 1) size)) zs (ontoPage page (signByte negative)) (length part - 1) (sym (text-length (ontoPage page) (length part - 1) size)) z
+        ∙ sym (map-append (ontoPage page) (digitText (length part - 1) size) (signByte negative ∷ [])))
 
-    pub encode-plain : (l : List ℕ) → ¬ (sign ≡ 2) → ¬ (sign ≡ 3) → l ≡ map (ontoPage page) (padded (length part) size) → l ≡ intWritten page negative size signed sign part
+    pub encode-plain : (l : List ℕ) → ¬ (sign ≡ 2) → ¬ (sign ≡ 3) → l ≡ map (ontoPage page) (digitText (length part) size) → l ≡ intWritten page negative size signed sign part
     unfolding intWritten intBytes
     encode-plain l a b el = rw (h, ne-eqb sign 2 a, ne-eqb sign 3 b) el
 
@@ -144,7 +145,7 @@ mid-is xs = length-take-le (length xs - 1 - 0) xs (omega arith) ∙ sub-zero (le
 pub last-left : (xs : List ℕ) → 0 < length xs → length (drop (length xs - 1 - 0) xs) ≡ 1
 last-left xs h = length-drop (length xs - 1 - 0) xs ∙ omega arith
 
-pub last-piece : (f : ℕ → ℕ) (xs l : List ℕ) (size : ℕ) → l ≡ map f (padded (length (take (length xs - 1 - 0) xs)) size) → l ≡ map f (padded (length xs - 1) size)
+pub last-piece : (f : ℕ → ℕ) (xs l : List ℕ) (size : ℕ) → l ≡ map f (digitText (length (take (length xs - 1 - 0) xs)) size) → l ≡ map f (digitText (length xs - 1) size)
 last-piece f xs l size e = rw (mid-is xs) at e
 
 pub last-all : (xs l : List ℕ) → 0 < length xs → length l ≡ length (take (length xs - 1 - 0) xs) → length xs - 1 < length (l ++ drop (length xs - 1 - 0) xs)

@@ -6,7 +6,7 @@ use lib.Dec.{ltb, leb, eqb}
 use lib.ListN.{length, getD, take, drop}
 use Rattle.value.specs.declared.Number.{Number}
 use Rattle.value.specs.declared.Number.the-variants.{Of, Bad, Big}
-use Rattle.value.specs.Digits.{valueOf, digitsOf}
+use Rattle.value.specs.Digits.{valueOf, digitText}
 use Rattle.value.specs.Number.{numberIn, numberOf}
 use Rattle.value.specs.Field.{lastOf}
 use Rattle.value.specs.declared.Scalar.{Scalar}
@@ -104,13 +104,6 @@ wholeIn (BoolV b) text = Bad
 
 -- ---- writing
 
-abbrev pub asciiOf : ℕ → ℕ
-asciiOf d = 48 + d
-
--- the w low digits of a size
-abbrev pub padded : ℕ → ℕ → List ℕ
-padded w size = map asciiOf (digitsOf w size)
-
 -- a size has no more digits than there are places; 0 has one digit
 abbrev pub roomFor : ℕ → ℕ → Bool
 roomFor places size = ltb 0 places && ltb size (10 ^ places)
@@ -125,9 +118,9 @@ intFits w negative size signed sign = cond (isSeparate sign) (roomFor (w - 1) si
 -- "signed Int without a separate sign and Embedded Display lose the minus"
 unfoldable pub intBytes : ℕ → Bool → ℕ → ℕ → List ℕ
 intBytes w negative size sign =
-    cond (eqb sign 2) (signByte negative ∷ padded (w - 1) size)
-    (cond (eqb sign 3) (padded (w - 1) size ++ (signByte negative ∷ []))
-    (padded w size))
+    cond (eqb sign 2) (signByte negative ∷ digitText (w - 1) size)
+    (cond (eqb sign 3) (digitText (w - 1) size ++ (signByte negative ∷ []))
+    (digitText w size))
 
 -- the field after writing: the number where it fits, and what it was elsewhere
 unfoldable pub intWritten : ℕ → Bool → ℕ → Bool → ℕ → List ℕ → List ℕ

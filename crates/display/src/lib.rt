@@ -14,7 +14,8 @@ ghost use Rattle.value.specs.declared.Scalar.the-variants.{Decimal};
 ghost use Rattle.value.specs.Number.{numberIn};
 ghost use Rattle.ebcdic.specs.Ebcdic.{fromPage, ontoPage};
 ghost use Rattle.display.specs.Display.{isBlank, trimmed, isDigit, digitIn, keptOf, withSign, isSeparate, isSign, signAt, restOf, digitsIn, wholeOf, intOf, decimalOf, orRefused, wholeIn};
-ghost use Rattle.display.specs.Display.{padded, roomFor, signByte, intFits, intWritten, hasSign, decimalFits, decimalWritten};
+ghost use Rattle.value.specs.Digits.{digitText};
+ghost use Rattle.display.specs.Display.{roomFor, signByte, intFits, intWritten, hasSign, decimalFits, decimalWritten};
 
 // ---- what every text of a number shares
 
@@ -341,7 +342,7 @@ fn digit_on(page: u32, d: u8) -> u8
 
 // The low digits of a size, as many as there are places.
 pub fn zero_pad(part: &mut [u8], page: u32, size: u64)
-    ensures { λ _. ⌜ now (part .exit) ≡ map (ontoPage page) (padded (length (now (part .entry))) size) ⌝ }
+    ensures { λ _. ⌜ now (part .exit) ≡ map (ontoPage page) (digitText (length (now (part .entry))) size) ⌝ }
 {
     let w = part.len();
     let mut rest = size;

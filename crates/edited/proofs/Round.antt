@@ -18,7 +18,8 @@ use Rattle.value.specs.Number.{numberOf}
 use Rattle.ebcdic.specs.Ebcdic.{fromPage, ontoPage}
 use Rattle.ebcdic.proofs.Laws.{bytes-back, onto-byte}
 use Rattle.display.specs.Display.{isAscii, isDigit, digitIn, trimmed, keptOf}
-use Rattle.edited.specs.Edited.{negativeOf, withSign, decodedOf, isLawful, positions, judged, padOf, edited, writtenOf}
+use Rattle.display.specs.Display.{withSign}
+use Rattle.edited.specs.Edited.{negativeOf, decodedOf, isLawful, positions, judged, padOf, edited, writtenOf}
 use Rattle.edited.specs.Fits.{Fits, Tells}
 use Rattle.edited.proofs.Marks.{Low, all-at, marks-of, edit-length, edited-low}
 use Rattle.edited.proofs.Back.{edited-spells}

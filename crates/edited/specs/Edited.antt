@@ -8,7 +8,7 @@ use Rattle.value.specs.declared.Number.{Number}
 use Rattle.value.specs.declared.Number.the-variants.{Of, Bad, Big}
 use Rattle.value.specs.Digits.{digitAt, limit}
 use Rattle.value.specs.Field.{lastOf}
-use Rattle.display.specs.Display.{trimmed, keptOf, roomFor}
+use Rattle.display.specs.Display.{trimmed, keptOf, roomFor, withSign}
 use Rattle.ebcdic.specs.Ebcdic.{ontoPage}
 
 -- ---- reading
@@ -26,12 +26,6 @@ minusAtAnEnd t = eqb (getD t 0 0) 45 || eqb (lastOf t) 45
 -- "the trimmed text starts or ends in -, or ends in CR or DB of any case"
 unfoldable pub negativeOf : List ℕ → Bool
 negativeOf t = endsIn 67 82 t || (endsIn 68 66 t || minusAtAnEnd t)
-
--- a number with a sign, of which 0 has none; a refusal stays
-abbrev pub withSign : Bool → Number → Number
-withSign negative (Of _ size) = Of (ltb 0 size && negative) size
-withSign negative Bad = Bad
-withSign negative Big = Big
 
 -- "digits kept, others skipped. Edited is negative if signed and" the text tells a minus
 unfoldable pub decodedOf : Bool → List ℕ → Number

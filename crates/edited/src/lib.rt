@@ -9,7 +9,7 @@ ghost use lib.Dec.{eqb, leb, ltb};
 ghost use lib.ListN.{length};
 ghost use Rattle.value.specs.declared.Number.the-variants.{Of};
 ghost use Rattle.ebcdic.specs.Ebcdic.{fromPage, ontoPage};
-ghost use Rattle.edited.specs.Edited.{upper, endsIn, minusAtAnEnd, negativeOf, withSign, decodedOf, isDigitPos, positions, countOf, isFloating, isMark, follows, isLawful, fitsIn, judged, digitByte, suppress, editByte, supAfter, padOf, edited, answerOf, writtenOf};
+ghost use Rattle.edited.specs.Edited.{upper, endsIn, minusAtAnEnd, negativeOf, decodedOf, isDigitPos, positions, countOf, isFloating, isMark, follows, isLawful, fitsIn, judged, digitByte, suppress, editByte, supAfter, padOf, edited, answerOf, writtenOf};
 
 // ---- reading
 
@@ -69,25 +69,6 @@ fn is_negative(t: &[u8], page: u32) -> bool
     minus_at_an_end(t, page)
 }
 
-fn with_sign(negative: bool, n: Number) -> Number
-    ensures { λ r. ⌜ r ≡ withSign negative n ⌝ }
-{
-    match n {
-        Number::Of(_, size) => sized(negative, size),
-        Number::Bad => Number::Bad,
-        Number::Big => Number::Big,
-    }
-}
-
-fn sized(negative: bool, size: u64) -> Number
-    ensures { λ r. ⌜ r ≡ Of (ltb 0 size && negative) size ⌝ }
-{
-    if size == 0 {
-        return Number::Of(false, 0);
-    }
-    Number::Of(negative, size)
-}
-
 // The number of an edited field.
 pub fn decode(part: &[u8], page: u32, signed: bool) -> Number
     ensures { λ r. ⌜ r ≡ decodedOf signed (map (fromPage page) (now (part .entry))) ⌝ }
@@ -96,9 +77,9 @@ pub fn decode(part: &[u8], page: u32, signed: bool) -> Number
     if signed {
         let t = display::trim(part, page);
         let negative = is_negative(t, page);
-        return with_sign(negative, n);
+        return display::with_sign(negative, n);
     }
-    with_sign(false, n)
+    display::with_sign(false, n)
 }
 
 // ---- the mask

@@ -255,6 +255,18 @@ float-kept order (exact32 w v h n e) =
 float-kept order (exact16 w v h p e) =
     rw (bytes-length order 2 (cutWord w), word-back order 2 (cutWord w), e, half-kept v h p, mod-eq-of-lt h)
 
+-- an exact word has 64 bits
+wide-lt : (v : ℕ) → wideWord v < 2 ^ 64
+wide-lt v = toBits-lt binary64 (ofBits binary32 v) (fits-widens (ofBits binary32 v) (ofBits-fits binary32 v))
+
+pub exact-lt : {bits w : ℕ} → Exact bits w → w < 2 ^ 64
+exact-lt (exact64 w h) = h
+exact-lt (exact32 w v h n e) = rw e (wide-lt v)
+exact-lt (exact16 w h l p e) =
+    let s = leb 32768 h in
+    let q = plain (h % 32768 / 1024) (h % 1024) (omega arith) (omega arith) p in
+    rw (e, half-fields h, same-word s (q .1)) (wide-lt (signed s (q .0)))
+
 -- ---- the test of an exact word
 
 narrow-fits : (x : Float) → T (fits binary32 (narrow x))

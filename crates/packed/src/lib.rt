@@ -45,7 +45,7 @@ pub fn decode(part: &[u8]) -> Number
     value::number_of(is_negative(sign), total)
 }
 
-pub fn is_negative(sign: u8) -> bool
+fn is_negative(sign: u8) -> bool
     ensures { λ r. ⌜ r ≡ isNegative sign ⌝ }
 {
     if sign == 11 {

@@ -12,7 +12,8 @@ use Rattle.value.specs.Digits.{digitsOf, valueOf}
 use Rattle.value.specs.Word.{powerTen}
 use Rattle.value.proofs.Digits.{pow-pos10, length-digits, value-of-digits}
 use Rattle.value.proofs.Word.{power-is}
-use Rattle.text.specs.Shown.{countIn, digitCount, ascii, digitText}
+use Rattle.value.specs.Digits.{asciiOf, digitText}
+use Rattle.text.specs.Shown.{countIn, digitCount}
 
 count-true : (steps v : ℕ) → countIn steps true v ≡ 1
 count-true zero v = refl
@@ -116,4 +117,4 @@ pub whole-value : (v : ℕ) → valueOf (digitsOf (digitCount v) v) ≡ v
 whole-value v = value-of-digits (digitCount v) v (holds v v (below-self v))
 
 pub length-text : (n v : ℕ) → length (digitText n v) ≡ n
-length-text n v = length-map (digitsOf n v) ascii ∙ length-digits n v
+length-text n v = length-map (digitsOf n v) asciiOf ∙ length-digits n v

@@ -11,7 +11,8 @@ use Rattle.lists.proofs.Lists.{drop-set}
 use Rattle.lists.proofs.Part.{in-whole, mid-length}
 use Rattle.value.proofs.Digits.{next-place}
 use Rattle.text.specs.Text.{front}
-use Rattle.text.specs.Shown.{digitText, placed}
+use Rattle.value.specs.Digits.{digitText}
+use Rattle.text.specs.Shown.{placed}
 use Rattle.text.proofs.Count.{length-text}
 
 -- a text behind another at the front

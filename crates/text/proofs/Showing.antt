@@ -13,7 +13,8 @@ use Rattle.value.specs.Word.{powerTen}
 use Rattle.value.proofs.Digits.{pow-pos10}
 use Rattle.value.proofs.Word.{power-is}
 use Rattle.text.specs.Text.{front}
-use Rattle.text.specs.Shown.{digitCount, digitText, wholeText, minusText, intText, decimalText, boolText, placed}
+use Rattle.value.specs.Digits.{digitText}
+use Rattle.text.specs.Shown.{digitCount, wholeText, minusText, intText, decimalText, boolText, placed}
 use Rattle.text.proofs.Count.{count-below, length-text}
 use Rattle.text.proofs.Places.{placed-front}
 

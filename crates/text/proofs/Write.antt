@@ -1,7 +1,7 @@
 -- What the writing functions leave is what the definitions say.
 use mathlib.Core.Path.{_≡_, refl, sym, ap, _∙_, subst}
 use mathlib.Core.Bool.{true, false}
-use mathlib.Core.List.{List, _++_, map, append-nil}
+use mathlib.Core.List.{List, [], _∷_, _++_, map, append-nil}
 use Prim.Native.Nat.{ℕ, _-_, _≤_}
 use native.Mathlib.Nat.{le-refl, le-of-eq}
 use native.Mathlib.Omega.{arith}
@@ -42,3 +42,9 @@ module _ (page : ℕ) (text : List ℕ) (pad n : ℕ) (h : length text ≤ n) wh
   unfolding written
   right-written fl cp e q =
       rw (q, e) (right-core (length (replicate n (g pad)) - length text) (length (replicate n (g pad)) - (length (replicate n (g pad)) - length text)) (rw length-replicate (omega arith)) (rw length-replicate refl))
+
+-- page 0 leaves a text as it is
+pub ascii-page : (s : List ℕ) → map (ontoPage 0) s ≡ s
+unfolding ontoPage
+ascii-page [] = refl
+ascii-page (x ∷ s) = ap (λ (l : List ℕ). x ∷ l) (ascii-page s)

@@ -4,7 +4,7 @@ use mathlib.Core.Bool.{Bool, true, false, _&&_, cond}
 use mathlib.Core.List.{List, [], _∷_, _++_, map}
 use lib.ListN.{length, take, drop}
 use lib.Dec.{eqb, leb, ltb}
-use Rattle.value.specs.Digits.{digitsOf}
+use Rattle.value.specs.Digits.{digitText, digitsOf}
 use Rattle.value.specs.declared.Scalar.{Scalar}
 use Rattle.value.specs.declared.Scalar.the-variants.{Null, Text, Int, Decimal, Float as FloatV, FloatBits, Bool as BoolV}
 use Rattle.text.specs.Text.{front, writtenIn}
@@ -20,14 +20,6 @@ countIn (suc steps) false v = suc (countIn steps (ltb (v / 10) 10) (v / 10))
 -- v steps are enough
 unfoldable pub digitCount : ℕ → ℕ
 digitCount v = countIn v (ltb v 10) v
-
--- a digit's ASCII byte
-abbrev pub ascii : ℕ → ℕ
-ascii d = 48 + d
-
--- the n low digits of v
-abbrev pub digitText : ℕ → ℕ → List ℕ
-digitText n v = map ascii (digitsOf n v)
 
 -- v without leading zeros, `0` for 0
 abbrev pub wholeText : ℕ → List ℕ

@@ -10,7 +10,8 @@ ghost use lib.ListN.{length, take, drop};
 ghost use Rattle.lists.specs.Scan.{leftBy, rightBy, beforeBy};
 ghost use Rattle.ebcdic.specs.Ebcdic.{fromPage};
 ghost use Rattle.text.specs.Text.{isByte, readText, front, putOf, putIn, writtenIn, padded};
-ghost use Rattle.text.specs.Shown.{digitCount, digitText, wholeText, minusText, intText, decimalText, boolText, placed};
+ghost use Rattle.value.specs.Digits.{digitText};
+ghost use Rattle.text.specs.Shown.{digitCount, wholeText, minusText, intText, decimalText, boolText, placed};
 ghost use Rattle.text.specs.Shown.{shows, isText, shownOf, textIn, answerOf, shownIn, roomOf, refusalAt, encodedIn};
 
 // What put_text answers: the length of the text that it put, or that it had no room.
@@ -151,17 +152,11 @@ fn digit_count(v: u64) -> usize
     n
 }
 
-// The low digits of a size in all bytes of a part, from the right.
+// The low digits of a size in all bytes of a part.
 fn spell(part: &mut [u8], v: u64)
     ensures { λ _. ⌜ now (part .exit) ≡ digitText (length (now (part .entry))) v ⌝ }
 {
-    let mut i = part.len();
-    let mut rest = v;
-    while i > 0 {
-        i -= 1;
-        part[i] = 48 + value::last_digit(rest);
-        rest = value::drop_digit(rest);
-    }
+    display::zero_pad(part, 0, v);
 }
 
 // A minus to the front, if the number has one; where the next byte goes.

@@ -1,5 +1,5 @@
 -- Numbers in base 10: what a list of digits spells, and the digits of a number, over any count of digits.
-use mathlib.Core.List.{List, [], _∷_, _++_}
+use mathlib.Core.List.{List, [], _∷_, _++_, map}
 use mathlib.Core.Bool.{Bool, true, false, _&&_, cond}
 use Prim.Native.Nat.{ℕ, zero, suc, _+_, _*_, _/_, _%_, _^_, min}
 use lib.Dec.{ltb}
@@ -26,6 +26,14 @@ digitAt place v = v / 10 ^ place % 10
 abbrev pub digitsOf : ℕ → ℕ → List ℕ
 digitsOf zero v = []
 digitsOf (suc n) v = digitAt n v ∷ digitsOf n v
+
+-- a digit's ASCII byte
+abbrev pub asciiOf : ℕ → ℕ
+asciiOf d = 48 + d
+
+-- the n low digits of v as text
+abbrev pub digitText : ℕ → ℕ → List ℕ
+digitText n v = map asciiOf (digitsOf n v)
 
 -- Decimals are "below 10^18 in size"
 abbrev pub limit : ℕ

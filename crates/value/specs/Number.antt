@@ -1,4 +1,4 @@
--- What reading a number answers.
+-- What reading a number answers. Bad is refused by 8 and Big by 9; where a value is brought to a number for writing, by 13 and 14.
 use mathlib.Core.Bool.{Bool, true, false, _&&_, cond}
 use Prim.Native.Nat.{ℕ}
 use lib.Dec.{ltb}
@@ -13,9 +13,3 @@ numberIn bound negative v = cond (ltb v bound) (Of (ltb 0 v && negative) v) Big
 -- a decimal's size is below 10^18
 abbrev pub numberOf : Bool → ℕ → Number
 numberOf negative v = numberIn limit negative v
-
--- the question that refuses: lawful, 8 (bytes), 9 (range)
-abbrev pub refusalOf : Number → ℕ
-refusalOf (Of negative size) = 0
-refusalOf Bad = 8
-refusalOf Big = 9

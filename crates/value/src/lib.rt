@@ -8,7 +8,7 @@ ghost use lib.ListN.{length};
 ghost use lib.Ieee as Ieee;
 ghost use lib.Ieee.{binary64};
 ghost use Rattle.value.specs.Digits.{capped, limit};
-ghost use Rattle.value.specs.Number.{numberOf, refusalOf};
+ghost use Rattle.value.specs.Number.{numberOf};
 ghost use Rattle.value.specs.Rounding.{rescaled};
 ghost use Rattle.value.specs.Word.{wordOf, minusIn, sizeIn, powerTen};
 ghost use Rattle.value.specs.Scalar.{tagOf, firstOf, secondOf, putOf, floatOf, scalarOf};
@@ -73,17 +73,6 @@ pub fn number_of(negative: bool, size: u64) -> Number
         return Number::Of(false, 0);
     }
     Number::Of(negative, size)
-}
-
-// The number of the question that an answer is refused by, 0 for none.
-pub fn refusal(n: Number) -> u32
-    ensures { λ r. ⌜ r ≡ refusalOf n ⌝ }
-{
-    match n {
-        Number::Of(_, _) => 0,
-        Number::Bad => 8,
-        Number::Big => 9,
-    }
 }
 
 const POWERS: [u64; 20] = [

@@ -16,9 +16,10 @@ use Rattle.value.specs.declared.Number.the-variants.{Of, Bad, Big}
 use Rattle.value.specs.Digits.{valueOf, digitsOk, digitAt, digitsOf, spread, limit}
 use Rattle.value.specs.Field.{fieldOf, lastOf, digitsBy}
 use Rattle.value.proofs.Digits.{ok-digits, value-of-digits, digit-below, length-digits, digits-snoc}
-use Rattle.display.specs.Display.{padded, roomFor, asciiOf}
+use Rattle.value.specs.Digits.{digitText, asciiOf}
+use Rattle.display.specs.Display.{roomFor}
 use Rattle.zoned.specs.Zoned.{digitOf, zone, lastDigit, minus, decodeOf, overpunch, lastByte, encodedOf, fitsOf}
-use Rattle.zoned.proofs.Writing.{fits-some, padded-length}
+use Rattle.zoned.proofs.Writing.{fits-some, text-length}
 
 -- ---- the last byte
 
@@ -59,14 +60,14 @@ last-minus d negative false h = rw (lt-leb 0x4A (48 + d) (omega arith), ne-eqb (
 
 -- ---- the digits above it
 
-spread-padded : (k v : ℕ) → spread zone (padded k v) ≡ digitsOf k v
-spread-padded zero v = refl
-spread-padded (suc k) v = rw (plain-digit (digitAt k v) (digit-below k v)) (ap (λ (l : List ℕ). digitAt k v ∷ l) (spread-padded k v))
+spread-digitText : (k v : ℕ) → spread zone (digitText k v) ≡ digitsOf k v
+spread-digitText zero v = refl
+spread-digitText (suc k) v = rw (plain-digit (digitAt k v) (digit-below k v)) (ap (λ (l : List ℕ). digitAt k v ∷ l) (spread-digitText k v))
 
-padded-byte : (n v k : ℕ) → k < n → getD (padded n v) k 0 < 58
-padded-byte zero v k h = absurd (not-suc-le-zero h)
-padded-byte (suc n) v zero h = let d = digit-below n v in omega arith
-padded-byte (suc n) v (suc k) h = padded-byte n v k (le-of-suc-le-suc h)
+text-byte : (n v k : ℕ) → k < n → getD (digitText n v) k 0 < 58
+text-byte zero v k h = absurd (not-suc-le-zero h)
+text-byte (suc n) v zero h = let d = digit-below n v in omega arith
+text-byte (suc n) v (suc k) h = text-byte n v k (le-of-suc-le-suc h)
 
 over-byte : (d : ℕ) (negative signed : Bool) → d < 10 → cond signed (overpunch d negative) (48 + d) < 256
 over-byte zero true true h = lit< tt
@@ -79,7 +80,7 @@ over-byte d negative false h = omega arith
 
 module _ (k : ℕ) (negative : Bool) (size : ℕ) (signed : Bool) where
   front : List ℕ
-  front = padded k (size / 10)
+  front = digitText k (size / 10)
 
   b : ℕ
   b = lastByte size negative signed
@@ -90,7 +91,7 @@ module _ (k : ℕ) (negative : Bool) (size : ℕ) (signed : Bool) where
 
   front-length : length front ≡ k
   unfolding front
-  front-length = padded-length k (size / 10)
+  front-length = text-length k (size / 10)
 
   field-length : length field ≡ suc k
   unfolding field
@@ -107,7 +108,7 @@ module _ (k : ℕ) (negative : Bool) (size : ℕ) (signed : Bool) where
   field-digits : digitsBy zone lastDigit field ≡ digitsOf (suc k) size
   unfolding b front
   field-digits =
-      rw (field-front, field-last, spread-padded k (size / 10), last-digit (digitAt 0 size) negative signed (digit-below 0 size)) (digits-snoc k size)
+      rw (field-front, field-last, spread-digitText k (size / 10), last-digit (digitAt 0 size) negative signed (digit-below 0 size)) (digits-snoc k size)
 
   field-read : size < 10 ^ suc k → size < limit → decodeOf field ≡ Of (ltb 0 size && (signed && negative)) size
   unfolding decodeOf fieldOf b
@@ -122,7 +123,7 @@ module _ (k : ℕ) (negative : Bool) (size : ℕ) (signed : Bool) where
       go : Dec (i < k) → getD (front ++ (b ∷ [])) i 0 < 256
       go (yes m) =
           let l = front-length in
-          let p = padded-byte k (size / 10) i m in
+          let p = text-byte k (size / 10) i m in
           rw (List·getD-append front (b ∷ []) 0 i (omega arith)) (omega arith)
       go (no m) =
           let f = field-length in

@@ -13,7 +13,8 @@ use Rattle.lists.proofs.Lists.{map-append}
 use Rattle.ebcdic.specs.Ebcdic.{ontoPage}
 use Rattle.value.specs.Digits.{digitAt, digitsOf}
 use Rattle.value.proofs.Digits.{length-digits}
-use Rattle.display.specs.Display.{padded, roomFor, asciiOf}
+use Rattle.value.specs.Digits.{digitText, asciiOf}
+use Rattle.display.specs.Display.{roomFor}
 use Rattle.zoned.specs.Zoned.{overpunch, lastByte, encodedOf, fitsOf}
 
 pub fits-some : (w size : ℕ) → fitsOf w size ≡ true → 0 < w
@@ -23,8 +24,8 @@ fits-some w size e = by (ltb 0 w) refl e
     by true q r = ltb-true 0 w q
     by false q r = absurd (false≢true r)
 
-pub padded-length : (w size : ℕ) → length (padded w size) ≡ w
-padded-length w size = length-map (digitsOf w size) asciiOf ∙ length-digits w size
+pub text-length : (w size : ℕ) → length (digitText w size) ≡ w
+text-length w size = length-map (digitsOf w size) asciiOf ∙ length-digits w size
 
 -- a store behind the front
 store-last : (front rest : List ℕ) (b : ℕ) → length rest ≡ 1 → set (front ++ rest) (length front) b ≡ front ++ (b ∷ [])
@@ -35,12 +36,12 @@ store-last (x ∷ front) rest b e = ap (λ (l : List ℕ). x ∷ l) (store-last 
 
 -- the part after its first bytes were lent and written, and the last one was stored
 pub written : (page : ℕ) (part new : List ℕ) (size d : ℕ) (negative signed : Bool) (b x : ℕ) → 0 < length part
-    → new ≡ map (ontoPage page) (padded (length (take (length part - 1 - 0) (drop 0 part))) (size / 10)) → d ≡ size % 10 → x ≡ cond signed (overpunch d negative) (48 + d) → b ≡ ontoPage page x
+    → new ≡ map (ontoPage page) (digitText (length (take (length part - 1 - 0) (drop 0 part))) (size / 10)) → d ≡ size % 10 → x ≡ cond signed (overpunch d negative) (48 + d) → b ≡ ontoPage page x
     → set (take 0 part ++ (new ++ drop (length part - 1 - 0) (drop 0 part))) (length part - 1) b ≡ map (ontoPage page) (encodedOf (length part) negative size signed)
 written page part new size d negative signed b x h n e f g =
     let w = length part - 1 in
     let l : length (take (length part - 1 - 0) (drop 0 part)) ≡ length part - 1 = length-take-le (length part - 1 - 0) part (omega arith) ∙ sub-zero (length part - 1) in
-    let m : length new ≡ length part - 1 = ap length n ∙ length-map (padded (length (take (length part - 1 - 0) (drop 0 part))) (size / 10)) (ontoPage page) ∙ padded-length (length (take (length part - 1 - 0) (drop 0 part))) (size / 10) ∙ l in
+    let m : length new ≡ length part - 1 = ap length n ∙ length-map (digitText (length (take (length part - 1 - 0) (drop 0 part))) (size / 10)) (ontoPage page) ∙ text-length (length (take (length part - 1 - 0) (drop 0 part))) (size / 10) ∙ l in
     let r : length (drop (length part - 1 - 0) part) ≡ 1 = length-drop (length part - 1 - 0) part ∙ omega arith in
     let u : digitAt 0 size ≡ size % 10 = ap (λ (v : ℕ). v % 10) (div-one size) in
     ap (λ (k : ℕ). set (new ++ drop (length part - 1 - 0) part) k b) (sym m) ∙ store-last new (drop (length part - 1 - 0) part) b r

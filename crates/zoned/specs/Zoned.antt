@@ -9,7 +9,8 @@ use Rattle.value.specs.declared.Number.the-variants.{Bad}
 use Rattle.value.specs.Digits.{digitAt}
 use Rattle.value.specs.Number.{numberOf}
 use Rattle.value.specs.Field.{fieldOf}
-use Rattle.display.specs.Display.{padded, roomFor}
+use Rattle.value.specs.Digits.{digitText}
+use Rattle.display.specs.Display.{roomFor}
 
 -- a digit's byte, 0x30 to 0x39; any other is no digit, 10 or more
 abbrev pub digitOf : ℕ → ℕ
@@ -56,7 +57,7 @@ lastByte size negative signed = cond signed (overpunch (digitAt 0 size) negative
 
 -- the w low digits of the size, the sign over the last one
 abbrev pub encodedOf : ℕ → Bool → ℕ → Bool → List ℕ
-encodedOf w negative size signed = padded (w - 1) (size / 10) ++ (lastByte size negative signed ∷ [])
+encodedOf w negative size signed = digitText (w - 1) (size / 10) ++ (lastByte size negative signed ∷ [])
 
 -- a field of w bytes has w digits
 abbrev pub fitsOf : ℕ → ℕ → Bool

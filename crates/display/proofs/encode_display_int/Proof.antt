@@ -11,7 +11,7 @@ use lib.ListN.{length, take, drop, getD, set, replicate, length-set, length-appe
 use Rattle.ebcdic.specs.Ebcdic.{ontoPage}
 use lib.Seq.{length-take-le}
 use native.Mathlib.Nat.{sub-zero}
-use Rattle.display.proofs.Writing.{padded-length, lead-separate, trail-separate, separate-width, encode-not, encode-first, encode-last, encode-plain, last-left, last-piece, last-all}
+use Rattle.display.proofs.Writing.{text-length, lead-separate, trail-separate, separate-width, encode-not, encode-first, encode-last, encode-plain, last-left, last-piece, last-all}
 use borrow.Author.Needs.{needs}
 use Rattle.display.proofs.encode_display_int.Statement.{statement}
 use Rattle.display.proofs.encode_display_int.Tie as tie
@@ -29,7 +29,7 @@ slice-write-part : tie.Need-slice-write-part
 slice-write-part c =
     let a = c .before .before .before .before .before .before .before .before .before .args in
     let k = separate-width (length (a .part .now)) (a .negative) (a .size) (a .signed) (a .sign) (lead-separate (a .sign) (c .before .before .before .before .before .if2 .taken)) (sym (c .before .before .before .before .before .before .before .fits-int .ensures) ∙ c .before .before .before .before .before .before .if1 .taken) in
-    let l = ap length (c .before .before .before .zero-pad .ensures) ∙ padded-length (ontoPage (a .page)) (length (a .part .now)) (a .size) in
+    let l = ap length (c .before .before .before .zero-pad .ensures) ∙ text-length (ontoPage (a .page)) (length (a .part .now)) (a .size) in
     omega arith
 
 same-length : tie.Need-same-length
@@ -66,7 +66,7 @@ slice-write-part-2 : tie.Need-slice-write-part-2
 slice-write-part-2 c =
     let a = c .before .before .before .before .before .before .before .before .before .before .args in
     let k = separate-width (length (a .part .now)) (a .negative) (a .size) (a .signed) (a .sign) (trail-separate (a .sign) (c .before .before .before .before .before .if3 .taken)) (sym (c .before .before .before .before .before .before .before .before .fits-int .ensures) ∙ c .before .before .before .before .before .before .before .if1 .taken) in
-    last-all (a .part .now) (c .before .before .before .zero-pad2 .last .0) (omega arith) (ap length (c .before .before .before .zero-pad2 .ensures) ∙ padded-length (ontoPage (a .page)) (length (take (length (a .part .now) - 1 - 0) (a .part .now))) (a .size))
+    last-all (a .part .now) (c .before .before .before .zero-pad2 .last .0) (omega arith) (ap length (c .before .before .before .zero-pad2 .ensures) ∙ text-length (ontoPage (a .page)) (length (take (length (a .part .now) - 1 - 0) (a .part .now))) (a .size))
 
 same-length-2 : tie.Need-same-length-2
 same-length-2 c = search needs

@@ -8,7 +8,8 @@ use native.Mathlib.Numerals.{add-one}
 use borrow.Author.Tests.{lt-ltb, le-ltb, le-leb, lt-leb, eq-eqb, ne-eqb, eqb-true, eqb-false, ltb-true, ltb-false, leb-true, leb-false}
 use lib.Dec.{eqb, leb, ltb}
 use lib.ListN.{length, take, drop, getD, set, replicate, length-set, length-append, length-take, length-drop, length-replicate, length-map}
-use Rattle.edited.specs.Edited.{decodedOf, withSign, negativeOf}
+use Rattle.display.specs.Display.{withSign}
+use Rattle.edited.specs.Edited.{decodedOf, negativeOf}
 use borrow.Author.Needs.{needs}
 use Rattle.edited.proofs.decode.Statement.{statement}
 use Rattle.edited.proofs.decode.Tie as tie

@@ -9,7 +9,8 @@ use borrow.Author.Tests.{lt-ltb, le-ltb, le-leb, lt-leb, eq-eqb, ne-eqb, eqb-tru
 use lib.Dec.{eqb, leb, ltb}
 use lib.ListN.{length, take, drop, getD, set, replicate, length-set, length-append, length-take, length-drop, length-replicate, length-map}
 use borrow.Rule.Slice.PartMut.{same-len-mid}
-use Rattle.text.specs.Shown.{digitText}
+use Rattle.value.specs.Digits.{digitText}
+use Rattle.text.specs.Shown.{}
 use Rattle.text.proofs.Count.{length-text}
 use Rattle.text.proofs.Places.{digits-placed, byte-placed}
 use borrow.Author.Needs.{needs}

@@ -8,7 +8,8 @@ use native.Mathlib.Numerals.{add-one}
 use borrow.Author.Tests.{lt-ltb, le-ltb, le-leb, lt-leb, eq-eqb, ne-eqb, eqb-true, eqb-false, ltb-true, ltb-false, leb-true, leb-false}
 use lib.Dec.{eqb, leb, ltb}
 use lib.ListN.{length, take, drop, getD, set, replicate, length-set, length-append, length-take, length-drop, length-replicate, length-map}
-use Rattle.text.specs.Shown.{digitCount, digitText, placed}
+use Rattle.value.specs.Digits.{digitText}
+use Rattle.text.specs.Shown.{digitCount, placed}
 use Rattle.text.proofs.Count.{count-word, length-text}
 use Rattle.text.proofs.Places.{digits-placed}
 use borrow.Author.Needs.{needs}

@@ -10,7 +10,8 @@ use lib.Dec.{eqb, leb, ltb}
 use lib.ListN.{length, take, drop, getD, set, replicate, length-set, length-append, length-take, length-drop, length-replicate, length-map}
 use Prim.Native.Nat.{_/_}
 use Rattle.text.specs.Text.{front}
-use Rattle.text.specs.Shown.{minusText, wholeText, digitText}
+use Rattle.value.specs.Digits.{digitText}
+use Rattle.text.specs.Shown.{minusText, wholeText}
 use Rattle.text.proofs.Count.{length-text}
 use Rattle.text.proofs.Showing.{length-more, front-more, minus-short, ten-pos, parts-short, decimal-int, decimal-parts}
 use borrow.Author.Needs.{needs}

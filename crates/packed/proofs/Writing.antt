@@ -3,15 +3,17 @@ use mathlib.Core.Path.{_≡_, refl, sym, _∙_, ap}
 use mathlib.Core.List.{List, [], _∷_, _++_}
 use mathlib.Core.Bool.{Bool, true, false, _&&_, cond, true≢false}
 use Prim.Native.Nat.{ℕ, zero, suc, _+_, _-_, _*_, _/_, _%_, _^_, _<_, _≤_}
-use native.Mathlib.Nat.{not-suc-le-zero, le-of-suc-le-suc, div-one}
+use native.Mathlib.Nat.{not-suc-le-zero, le-of-suc-le-suc, div-one, pow-le-pow-right, lt-of-lt-of-le}
 use native.Mathlib.Omega.{arith}
-use lib.Dec.{ltb, leb, eqb}
+use lib.Dec.{ltb, leb, eqb, lit<, lit≤}
 use native.Mathlib.Decide.{decLt}
 use borrow.Author.Tests.{lt-ltb}
 use lib.ListN.{length, getD, take, drop, set, drop-of-length-le}
 use Rattle.lists.proofs.Lists.{drop-set}
 use Rattle.value.specs.Digits.{digitAt, digitsOf}
-use Rattle.value.proofs.Digits.{next-place, two-places, none-left}
+use Rattle.value.specs.Word.{powerTen}
+use Rattle.value.proofs.Word.{power-is}
+use Rattle.value.proofs.Digits.{next-place}
 use Rattle.packed.specs.Packed.{pairs, signOf, encodedOf, fitsOf, writtenOf}
 
 -- the digits that stand from place i of w on
@@ -23,20 +25,21 @@ pub record Written (l : List ℕ) (w size sign i rest : ℕ) : Type 0 where
   pub tail : drop i l ≡ pairs (digitsOf (places w i) size ++ (sign ∷ []))
   pub left : rest ≡ size / 10 ^ places w i
 
-pub written-last : (l : List ℕ) (size sign : ℕ) → 0 < length l
-    → Written (set l (length l - 1) (size % 10 * 16 + sign)) (length l) size sign (length l - 1) (size / 10)
-written-last l size sign h =
+-- the last byte, and what is left of the size
+pub written-last : (l : List ℕ) (size sign d b rest : ℕ) → 0 < length l → d ≡ size % 10 → b ≡ d * 16 + sign → rest ≡ size / 10 → Written (set l (length l - 1) b) (length l) size sign (length l - 1) rest
+written-last l size sign d b rest h ed eb er =
     let e : places (length l) (length l - 1) ≡ 1 = omega arith in
-    record { tail = rw (e, drop-set l (length l - 1) (size % 10 * 16 + sign) (omega arith), drop-of-length-le l {i = suc (length l - 1)} (omega arith), div-one size); left = rw e }
+    record { tail = rw (e, drop-set l (length l - 1) b (omega arith), drop-of-length-le l {i = suc (length l - 1)} (omega arith), eb, ed, div-one size); left = rw e er }
 
-pub written-more : (l : List ℕ) (w size sign i rest : ℕ) → 0 < i → i < w → length l ≡ w → Written l w size sign i rest
-    → Written (set l (i - 1) (rest / 10 % 10 * 16 + rest % 10)) w size sign (i - 1) (rest / 100)
-written-more l w size sign i rest h m k r =
+-- one byte more: tens is what is left without its units
+pub written-more : (l : List ℕ) (w size sign i rest tens low high b next : ℕ) → 0 < i → i < w → length l ≡ w → Written l w size sign i rest
+    → tens ≡ rest / 10 → low ≡ rest % 10 → high ≡ tens % 10 → b ≡ high * 16 + low → next ≡ tens / 10 → Written (set l (i - 1) b) w size sign (i - 1) next
+written-more l w size sign i rest tens low high b next h m k r et el eh eb en =
     let e : places w (i - 1) ≡ suc (suc (places w i)) = omega arith in
     let s : suc (i - 1) ≡ i = omega arith in
     record {
-      tail = rw (e, drop-set l (i - 1) (rest / 10 % 10 * 16 + rest % 10) (omega arith), s, r .tail, r .left, next-place);
-      left = rw (e, r .left, two-places);
+      tail = rw (e, drop-set l (i - 1) b (omega arith), s, r .tail, eb, eh, el, et, r .left, next-place);
+      left = rw (e, en, et, r .left, next-place, next-place);
     }
 
 pub written-all : (l : List ℕ) (w size sign rest : ℕ) → Written l w size sign 0 rest → l ≡ pairs (digitsOf (2 * w - 1) size ++ (sign ∷ []))
@@ -47,13 +50,13 @@ written-all l w size sign rest r = let e : places w 0 ≡ 2 * w - 1 = omega arit
 pub fits-none : (w size : ℕ) → w ≡ 0 → fitsOf w size ≡ false
 fits-none w size e = rw e
 
-pub fits-all : (w size rest : ℕ) → 0 < w → rest ≡ size / 10 ^ (2 * w - 1) → eqb rest 0 ≡ fitsOf w size
-fits-all w size rest h e = rw (e, lt-ltb 0 w h) (none-left (2 * w - 1) size)
+pub fits-ample : (w size : ℕ) → 11 ≤ w → size < 2 ^ 64 → fitsOf w size ≡ true
+fits-ample w size h l =
+    let p : 10 ^ 21 ≤ 10 ^ (2 * w - 1) = pow-le-pow-right {n = 10} (lit< tt) {i = 21} {j = 2 * w - 1} (omega arith) in
+    rw (lt-ltb 0 w (omega arith), lt-ltb size (10 ^ (2 * w - 1)) (lt-of-lt-of-le (lt-of-lt-of-le l (lit≤ tt)) p))
 
-pub rest-more : (size rest k : ℕ) → 0 < k → rest ≡ size / 10 ^ (2 * k - 1) → rest / 100 ≡ size / 10 ^ (2 * (k + 1) - 1)
-rest-more size rest k h e =
-    let s : 2 * (k + 1) - 1 ≡ suc (suc (2 * k - 1)) = omega arith in
-    rw (s, e, two-places)
+pub fits-is : (w size p : ℕ) → 0 < w → w < 11 → p ≡ powerTen (2 * w - 1) → ltb size p ≡ fitsOf w size
+fits-is w size p h k e = rw (e, power-is (2 * w - 1) (omega arith), lt-ltb 0 w h)
 
 pub fits-pos : (w size : ℕ) → fitsOf w size ≡ true → 0 < w
 fits-pos w size h = go (decLt 0 w)

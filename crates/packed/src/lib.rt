@@ -61,13 +61,18 @@ pub fn fits(width: usize, size: u64) -> bool
     if width == 0 {
         return false;
     }
-    let mut rest = size / 10;
-    let mut k = 1;
-    while k < width {
-        rest = rest / 100;
-        k += 1;
+    if width >= 11 {
+        return true;
     }
-    rest == 0
+    size < value::ten_to((2 * width - 1) as u64)
+}
+
+// Two digits in a byte.
+fn pair_of(high: u8, low: u8) -> u8
+    requires { ⌜ (high < 10) × (low < 16) ⌝ }
+    ensures { λ r. ⌜ r ≡ high * 16 + low ⌝ }
+{
+    high * 16 + low
 }
 
 // The low digits of a size and the sign, from the right.
@@ -77,12 +82,13 @@ fn write(part: &mut [u8], size: u64, sign: u8)
 {
     let w = part.len();
     let mut i = w - 1;
-    part[i] = (size % 10) as u8 * 16 + sign;
-    let mut rest = size / 10;
+    part[i] = pair_of(value::last_digit(size), sign);
+    let mut rest = value::drop_digit(size);
     while i > 0 {
         i -= 1;
-        part[i] = (rest / 10 % 10) as u8 * 16 + (rest % 10) as u8;
-        rest = rest / 100;
+        let tens = value::drop_digit(rest);
+        part[i] = pair_of(value::last_digit(tens), value::last_digit(rest));
+        rest = value::drop_digit(tens);
     }
 }
 

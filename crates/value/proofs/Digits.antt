@@ -82,20 +82,6 @@ bad-at f (x ∷ l) zero (suc k) h m e = ok-append (f x) (spread f (take k l)) �
 bad-at f (x ∷ l) (suc i) (suc k) h m e =
     ok-append (f x) (spread f (take k l)) ∙ rw (bad-at f l i k (le-of-suc-le-suc h) (le-of-suc-le-suc m) e) (and-false (digitsOk (f x)))
 
--- dividing by a hundred moves two places on
-pub two-places : (n v : ℕ) → v / 10 ^ n / 100 ≡ v / 10 ^ suc (suc n)
-two-places n v = rw (div-div-eq-div-mul v (10 ^ n) 100, pow-suc 10 (suc n), pow-suc 10 n, mul-assoc (10 ^ n) 10 10)
-
--- a size has at most n digits exactly if nothing is left of it past them
-pub none-left : (n v : ℕ) → eqb (v / 10 ^ n) 0 ≡ ltb v (10 ^ n)
-none-left n v = go (decLt v (10 ^ n))
-  where
-    go : Dec (v < 10 ^ n) → eqb (v / 10 ^ n) 0 ≡ ltb v (10 ^ n)
-    go (yes h) = rw (div-eq-of-lt h, lt-ltb v (10 ^ n) h)
-    go (no h) =
-        let k : 1 ≤ v / 10 ^ n = le-div-iff-mul-le {k = 10 ^ n} {x = 1} {y = v} (pow-pos10 n) .1 (omega arith) in
-        rw (le-ltb v (10 ^ n) (omega arith)) (ne-eqb (v / 10 ^ n) 0 (omega arith))
-
 -- the digits above the units, and the units
 pub digits-snoc : (k v : ℕ) → digitsOf k (v / 10) ++ (digitAt 0 v ∷ []) ≡ digitsOf (suc k) v
 digits-snoc zero v = refl

@@ -1,45 +1,35 @@
+use mathlib.Core.Path.{_≡_, refl, sym, ap, _∙_, subst}
+use mathlib.Core.Bool.{Bool, true, false}
+use mathlib.Core.Logic.{⊎-elim}
+use mathlib.Core.List.{List, [], _∷_, _++_, map, append-nil, append-assoc}
+use Prim.Native.Nat.{ℕ, zero, suc, _+_, _-_, _*_, _≤_, _<_}
+use native.Mathlib.Omega.{arith}
+use native.Mathlib.Numerals.{add-one}
+use borrow.Author.Tests.{lt-ltb, le-ltb, le-leb, lt-leb, eq-eqb, ne-eqb, eqb-true, eqb-false, ltb-true, ltb-false, leb-true, leb-false}
+use lib.Dec.{eqb, leb, ltb}
+use lib.ListN.{length, take, drop, getD, set, replicate, length-set, length-append, length-take, length-drop, length-replicate, length-map}
+use Rattle.packed.proofs.Writing.{fits-none, fits-ample, fits-is}
+use borrow.Author.Needs.{needs}
 use Rattle.packed.proofs.fits.Statement.{statement}
 use Rattle.packed.proofs.fits.Tie as tie
-use Rattle.packed.proofs.fits.Reads as reads
-use Rattle.packed.proofs.fits.Lts as lts
-use mathlib.Core.Path.{_≡_, refl, sym, _∙_, ap}
-use Prim.Native.Nat.{_≤_, _<_, _-_, _*_, _/_, _^_}
-use native.Mathlib.Omega.{arith}
-use borrow.Author.Needs.{needs}
-use Rattle.packed.proofs.Writing.{fits-none, fits-all, rest-more}
 
-abbrev Inv-loop : tie.InvT-loop
-Inv-loop width size rest₀ k₀ rest k = (1 ≤ k) × (k ≤ width) × (rest ≡ size / 10 ^ (2 * k - 1))
+returns : tie.Need-returns
+returns c = sym (fits-none (c .before .args .width) (c .before .args .size) (c .if1 .taken))
 
-abbrev μ-loop : tie.MeasureT-loop
-μ-loop width size rest₀ k₀ rest k = width - k
+returns-2 : tie.Need-returns-2
+returns-2 c = sym (fits-ample (c .before .before .args .width) (c .before .before .args .size) (c .if2 .taken) (omega arith))
 
--- src/lib.rt:63:9
-returns : tie.Need-returns Inv-loop μ-loop
-returns c = sym (fits-none _ (c .before .args .size) (c .if1 .taken))
+mul-ten-to : tie.Need-mul-ten-to
+mul-ten-to c = search needs
 
--- src/lib.rt:67:5
-loop-holds : tie.Need-loop-holds Inv-loop μ-loop
-loop-holds c = (omega arith, omega arith, refl)
+sub-ten-to : tie.Need-sub-ten-to
+sub-ten-to c = search needs
 
--- src/lib.rt:69:9
-add-k : tie.Need-add-k Inv-loop μ-loop
-add-k c = omega arith
+ten-to-requires : tie.Need-ten-to-requires
+ten-to-requires c κs = search needs
 
--- src/lib.rt:67:5
-loop-less : tie.Need-loop-less Inv-loop μ-loop
-loop-less c = omega arith
-
--- src/lib.rt:67:5
-loop-again : tie.Need-loop-again Inv-loop μ-loop
-loop-again c = (omega arith, omega arith, rest-more _ _ _ (omega arith) (c .before .loop .inv .2))
-
--- src/lib.rt:59:1
-returns-2 : tie.Need-returns-2 Inv-loop μ-loop
-returns-2 c =
-    let e : c .before .loop .k ≡ c .before .before .before .args .width = omega arith in
-    fits-all _ _ _ (omega arith) (rw e at (c .before .loop .inv .2))
+returns-3 : tie.Need-returns-3
+returns-3 c = fits-is (c .before .before .before .args .width) (c .before .before .before .args .size) (c .ten-to .result) (omega arith) (c .before .if2 .left) (c .ten-to .ensures)
 
 pub fits-spec : {M : Type 1} → statement M
-fits-spec =
-    tie.close (tie.spec Inv-loop μ-loop returns loop-holds add-k loop-less loop-again returns-2)
+fits-spec = tie.close (tie.spec returns returns-2 mul-ten-to sub-ten-to ten-to-requires returns-3)

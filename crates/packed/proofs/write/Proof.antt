@@ -1,86 +1,76 @@
+use mathlib.Core.Path.{_≡_, refl, sym, ap, _∙_, subst}
+use mathlib.Core.Bool.{Bool, true, false}
+use mathlib.Core.Logic.{⊎-elim}
+use mathlib.Core.List.{List, [], _∷_, _++_, map, append-nil, append-assoc}
+use Prim.Native.Nat.{ℕ, zero, suc, _+_, _-_, _*_, _≤_, _<_}
+use native.Mathlib.Omega.{arith}
+use native.Mathlib.Numerals.{add-one}
+use borrow.Author.Tests.{lt-ltb, le-ltb, le-leb, lt-leb, eq-eqb, ne-eqb, eqb-true, eqb-false, ltb-true, ltb-false, leb-true, leb-false}
+use lib.Dec.{eqb, leb, ltb}
+use lib.ListN.{length, take, drop, getD, set, replicate, length-set, length-append, length-take, length-drop, length-replicate, length-map}
+use borrow.Author.Needs.{needs}
+use Rattle.packed.proofs.Writing.{Written, written-last, written-more, written-all}
 use Rattle.packed.proofs.write.Statement.{statement}
 use Rattle.packed.proofs.write.Tie as tie
-use Rattle.packed.proofs.write.Reads as reads
-use Rattle.packed.proofs.write.Lts as lts
-use mathlib.Core.Path.{_≡_, refl, sym, _∙_, ap}
-use Prim.Native.Nat.{_≤_, _<_, _-_, _*_, _/_, _^_}
-use native.Mathlib.Omega.{arith}
-use borrow.Author.Needs.{needs}
-use lib.ListN.{length, length-set}
-use denote.Ref.{now}
-use Rattle.packed.proofs.Writing.{Written, written-last, written-more, written-all}
 
 abbrev Inv-loop : tie.InvT-loop
-Inv-loop part₀ size sign w i₀ rest₀ part i rest = (i < w) × (length part ≡ w) × Written part w size sign i rest
+Inv-loop part₀ size sign w i₀ rest₀ part i rest = (i < w) × ((length part ≡ w) × Written part w size sign i rest)
 
 abbrev μ-loop : tie.MeasureT-loop
 μ-loop part₀ size sign w i₀ rest₀ part i rest = i
 
--- src/lib.rt:79:17
 sub-i : tie.Need-sub-i Inv-loop μ-loop
 sub-i c = search needs
 
--- src/lib.rt:80:15
-cast-part : tie.Need-cast-part Inv-loop μ-loop
-cast-part c = search needs
+last-digit-requires : tie.Need-last-digit-requires Inv-loop μ-loop
+last-digit-requires c κs = search needs
 
--- src/lib.rt:80:15
-mul-part : tie.Need-mul-part Inv-loop μ-loop
-mul-part c = search needs
+pair-of-requires : tie.Need-pair-of-requires Inv-loop μ-loop
+pair-of-requires c κs = search needs
 
--- src/lib.rt:80:15
-add-part : tie.Need-add-part Inv-loop μ-loop
-add-part c = search needs
-
--- src/lib.rt:80:5
 slice-write-part : tie.Need-slice-write-part Inv-loop μ-loop
 slice-write-part c = search needs
 
--- src/lib.rt:82:5
-loop-holds : tie.Need-loop-holds Inv-loop μ-loop
-loop-holds c = (omega arith, simp length-set, written-last (now (c .args .part)) _ _ (c .pre .0))
+drop-digit-requires : tie.Need-drop-digit-requires Inv-loop μ-loop
+drop-digit-requires c κs = search needs
 
--- src/lib.rt:83:9
+loop-holds : tie.Need-loop-holds Inv-loop μ-loop
+loop-holds c = (omega arith, (simp length-set, written-last (c .before .before .before .before .args .part .now) (c .before .before .before .before .args .size) (c .before .before .before .before .args .sign) (c .before .before .last-digit .result) (c .before .pair-of .result) (c .drop-digit .result) (c .before .before .before .before .pre .0) (c .before .before .last-digit .ensures .0) (c .before .pair-of .ensures) (c .drop-digit .ensures)))
+
 sub-i-2 : tie.Need-sub-i-2 Inv-loop μ-loop
 sub-i-2 c = search needs
 
--- src/lib.rt:84:19
-cast-part-2 : tie.Need-cast-part-2 Inv-loop μ-loop
-cast-part-2 c = search needs
+drop-digit-requires-2 : tie.Need-drop-digit-requires-2 Inv-loop μ-loop
+drop-digit-requires-2 c κs = search needs
 
--- src/lib.rt:84:19
-mul-part-2 : tie.Need-mul-part-2 Inv-loop μ-loop
-mul-part-2 c = search needs
+last-digit-requires-2 : tie.Need-last-digit-requires-2 Inv-loop μ-loop
+last-digit-requires-2 c κs = search needs
 
--- src/lib.rt:84:49
-cast-part-3 : tie.Need-cast-part-3 Inv-loop μ-loop
-cast-part-3 c = search needs
+last-digit-requires-3 : tie.Need-last-digit-requires-3 Inv-loop μ-loop
+last-digit-requires-3 c κs = search needs
 
--- src/lib.rt:84:19
-add-part-2 : tie.Need-add-part-2 Inv-loop μ-loop
-add-part-2 c = search needs
+pair-of-requires-2 : tie.Need-pair-of-requires-2 Inv-loop μ-loop
+pair-of-requires-2 c κs = search needs
 
--- src/lib.rt:84:9
 slice-write-part-2 : tie.Need-slice-write-part-2 Inv-loop μ-loop
 slice-write-part-2 c = search needs
 
--- src/lib.rt:82:5
+drop-digit-requires-3 : tie.Need-drop-digit-requires-3 Inv-loop μ-loop
+drop-digit-requires-3 c κs = search needs
+
 loop-less : tie.Need-loop-less Inv-loop μ-loop
 loop-less c = search needs
 
--- src/lib.rt:82:5
 loop-again : tie.Need-loop-again Inv-loop μ-loop
-loop-again c = (omega arith, simp length-set (c .before .loop .inv .1), written-more _ _ _ _ _ _ (omega arith) (omega arith) (c .before .loop .inv .1) (c .before .loop .inv .2))
+loop-again c = (omega arith, (simp length-set (c .before .before .before .before .before .before .loop .inv .1 .0), written-more (c .before .before .before .before .before .before .loop .part) (length (c .before .before .before .before .before .before .before .before .before .before .before .args .part .now)) (c .before .before .before .before .before .before .before .before .before .before .before .args .size) (c .before .before .before .before .before .before .before .before .before .before .before .args .sign) (c .before .before .before .before .before .before .loop .i) (c .before .before .before .before .before .before .loop .rest) (c .before .before .before .before .drop-digit2 .result) (c .before .before .last-digit3 .result) (c .before .before .before .last-digit2 .result) (c .before .pair-of2 .result) (c .drop-digit3 .result) (c .before .before .before .before .before .loop-test .taken) (c .before .before .before .before .before .before .loop .inv .0) (c .before .before .before .before .before .before .loop .inv .1 .0) (c .before .before .before .before .before .before .loop .inv .1 .1) (c .before .before .before .before .drop-digit2 .ensures) (c .before .before .last-digit3 .ensures .0) (c .before .before .before .last-digit2 .ensures .0) (c .before .pair-of2 .ensures) (c .drop-digit3 .ensures)))
 
--- src/lib.rt:75:1
 same-length : tie.Need-same-length Inv-loop μ-loop
-same-length c = c .before .loop .inv .1
+same-length c = c .before .loop .inv .1 .0
 
--- src/lib.rt:75:1
 returns : tie.Need-returns Inv-loop μ-loop
 returns c =
     let e : c .before .loop .i ≡ 0 = omega arith in
-    written-all _ _ _ _ _ (rw e at (c .before .loop .inv .2))
+    written-all _ _ _ _ _ (rw e at (c .before .loop .inv .1 .1))
 
 pub write-spec : {M : Type 1} → statement M
 write-spec =
@@ -89,17 +79,18 @@ write-spec =
     Inv-loop
     μ-loop
     sub-i
-    cast-part
-    mul-part
-    add-part
+    last-digit-requires
+    pair-of-requires
     slice-write-part
+    drop-digit-requires
     loop-holds
     sub-i-2
-    cast-part-2
-    mul-part-2
-    cast-part-3
-    add-part-2
+    drop-digit-requires-2
+    last-digit-requires-2
+    last-digit-requires-3
+    pair-of-requires-2
     slice-write-part-2
+    drop-digit-requires-3
     loop-less
     loop-again
     same-length

@@ -45,15 +45,7 @@ pub fn read_short(t: &mut Tally) {
                     read(t, &k, page, &[a]);
                 }
             }
-            // two bytes: all of them where the kind looks at both
-            let twos = match k.kind {
-                3 => k.q == 16,
-                5 => page == 0,
-                0 | 4 => false,
-                7 => k.q < 3,
-                _ => true,
-            };
-            if twos && (k.kind == 3 || page == 0 || k.kind == 7) {
+            if k.kind != 3 || k.q == 16 {
                 for a in 0..=255u8 {
                     for b in 0..=255u8 {
                         read(t, &k, page, &[a, b]);

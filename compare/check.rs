@@ -236,7 +236,7 @@ pub fn read(t: &mut Tally, k: &Kind, pg: u32, part: &[u8]) {
         (Ok((a, _)), Ok(b)) if same(a, b) => Seen::Same,
         (Err(8), Err(_)) | (Err(9), Err(_)) => Seen::Same,
         (Ok((Value::Float(a), _)), Ok(Value::Float(b))) if a.is_nan() && b.is_nan() && k.q != 64 && a.to_bits() == 0x7FF8_0000_0000_0000 => Seen::Listed("NaN of 16 or 32 bits reads as 0x7FF8000000000000"),
-        (Ok((Value::Text(_), _)), Ok(Value::Text(_))) if k.kind == 0 && high => Seen::Listed("bytes from 0x80 are kept in Text"),
+        (Ok((Value::Text(a), _)), Ok(Value::Text(_))) if k.kind == 0 && high && *a == bytes_kept(k, &ascii) => Seen::Listed("bytes from 0x80 are kept in Text"),
         (Err(8), Ok(_)) if matches!(k.kind, 1 | 7 | 8) && k.p_is_text() && high => Seen::Listed("bytes from 0x80 refused in Int, Display, Edited (8)"),
         (Err(9), Ok(Value::Decimal { unscaled, .. })) if unscaled.abs() >= LIMIT => Seen::Listed("Decimal sizes from 10^18 (9)"),
         (Err(9), Ok(Value::Int(n))) if k.kind == 2 && k.q == 0 && *n < 0 => Seen::Listed("unsigned Binary from 2^63 (9)"),
@@ -245,6 +245,18 @@ pub fn read(t: &mut Tally, k: &Kind, pg: u32, part: &[u8]) {
         (a, b) => Seen::Other(format!("port {:?}, Rust {:?}", a.as_ref().map(|x| &x.0), b)),
     };
     t.note(group, ours.as_ref().err().copied().unwrap_or(0), seen, part.len(), || format!("reading {} {k:?} page {pg} bytes {part:02x?}", NAMES[k.kind as usize]));
+}
+
+/// A Text field's text where bytes are kept as they are: a pad is cut at the unjustified end, then all from the first 0 byte on.
+fn bytes_kept(k: &Kind, ascii: &[u8]) -> String {
+    let s: String = ascii.iter().map(|&b| b as char).collect();
+    let pad = k.r as u8 as char;
+    let cut = match (k.q != 0, k.p != 0) {
+        (false, _) => return s,
+        (true, true) => s.trim_start_matches(pad),
+        (true, false) => s.trim_end_matches(pad),
+    };
+    cut.split('\0').next().unwrap_or("").to_string()
 }
 
 impl Kind {

@@ -1,0 +1,60 @@
+use mathlib.Core.Path.{_≡_, refl, sym, ap, _∙_, subst}
+use mathlib.Core.Bool.{Bool, true, false}
+use mathlib.Core.Logic.{⊎-elim}
+use mathlib.Core.List.{List, [], _∷_, _++_, map, append-nil, append-assoc}
+use Prim.Native.Nat.{ℕ, zero, suc, _+_, _-_, _*_, _≤_, _<_}
+use native.Mathlib.Omega.{arith}
+use native.Mathlib.Numerals.{add-one}
+use borrow.Author.Tests.{lt-ltb, le-ltb, le-leb, lt-leb, eq-eqb, ne-eqb, eqb-true, eqb-false, ltb-true, ltb-false, leb-true, leb-false}
+use lib.Dec.{eqb, leb, ltb}
+use lib.ListN.{length, take, drop, getD, set, replicate, length-set, length-append, length-take, length-drop, length-replicate, length-map}
+use borrow.Author.Needs.{needs}
+use Rattle.items.specs.Items.{values, lookup}
+use Rattle.items.proofs.Items.{lookup-hit, lookup-more, lookup-none}
+use Rattle.items.proofs.find.Statement.{statement}
+use Rattle.items.proofs.find.Tie as tie
+
+abbrev Inv-loop : tie.InvT-loop
+Inv-loop items name from to i₀ i = lookup name (values items from to) ≡ lookup name (values items i to)
+
+abbrev μ-loop : tie.MeasureT-loop
+μ-loop items name from to i₀ i = to - i
+
+loop-holds : tie.Need-loop-holds Inv-loop μ-loop
+loop-holds c = refl
+
+fetch-requires : tie.Need-fetch-requires Inv-loop μ-loop
+fetch-requires c κs = search needs
+
+returns : tie.Need-returns Inv-loop μ-loop
+returns c = (omega arith, c .before .before .before .before .loop .inv ∙ lookup-hit _ _ _ (c .before .before .fetch .result) _ _ (c .before .before .fetch .ensures) refl refl _ (c .before .before .before .loop-test .taken) (c .if1 .taken))
+
+span-of-requires : tie.Need-span-of-requires Inv-loop μ-loop
+span-of-requires c κs = search needs
+
+end-of-requires : tie.Need-end-of-requires Inv-loop μ-loop
+end-of-requires c κs = search needs
+
+loop-less : tie.Need-loop-less Inv-loop μ-loop
+loop-less c = search needs
+
+loop-again : tie.Need-loop-again Inv-loop μ-loop
+loop-again c = c .before .before .before .before .before .before .loop .inv ∙ lookup-more _ _ _ (c .before .before .before .before .fetch .result) _ _ (c .before .before .before .before .fetch .ensures) (c .before .span-of .ensures) (c .end-of .ensures) _ (c .before .before .before .before .before .loop-test .taken) (c .before .before .if1 .left)
+
+returns-2 : tie.Need-returns-2 Inv-loop μ-loop
+returns-2 c = (omega arith, c .before .loop .inv ∙ lookup-none _ _ _ _ (c .loop-test .left))
+
+pub find-spec : {M : Type 1} → statement M
+find-spec =
+    tie.close
+    (tie.spec
+    Inv-loop
+    μ-loop
+    loop-holds
+    fetch-requires
+    returns
+    span-of-requires
+    end-of-requires
+    loop-less
+    loop-again
+    returns-2)

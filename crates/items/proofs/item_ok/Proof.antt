@@ -1,0 +1,38 @@
+use mathlib.Core.Path.{_≡_, refl, sym, ap, _∙_, subst}
+use mathlib.Core.Bool.{Bool, true, false}
+use mathlib.Core.Logic.{⊎-elim}
+use mathlib.Core.List.{List, [], _∷_, _++_, map, append-nil, append-assoc}
+use Prim.Native.Nat.{ℕ, zero, suc, _+_, _-_, _*_, _≤_, _<_}
+use native.Mathlib.Omega.{arith}
+use native.Mathlib.Numerals.{add-one}
+use borrow.Author.Tests.{lt-ltb, le-ltb, le-leb, lt-leb, eq-eqb, ne-eqb, eqb-true, eqb-false, ltb-true, ltb-false, leb-true, leb-false}
+use lib.Dec.{eqb, leb, ltb}
+use lib.ListN.{length, take, drop, getD, set, replicate, length-set, length-append, length-take, length-drop, length-replicate, length-map}
+use Rattle.items.proofs.Lawful.{item-name, item-scalar, item-holder}
+use borrow.Author.Tests.{not-true, not-false}
+use borrow.Author.Needs.{needs}
+use Rattle.items.proofs.item_ok.Statement.{statement}
+use Rattle.items.proofs.item_ok.Tie as tie
+
+name-ok-requires : tie.Need-name-ok-requires
+name-ok-requires c κs = search needs
+
+returns : tie.Need-returns
+returns c = item-name _ _ _ _ _ (sym (c .before .name-ok .ensures) ∙ not-true _ (c .if1 .taken))
+
+scalar-ok-requires : tie.Need-scalar-ok-requires
+scalar-ok-requires c κs = search needs
+
+returns-2 : tie.Need-returns-2
+returns-2 c = item-scalar _ _ _ _ _ (sym (c .before .before .before .name-ok .ensures) ∙ not-false _ (c .before .before .if1 .left)) (sym (c .before .scalar-ok .ensures) ∙ c .if2 .taken)
+
+holder-ok-requires : tie.Need-holder-ok-requires
+holder-ok-requires c κs = search needs
+
+returns-3 : tie.Need-returns-3
+returns-3 c = c .holder-ok .ensures ∙ item-holder _ _ _ _ _ (sym (c .before .before .before .before .name-ok .ensures) ∙ not-false _ (c .before .before .before .if1 .left)) (sym (c .before .before .scalar-ok .ensures) ∙ c .before .if2 .left)
+
+pub item-ok-spec : {M : Type 1} → statement M
+item-ok-spec =
+    tie.close
+    (tie.spec name-ok-requires returns scalar-ok-requires returns-2 holder-ok-requires returns-3)

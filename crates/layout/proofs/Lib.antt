@@ -1,0 +1,3 @@
+pub mod Judged
+pub mod Laws
+pub mod Lawful

@@ -1,0 +1,87 @@
+use mathlib.Core.Path.{_≡_, refl, sym, ap, _∙_, subst}
+use mathlib.Core.Bool.{Bool, true, false}
+use mathlib.Core.Logic.{⊎-elim}
+use mathlib.Core.List.{List, [], _∷_, _++_, map, append-nil, append-assoc}
+use Prim.Native.Nat.{ℕ, zero, suc, _+_, _-_, _*_, _≤_, _<_}
+use native.Mathlib.Omega.{arith}
+use native.Mathlib.Numerals.{add-one}
+use borrow.Author.Tests.{lt-ltb, le-ltb, le-leb, lt-leb, eq-eqb, ne-eqb, eqb-true, eqb-false, ltb-true, ltb-false, leb-true, leb-false}
+use lib.Dec.{eqb, leb, ltb}
+use lib.ListN.{length, take, drop, getD, set, replicate, length-set, length-append, length-take, length-drop, length-replicate, length-map}
+use borrow.Author.Needs.{needs}
+use native.Mathlib.Nat.{zero-add}
+use Prim.Native.Nat.{min}
+use Rattle.lines.specs.Lines.{lineFrom}
+use Rattle.lines.specs.Names.{sameName, placeIn, namesAt}
+use Rattle.lines.proofs.Sight.{place-go, place-stop, place-end}
+use Rattle.lines.proofs.find_name.Statement.{statement}
+use Rattle.lines.proofs.find_name.Tie as tie
+
+abbrev Inv-loop : tie.InvT-loop
+Inv-loop text starts count name k₀ k = ((k ≤ count) × (k ≤ length starts)) × (placeIn name (namesAt text starts count) ≡ k + placeIn name (drop k (namesAt text starts count)))
+
+abbrev μ-loop : tie.MeasureT-loop
+μ-loop text starts count name k₀ k = count - k
+
+loop-holds : tie.Need-loop-holds Inv-loop μ-loop
+loop-holds c = ((omega arith, omega arith), sym (zero-add _))
+
+returns : tie.Need-returns Inv-loop μ-loop
+returns c =
+    let a = c .before .before .before .before .before .before .args in
+    sym (c .before .before .loop .inv .1 ∙ place-end (a .text .now) (a .starts .now) (a .count) (c .before .before .loop .k) (a .name .now) (omega arith))
+
+mul-wide : tie.Need-mul-wide Inv-loop μ-loop
+mul-wide c = search needs
+
+shared-slice-read-wide : tie.Need-shared-slice-read-wide Inv-loop μ-loop
+shared-slice-read-wide c = search needs
+
+wide-requires : tie.Need-wide-requires Inv-loop μ-loop
+wide-requires c κs = search needs
+
+name-at-requires : tie.Need-name-at-requires Inv-loop μ-loop
+name-at-requires c κs = search needs
+
+same-name-requires : tie.Need-same-name-requires Inv-loop μ-loop
+same-name-requires c κs = search needs
+
+returns-2 : tie.Need-returns-2 Inv-loop μ-loop
+returns-2 c =
+    let a = c .before .before .before .before .before .before .before .before .before .before .before .args in
+    sym (c .before .before .before .before .before .before .before .loop .inv .1 ∙ place-stop (a .text .now) (a .starts .now) (a .count) (c .before .before .before .before .before .before .before .loop .k) (a .name .now) (c .before .before .before .before .before .before .loop-test .taken) (c .before .before .before .before .before .if1 .left) (ap (sameName (a .name .now)) (sym (c .before .before .name-at .ensures ∙ ap (lineFrom (a .text .now)) (c .before .before .before .wide .ensures))) ∙ sym (c .before .same-name .ensures) ∙ c .if2 .taken))
+
+add-k : tie.Need-add-k Inv-loop μ-loop
+add-k c = search needs
+
+loop-less : tie.Need-loop-less Inv-loop μ-loop
+loop-less c = search needs
+
+loop-again : tie.Need-loop-again Inv-loop μ-loop
+loop-again c =
+    let a = c .before .before .before .before .before .before .before .before .before .before .before .args in
+    ((omega arith, omega arith), c .before .before .before .before .before .before .before .loop .inv .1 ∙ place-go (a .text .now) (a .starts .now) (a .count) (c .before .before .before .before .before .before .before .loop .k) (a .name .now) (c .before .before .before .before .before .before .loop-test .taken) (c .before .before .before .before .before .if1 .left) (ap (sameName (a .name .now)) (sym (c .before .before .name-at .ensures ∙ ap (lineFrom (a .text .now)) (c .before .before .before .wide .ensures))) ∙ sym (c .before .same-name .ensures) ∙ c .if2 .left))
+
+returns-3 : tie.Need-returns-3 Inv-loop μ-loop
+returns-3 c =
+    let a = c .before .before .before .before .before .args in
+    sym (c .before .loop .inv .1 ∙ place-end (a .text .now) (a .starts .now) (a .count) (c .before .loop .k) (a .name .now) (omega arith))
+
+pub find-name-spec : {M : Type 1} → statement M
+find-name-spec =
+    tie.close
+    (tie.spec
+    Inv-loop
+    μ-loop
+    loop-holds
+    returns
+    mul-wide
+    shared-slice-read-wide
+    wide-requires
+    name-at-requires
+    same-name-requires
+    returns-2
+    add-k
+    loop-less
+    loop-again
+    returns-3)

@@ -1,0 +1,67 @@
+use mathlib.Core.Path.{_≡_, refl, sym, ap, _∙_, subst}
+use mathlib.Core.Bool.{Bool, true, false}
+use mathlib.Core.Logic.{⊎-elim}
+use mathlib.Core.List.{List, [], _∷_, _++_, map, append-nil, append-assoc}
+use Prim.Native.Nat.{ℕ, zero, suc, _+_, _-_, _*_, _≤_, _<_}
+use native.Mathlib.Omega.{arith}
+use native.Mathlib.Numerals.{add-one}
+use borrow.Author.Tests.{lt-ltb, le-ltb, le-leb, lt-leb, eq-eqb, ne-eqb, eqb-true, eqb-false, ltb-true, ltb-false, leb-true, leb-false}
+use lib.Dec.{eqb, leb, ltb}
+use lib.ListN.{length, take, drop, getD, set, replicate, length-set, length-append, length-take, length-drop, length-replicate, length-map}
+use Rattle.lines.proofs.Laws.{line-is, none-past}
+use borrow.Author.Needs.{needs}
+use Rattle.lines.proofs.name_at.Statement.{statement}
+use Rattle.lines.proofs.name_at.Tie as tie
+
+sub-result : tie.Need-sub-result
+sub-result c = search needs
+
+part-result-start : tie.Need-part-result-start
+part-result-start c = search needs
+
+part-result-end : tie.Need-part-result-end
+part-result-end c = search needs
+
+returns : tie.Need-returns
+returns c = none-past (c .before .before .before .args .text .now) (c .before .before .before .args .at) (c .before .if1 .taken)
+
+sub-rest : tie.Need-sub-rest
+sub-rest c = search needs
+
+part-rest-start : tie.Need-part-rest-start
+part-rest-start c = search needs
+
+part-rest-end : tie.Need-part-rest-end
+part-rest-end c = search needs
+
+line-end-requires : tie.Need-line-end-requires
+line-end-requires c κs = search needs
+
+sub-result-2 : tie.Need-sub-result-2
+sub-result-2 c = search needs
+
+part-result-start-2 : tie.Need-part-result-start-2
+part-result-start-2 c = search needs
+
+part-result-end-2 : tie.Need-part-result-end-2
+part-result-end-2 c = search needs
+
+returns-2 : tie.Need-returns-2
+returns-2 c = line-is (c .before .before .before .before .before .args .text .now) (c .before .before .before .before .before .args .at) (c .before .line-end .result) (c .before .line-end .ensures .1)
+
+pub name-at-spec : {M : Type 1} → statement M
+name-at-spec =
+    tie.close
+    (tie.spec
+    sub-result
+    part-result-start
+    part-result-end
+    returns
+    sub-rest
+    part-rest-start
+    part-rest-end
+    line-end-requires
+    sub-result-2
+    part-result-start-2
+    part-result-end-2
+    returns-2)

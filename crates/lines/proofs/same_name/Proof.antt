@@ -1,0 +1,72 @@
+use mathlib.Core.Path.{_≡_, refl, sym, ap, _∙_, subst}
+use mathlib.Core.Bool.{Bool, true, false}
+use mathlib.Core.Logic.{⊎-elim}
+use mathlib.Core.List.{List, [], _∷_, _++_, map, append-nil, append-assoc}
+use Prim.Native.Nat.{ℕ, zero, suc, _+_, _-_, _*_, _≤_, _<_}
+use native.Mathlib.Omega.{arith}
+use native.Mathlib.Numerals.{add-one}
+use borrow.Author.Tests.{lt-ltb, le-ltb, le-leb, lt-leb, eq-eqb, ne-eqb, eqb-true, eqb-false, ltb-true, ltb-false, leb-true, leb-false}
+use lib.Dec.{eqb, leb, ltb}
+use lib.ListN.{length, take, drop, getD, set, replicate, length-set, length-append, length-take, length-drop, length-replicate, length-map}
+use borrow.Author.Needs.{needs}
+use Rattle.lines.specs.Names.{sameName, foldOf}
+use Rattle.lines.proofs.Sight.{same-short, same-go, same-stop, same-end}
+use Rattle.lines.proofs.same_name.Statement.{statement}
+use Rattle.lines.proofs.same_name.Tie as tie
+
+abbrev Inv-loop : tie.InvT-loop
+Inv-loop a b i₀ i = (i ≤ length a) × ((length a ≡ length b) × (sameName a b ≡ sameName (drop i a) (drop i b)))
+
+abbrev μ-loop : tie.MeasureT-loop
+μ-loop a b i₀ i = length a - i
+
+returns : tie.Need-returns Inv-loop μ-loop
+returns c = sym (same-short (c .before .before .before .args .a .now) (c .before .before .before .args .b .now) (c .if1 .taken))
+
+loop-holds : tie.Need-loop-holds Inv-loop μ-loop
+loop-holds c = (omega arith, (c .if1 .left, refl))
+
+shared-slice-read-fold : tie.Need-shared-slice-read-fold Inv-loop μ-loop
+shared-slice-read-fold c = search needs
+
+fold-requires : tie.Need-fold-requires Inv-loop μ-loop
+fold-requires c κs = search needs
+
+shared-slice-read-fold-2 : tie.Need-shared-slice-read-fold-2 Inv-loop μ-loop
+shared-slice-read-fold-2 c = search needs
+
+fold-requires-2 : tie.Need-fold-requires-2 Inv-loop μ-loop
+fold-requires-2 c κs = search needs
+
+returns-2 : tie.Need-returns-2 Inv-loop μ-loop
+returns-2 c = sym (c .before .before .before .before .before .before .loop .inv .1 .1 ∙ same-stop (c .before .before .before .before .before .before .before .before .before .before .args .a .now) (c .before .before .before .before .before .before .before .before .before .before .args .b .now) (c .before .before .before .before .before .before .loop .i) (c .before .before .before .before .before .loop-test .taken) (omega arith) (λ q. c .if2 .taken (c .before .before .before .fold .ensures ∙ q ∙ sym (c .before .fold2 .ensures))))
+
+add-i : tie.Need-add-i Inv-loop μ-loop
+add-i c = search needs
+
+loop-less : tie.Need-loop-less Inv-loop μ-loop
+loop-less c = search needs
+
+loop-again : tie.Need-loop-again Inv-loop μ-loop
+loop-again c = (omega arith, (c .before .before .before .before .before .before .loop .inv .1 .0, c .before .before .before .before .before .before .loop .inv .1 .1 ∙ same-go (c .before .before .before .before .before .before .before .before .before .before .args .a .now) (c .before .before .before .before .before .before .before .before .before .before .args .b .now) (c .before .before .before .before .before .before .loop .i) (c .before .before .before .before .before .loop-test .taken) (omega arith) (sym (c .before .before .before .fold .ensures) ∙ c .if2 .left ∙ c .before .fold2 .ensures)))
+
+returns-3 : tie.Need-returns-3 Inv-loop μ-loop
+returns-3 c = sym (c .before .loop .inv .1 .1 ∙ same-end (c .before .before .before .before .before .args .a .now) (c .before .before .before .before .before .args .b .now) (c .before .loop .i) (c .loop-test .left) (omega arith))
+
+pub same-name-spec : {M : Type 1} → statement M
+same-name-spec =
+    tie.close
+    (tie.spec
+    Inv-loop
+    μ-loop
+    returns
+    loop-holds
+    shared-slice-read-fold
+    fold-requires
+    shared-slice-read-fold-2
+    fold-requires-2
+    returns-2
+    add-i
+    loop-less
+    loop-again
+    returns-3)

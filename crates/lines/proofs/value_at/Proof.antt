@@ -1,0 +1,83 @@
+use mathlib.Core.Path.{_≡_, refl, sym, ap, _∙_, subst}
+use mathlib.Core.Bool.{Bool, true, false}
+use mathlib.Core.Logic.{⊎-elim}
+use mathlib.Core.List.{List, [], _∷_, _++_, map, append-nil, append-assoc}
+use Prim.Native.Nat.{ℕ, zero, suc, _+_, _-_, _*_, _≤_, _<_}
+use native.Mathlib.Omega.{arith}
+use native.Mathlib.Numerals.{add-one}
+use borrow.Author.Tests.{lt-ltb, le-ltb, le-leb, lt-leb, eq-eqb, ne-eqb, eqb-true, eqb-false, ltb-true, ltb-false, leb-true, leb-false}
+use lib.Dec.{eqb, leb, ltb}
+use lib.ListN.{length, take, drop, getD, set, replicate, length-set, length-append, length-take, length-drop, length-replicate, length-map}
+use Rattle.lines.proofs.Laws.{starts-long, line-open, line-other, line-found, line-past}
+use borrow.Author.Needs.{needs}
+use Rattle.lines.proofs.value_at.Statement.{statement}
+use Rattle.lines.proofs.value_at.Tie as tie
+
+returns : tie.Need-returns
+returns c = line-past (c .before .before .before .args .word .now) (c .before .before .before .args .text .now) (c .before .before .before .args .at) (c .if1 .taken)
+
+sub-rest : tie.Need-sub-rest
+sub-rest c = search needs
+
+part-rest-start : tie.Need-part-rest-start
+part-rest-start c = search needs
+
+part-rest-end : tie.Need-part-rest-end
+part-rest-end c = search needs
+
+line-end-requires : tie.Need-line-end-requires
+line-end-requires c κs = search needs
+
+returns-2 : tie.Need-returns-2
+returns-2 c = line-open (c .before .before .before .before .before .before .args .text .now) (c .before .before .before .before .before .before .args .at) (c .before .line-end .result) (c .before .line-end .ensures .1) (c .before .line-end .ensures .0) (c .before .before .before .before .before .before .args .word .now) (c .if2 .taken)
+
+sub-line : tie.Need-sub-line
+sub-line c = search needs
+
+part-line-start : tie.Need-part-line-start
+part-line-start c = search needs
+
+part-line-end : tie.Need-part-line-end
+part-line-end c = search needs
+
+starts-with-requires : tie.Need-starts-with-requires
+starts-with-requires c κs = search needs
+
+add-t15 : tie.Need-add-t15
+add-t15 c = search needs
+
+add-t16 : tie.Need-add-t16
+add-t16 c = search needs
+
+add-t17 : tie.Need-add-t17
+add-t17 c = search needs
+
+add-t18 : tie.Need-add-t18
+add-t18 c = search needs
+
+returns-3 : tie.Need-returns-3
+returns-3 c = line-found (c .before .before .before .before .before .before .before .before .before .args .text .now) (c .before .before .before .before .before .before .before .before .before .args .at) (c .before .before .before .before .line-end .result) (c .before .before .before .before .line-end .ensures .1) (c .before .before .before .before .line-end .ensures .0) (c .before .before .before .before .before .before .before .before .before .args .word .now) (c .before .before .before .if2 .left) (sym (c .before .starts-with .ensures) ∙ c .if3 .taken)
+
+returns-4 : tie.Need-returns-4
+returns-4 c = line-other (c .before .before .before .before .before .before .before .before .before .args .text .now) (c .before .before .before .before .before .before .before .before .before .args .at) (c .before .before .before .before .line-end .result) (c .before .before .before .before .line-end .ensures .1) (c .before .before .before .before .line-end .ensures .0) (c .before .before .before .before .before .before .before .before .before .args .word .now) (c .before .before .before .if2 .left) (sym (c .before .starts-with .ensures) ∙ c .if3 .left)
+
+pub value-at-spec : {M : Type 1} → statement M
+value-at-spec =
+    tie.close
+    (tie.spec
+    returns
+    sub-rest
+    part-rest-start
+    part-rest-end
+    line-end-requires
+    returns-2
+    sub-line
+    part-line-start
+    part-line-end
+    starts-with-requires
+    add-t15
+    add-t16
+    add-t17
+    add-t18
+    returns-3
+    returns-4)

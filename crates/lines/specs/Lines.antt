@@ -1,0 +1,80 @@
+-- The lines of a layout's text form: "lines `word=value`, each ended by 0x0A". A word is given with its `=`.
+use Prim.Native.Nat.{ℕ, _+_, _-_}
+use mathlib.Core.Bool.{Bool, true, false, not, _&&_, _||_, cond}
+use mathlib.Core.List.{List, [], _∷_, map}
+use lib.ListN.{length, drop}
+use lib.Dec.{eqb, leb, ltb}
+use Rattle.lists.specs.Scan.{beforeBy, everyBy}
+use Rattle.value.specs.Digits.{valueOf}
+use Rattle.lines.specs.declared.Found.{Found}
+use Rattle.lines.specs.declared.Found.the-variants.{At, Unlawful}
+use Rattle.lines.specs.declared.Parsed.{Parsed}
+use Rattle.lines.specs.declared.Parsed.the-variants.{Value, Bad}
+
+abbrev pub isEnd : ℕ → Bool
+isEnd x = eqb x 0x0A
+
+-- the bytes from a position up to the next 0x0A, or to the text's end where there is none
+abbrev pub lineFrom : List ℕ → ℕ → List ℕ
+lineFrom text at = beforeBy isEnd (drop at text)
+
+-- "each ended by 0x0A": it stands there
+abbrev pub endsIn : List ℕ → ℕ → Bool
+endsIn text at = ltb (length (lineFrom text at)) (length (drop at text))
+
+unfoldable pub startsWith : List ℕ → List ℕ → Bool
+startsWith [] s = true
+startsWith (w ∷ ws) [] = false
+startsWith (w ∷ ws) (x ∷ s) = eqb x w && startsWith ws s
+
+-- "`word=value`": where the value starts and where it ends, and where the next line starts
+unfoldable pub valueAt : List ℕ → List ℕ → ℕ → Found
+valueAt word text at =
+    cond (endsIn text at && startsWith word (lineFrom text at))
+    (At (at + length word) (at + length (lineFrom text at)) (at + length (lineFrom text at) + 1))
+    Unlawful
+
+-- ---- numbers
+
+abbrev pub isDigit : ℕ → Bool
+isDigit x = leb 0x30 x && leb x 0x39
+
+abbrev pub digitIn : ℕ → ℕ
+digitIn x = x - 0x30
+
+-- "numbers decimal without leading zeros": one byte or more, and no 0 before others
+abbrev pub leads : List ℕ → Bool
+leads [] = false
+leads (x ∷ []) = true
+leads (x ∷ y ∷ s) = not (eqb x 0x30)
+
+-- "Numbers are below 4294967295."
+abbrev pub bound : ℕ
+bound = 4294967295
+
+-- the number that the digits of a text spell
+abbrev pub spelled : List ℕ → ℕ
+spelled s = valueOf (map digitIn s)
+
+unfoldable pub numberOf : List ℕ → Parsed
+numberOf s = cond (leads s && (everyBy isDigit s && ltb (spelled s) bound)) (Value (spelled s)) Bad
+
+-- ---- names and masks
+
+abbrev pub isLetter : ℕ → Bool
+isLetter x = (leb 0x41 x && leb x 0x5A) || (leb 0x61 x && leb x 0x7A)
+
+-- "letters, digits, hyphens"
+abbrev pub inName : ℕ → Bool
+inName x = isLetter x || (isDigit x || eqb x 0x2D)
+
+-- "1 to 30 letters, digits, hyphens"
+abbrev pub nameOk : List ℕ → Bool
+nameOk s = (leb 1 (length s) && leb (length s) 30) && everyBy inName s
+
+abbrev pub inMask : ℕ → Bool
+inMask x = leb 0x20 x && leb x 0x7E
+
+-- "bytes 0x20 to 0x7E"
+abbrev pub maskOk : List ℕ → Bool
+maskOk s = everyBy inMask s

@@ -10,7 +10,7 @@ use lib.ListN.{length, getD, take, drop, length-map, length-append}
 use borrow.Author.Tests.{lt-ltb, le-ltb, lt-leb, le-leb, eq-eqb, ne-eqb, eqb-true, eqb-false}
 use Rattle.value.specs.declared.Number.{Number}
 use Rattle.value.specs.declared.Number.the-variants.{Of, Bad, Big}
-use Rattle.value.specs.Digits.{valueOf, digitAt, digitsOf, limit}
+use Rattle.value.specs.Digits.{valueOf, digitAt, digitsOf, limit, isDigit, digitIn}
 use Rattle.value.specs.Number.{numberIn}
 use Rattle.value.specs.Field.{lastOf}
 use Rattle.value.proofs.Digits.{digit-below, length-digits, value-of-digits}
@@ -20,7 +20,7 @@ use Rattle.lists.proofs.Scan.{left-kept, right-kept, keep-every}
 use Rattle.lists.proofs.Lists.{getD-map}
 use Rattle.ebcdic.specs.Ebcdic.{fromPage, ontoPage}
 use Rattle.ebcdic.proofs.Laws.{bytes-back, onto-byte}
-use Rattle.display.specs.Display.{isBlank, trimmed, isDigit, digitIn, isAscii, keptOf, withSign, isSeparate, isSign, signAt, restOf, digitsIn, wholeOf, intIn, intOf, decimalOf}
+use Rattle.display.specs.Display.{isBlank, trimmed, isAscii, keptOf, withSign, isSeparate, isSign, signAt, restOf, digitsIn, wholeOf, intIn, intOf, decimalOf}
 use Rattle.value.specs.Digits.{asciiOf, digitText}
 use Rattle.display.specs.Display.{roomFor, signByte, intFits, intBytes, hasSign, decimalFits}
 use Rattle.display.proofs.Writing.{room-some, room-below, separate-width}

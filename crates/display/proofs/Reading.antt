@@ -11,13 +11,13 @@ use lib.Seq.{drop-cons}
 use borrow.Author.Tests.{lt-ltb, le-ltb}
 use Rattle.value.specs.declared.Number.{Number}
 use Rattle.value.specs.declared.Number.the-variants.{Of, Bad, Big}
-use Rattle.value.specs.Digits.{valueFrom, valueOf, limit, capped}
+use Rattle.value.specs.Digits.{valueFrom, valueOf, limit, capped, isDigit, digitIn}
 use Rattle.value.specs.Number.{numberIn, numberOf}
 use Rattle.value.proofs.Answers.{numberIn-capped}
 use Rattle.lists.specs.Scan.{leftBy, rightBy, keepBy, everyBy}
 use Rattle.lists.proofs.Scan.{map-left, map-right, both-ends}
 use Rattle.ebcdic.specs.Ebcdic.{fromPage}
-use Rattle.display.specs.Display.{isBlank, trimmed, isDigit, digitIn, isAscii, keptOf, digitsIn}
+use Rattle.display.specs.Display.{isBlank, trimmed, isAscii, keptOf, digitsIn}
 
 -- the blanks of a page
 abbrev pub blankOn : ℕ → ℕ → Bool

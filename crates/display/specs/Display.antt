@@ -6,7 +6,7 @@ use lib.Dec.{ltb, leb, eqb}
 use lib.ListN.{length, getD, take, drop}
 use Rattle.value.specs.declared.Number.{Number}
 use Rattle.value.specs.declared.Number.the-variants.{Of, Bad, Big}
-use Rattle.value.specs.Digits.{valueOf, digitText}
+use Rattle.value.specs.Digits.{valueOf, digitText, isDigit, digitIn}
 use Rattle.value.specs.Number.{numberIn, numberOf}
 use Rattle.value.specs.Field.{lastOf}
 use Rattle.value.specs.declared.Scalar.{Scalar}
@@ -21,12 +21,6 @@ isBlank x = eqb x 32 || (leb 9 x && leb x 13)
 -- "blanks .. trimmed"
 abbrev pub trimmed : List ℕ → List ℕ
 trimmed s = rightBy isBlank (leftBy isBlank s)
-
-abbrev pub isDigit : ℕ → Bool
-isDigit x = leb 48 x && leb x 57
-
-abbrev pub digitIn : ℕ → ℕ
-digitIn x = x - 48
 
 -- "bytes from 0x80 refused in Int, Display, Edited"
 abbrev pub isAscii : ℕ → Bool

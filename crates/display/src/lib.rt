@@ -13,8 +13,8 @@ ghost use Rattle.value.specs.declared.Number.the-variants.{Of};
 ghost use Rattle.value.specs.declared.Scalar.the-variants.{Decimal};
 ghost use Rattle.value.specs.Number.{numberIn};
 ghost use Rattle.ebcdic.specs.Ebcdic.{fromPage, ontoPage};
-ghost use Rattle.display.specs.Display.{isBlank, trimmed, isDigit, digitIn, keptOf, withSign, isSeparate, isSign, signAt, restOf, digitsIn, wholeOf, intOf, decimalOf, orRefused, wholeIn};
-ghost use Rattle.value.specs.Digits.{digitText};
+ghost use Rattle.display.specs.Display.{isBlank, trimmed, keptOf, withSign, isSeparate, isSign, signAt, restOf, digitsIn, wholeOf, intOf, decimalOf, orRefused, wholeIn};
+ghost use Rattle.value.specs.Digits.{digitText, isDigit, digitIn};
 ghost use Rattle.display.specs.Display.{roomFor, signByte, intFits, intWritten, hasSign, decimalFits, decimalWritten};
 
 // ---- what every text of a number shares

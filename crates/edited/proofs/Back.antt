@@ -9,9 +9,8 @@ use native.Mathlib.Omega.{arith}
 use lib.Dec.{eqb, ltb}
 use borrow.Author.Tests.{le-leb, eqb-true}
 use Rattle.lists.specs.Scan.{keepBy}
-use Rattle.value.specs.Digits.{valueFrom, valueOf, digitAt, digitsOf}
+use Rattle.value.specs.Digits.{valueFrom, valueOf, digitAt, digitsOf, isDigit, digitIn}
 use Rattle.value.proofs.Digits.{digit-below, value-of-digits}
-use Rattle.display.specs.Display.{isDigit, digitIn}
 use Rattle.edited.specs.Edited.{countBy, countOf, isDigitPos, positions, editByte, supAfter, digitByte, editFrom, padOf, edited}
 use Rattle.edited.proofs.Marks.{All, Mark}
 use Rattle.edited.proofs.Marks.All.{end, one}

@@ -13,11 +13,11 @@ use Rattle.lists.proofs.Scan.{every-true}
 use Rattle.lists.proofs.Lists.{getD-map}
 use Rattle.value.specs.declared.Number.{Number}
 use Rattle.value.specs.declared.Number.the-variants.{Of, Bad, Big}
-use Rattle.value.specs.Digits.{valueOf, limit}
+use Rattle.value.specs.Digits.{valueOf, limit, isDigit, digitIn}
 use Rattle.value.specs.Number.{numberOf}
 use Rattle.ebcdic.specs.Ebcdic.{fromPage, ontoPage}
 use Rattle.ebcdic.proofs.Laws.{bytes-back, onto-byte}
-use Rattle.display.specs.Display.{isAscii, isDigit, digitIn, trimmed, keptOf}
+use Rattle.display.specs.Display.{isAscii, trimmed, keptOf}
 use Rattle.display.specs.Display.{withSign}
 use Rattle.edited.specs.Edited.{negativeOf, decodedOf, isLawful, positions, judged, padOf, edited, writtenOf}
 use Rattle.edited.specs.Fits.{Fits, Tells}

@@ -51,15 +51,15 @@ pub record Kept (kind p q r s : ℕ) (mask : List ℕ) (page w : ℕ) (v : Scala
   pub said : says kind p q r page (bytesOf kind p q r mask page w v t) ≡ saidOf v t
 
 -- a sign that only a number other than 0 has
-minus-is : (negative : Bool) (size : ℕ) → Minus negative size → (ltb 0 size && negative) ≡ negative
+pub minus-is : (negative : Bool) (size : ℕ) → Minus negative size → (ltb 0 size && negative) ≡ negative
 minus-is true size m = rw (lt-ltb 0 size (m refl))
 minus-is false size m = and-false (ltb 0 size)
 
-digits-minus : {w sign : ℕ} {negative : Bool} {size : ℕ} → Digits w sign negative size → Minus negative size
+pub digits-minus : {w sign : ℕ} {negative : Bool} {size : ℕ} → Digits w sign negative size → Minus negative size
 digits-minus (plain size s h k) = λ e. absurd (false≢true e)
 digits-minus (separate negative size s h k m) = m
 
-digits-fit : {w sign : ℕ} {negative : Bool} {size : ℕ} (signed : Bool) → Digits w sign negative size → Display.intFits w negative size signed sign ≡ true
+pub digits-fit : {w sign : ℕ} {negative : Bool} {size : ℕ} (signed : Bool) → Digits w sign negative size → Display.intFits w negative size signed sign ≡ true
 digits-fit {w} {sign} signed (plain size s h k) = DisplayBack.fits-plain w false size signed sign s refl h k
 digits-fit {w} {sign} signed (separate negative size s h k m) = DisplayBack.fits-separate w negative size signed sign s h k
 
@@ -68,7 +68,7 @@ digits-plain (plain size s h k) e = refl
 digits-plain (separate negative size s h k m) e = absurd (false≢true (sym e ∙ s))
 
 -- a decimal of the entry's scale stays as it is
-same-scale : (negative : Bool) (size r : ℕ) → size < limit → Minus negative size → decimalFor (Decimal negative size r) r ≡ Of negative size
+pub same-scale : (negative : Bool) (size r : ℕ) → size < limit → Minus negative size → decimalFor (Decimal negative size r) r ≡ Of negative size
 unfolding decimalFor
 same-scale negative size r l m = rw (scale-same r size, lt-ltb size limit l, minus-is negative size m)
 
@@ -167,7 +167,7 @@ module _ (p q r s : ℕ) (mask : List ℕ) (page w : ℕ) (t : List ℕ) where
       }
 
   -- a float's scalar is its word again
-  floated : (x : ℕ) → x < 2 ^ 64 → floatedOf (floatOf x) ≡ Word x
+  pub floated : (x : ℕ) → x < 2 ^ 64 → floatedOf (floatOf x) ≡ Word x
   unfolding floatedOf
   floated x h = by (nanBits binary64 x) refl
     where

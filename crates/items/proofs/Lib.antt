@@ -1,3 +1,4 @@
 pub mod Items
 pub mod Lawful
 pub mod Exact
+pub mod Words

@@ -12,8 +12,8 @@ use lib.Seq.{drop-cons, length-take-le}
 use borrow.Author.Tests.{eq-eqb, ne-eqb, lt-ltb, le-ltb, leb-true}
 use Rattle.lists.specs.Scan.{beforeBy, everyBy}
 use Rattle.lists.proofs.Scan.{tail-part}
-use Rattle.value.specs.Digits.{valueFrom}
-use Rattle.lines.specs.Lines.{isEnd, lineFrom, startsWith, valueAt, isDigit, digitIn, leads, bound, numberOf}
+use Rattle.value.specs.Digits.{valueFrom, isDigit, digitIn}
+use Rattle.lines.specs.Lines.{isEnd, lineFrom, startsWith, valueAt, leads, bound, numberOf}
 use Rattle.lines.specs.declared.Found.the-variants.{At, Unlawful}
 use Rattle.lines.specs.declared.Parsed.{Parsed}
 use Rattle.lines.specs.declared.Parsed.the-variants.{Value, Bad}

@@ -5,7 +5,7 @@ use mathlib.Core.List.{List, [], _∷_, map}
 use lib.ListN.{length, drop}
 use lib.Dec.{eqb, leb, ltb}
 use Rattle.lists.specs.Scan.{beforeBy, everyBy}
-use Rattle.value.specs.Digits.{valueOf}
+use Rattle.value.specs.Digits.{valueOf, isDigit, digitIn}
 use Rattle.lines.specs.declared.Found.{Found}
 use Rattle.lines.specs.declared.Found.the-variants.{At, Unlawful}
 use Rattle.lines.specs.declared.Parsed.{Parsed}
@@ -35,12 +35,6 @@ valueAt word text at =
     Unlawful
 
 -- ---- numbers
-
-abbrev pub isDigit : ℕ → Bool
-isDigit x = leb 0x30 x && leb x 0x39
-
-abbrev pub digitIn : ℕ → ℕ
-digitIn x = x - 0x30
 
 -- "numbers decimal without leading zeros": one byte or more, and no 0 before others
 abbrev pub leads : List ℕ → Bool

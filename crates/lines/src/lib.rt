@@ -4,8 +4,9 @@ ghost use mathlib.Core.Path.{_≡_};
 ghost use Prim.Native.Nat.{_≤_, _<_};
 ghost use lib.ListN.{length, take};
 ghost use Rattle.lists.specs.Scan.{beforeBy};
-ghost use Rattle.lines.specs.Lines.{isEnd, lineFrom, startsWith, valueAt, isDigit, leads, numberOf, isLetter, inName, nameOk, maskOk};
+ghost use Rattle.lines.specs.Lines.{isEnd, lineFrom, startsWith, valueAt, leads, numberOf, isLetter, inName, nameOk, maskOk};
 ghost use Rattle.lines.specs.Names.{foldOf, sameName, placeIn, namesAt, numberAt, countAfter, startsAfter};
+ghost use Rattle.value.specs.Digits.{isDigit};
 
 // Where a value starts and ends in a text, and where the next line starts.
 pub enum Found {

@@ -1,8 +1,8 @@
 -- Numbers in base 10: what a list of digits spells, and the digits of a number, over any count of digits.
 use mathlib.Core.List.{List, [], _∷_, _++_, map}
 use mathlib.Core.Bool.{Bool, true, false, _&&_, cond}
-use Prim.Native.Nat.{ℕ, zero, suc, _+_, _*_, _/_, _%_, _^_, min}
-use lib.Dec.{ltb}
+use Prim.Native.Nat.{ℕ, zero, suc, _+_, _-_, _*_, _/_, _%_, _^_, min}
+use lib.Dec.{ltb, leb}
 use lib.IntN.{ℤ, pos, negℤ}
 
 -- the number that digits spell, most significant first, after a number that is read already
@@ -30,6 +30,13 @@ digitsOf (suc n) v = digitAt n v ∷ digitsOf n v
 -- a digit's ASCII byte
 abbrev pub asciiOf : ℕ → ℕ
 asciiOf d = 48 + d
+
+-- an ASCII digit, and the number it shows
+abbrev pub isDigit : ℕ → Bool
+isDigit x = leb 48 x && leb x 57
+
+abbrev pub digitIn : ℕ → ℕ
+digitIn x = x - 48
 
 -- the n low digits of v as text
 abbrev pub digitText : ℕ → ℕ → List ℕ

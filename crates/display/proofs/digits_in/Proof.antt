@@ -11,10 +11,10 @@ use lib.ListN.{length, take, drop, getD, set, replicate, length-set, length-appe
 use borrow.Author.Needs.{needs}
 use Prim.Native.Nat.{_^_}
 use Rattle.ebcdic.specs.Ebcdic.{fromPage}
-use Rattle.display.specs.Display.{isDigit}
 use Rattle.display.proofs.Reading.{wholeFrom, digits-none, digits-some, whole-bad, whole-go, whole-end}
 use Rattle.display.proofs.digits_in.Statement.{statement}
 use Rattle.display.proofs.digits_in.Tie as tie
+use Rattle.value.specs.Digits.{isDigit}
 
 abbrev Inv-loop : tie.InvT-loop
 Inv-loop part page bound negative n size₀ i₀ size i = (i ≤ length part) × (wholeFrom bound negative 0 (map (fromPage page) part) ≡ wholeFrom bound negative size (map (fromPage page) (drop i part)))

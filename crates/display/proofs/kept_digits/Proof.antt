@@ -11,10 +11,10 @@ use lib.ListN.{length, take, drop, getD, set, replicate, length-set, length-appe
 use borrow.Author.Needs.{needs}
 use Rattle.ebcdic.specs.Ebcdic.{fromPage}
 use Rattle.value.specs.Number.{numberOf}
-use Rattle.display.specs.Display.{isDigit}
 use Rattle.display.proofs.Reading.{keptFrom, kept-is, kept-high, kept-skip, kept-go, kept-end}
 use Rattle.display.proofs.kept_digits.Statement.{statement}
 use Rattle.display.proofs.kept_digits.Tie as tie
+use Rattle.value.specs.Digits.{isDigit}
 
 abbrev Inv-loop : tie.InvT-loop
 Inv-loop part page size₀ i₀ size i = (i ≤ length part) × (keptFrom 0 (map (fromPage page) part) ≡ keptFrom size (map (fromPage page) (drop i part)))

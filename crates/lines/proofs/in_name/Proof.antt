@@ -9,10 +9,10 @@ use borrow.Author.Tests.{lt-ltb, le-ltb, le-leb, lt-leb, eq-eqb, ne-eqb, eqb-tru
 use lib.Dec.{eqb, leb, ltb}
 use lib.ListN.{length, take, drop, getD, set, replicate, length-set, length-append, length-take, length-drop, length-replicate, length-map}
 use mathlib.Core.Bool.{_||_}
-use Rattle.lines.specs.Lines.{isDigit}
 use borrow.Author.Needs.{needs}
 use Rattle.lines.proofs.in_name.Statement.{statement}
 use Rattle.lines.proofs.in_name.Tie as tie
+use Rattle.value.specs.Digits.{isDigit}
 
 is-letter-requires : tie.Need-is-letter-requires
 is-letter-requires c κs = search needs

@@ -10,10 +10,11 @@ use lib.Dec.{eqb, leb, ltb}
 use lib.ListN.{length, take, drop, getD, set, replicate, length-set, length-append, length-take, length-drop, length-replicate, length-map}
 use borrow.Author.Needs.{needs}
 use borrow.Author.Tests.{not-true, not-false}
-use Rattle.lines.specs.Lines.{isDigit, bound, numberOf}
+use Rattle.lines.specs.Lines.{bound, numberOf}
 use Rattle.lines.proofs.Laws.{numberFrom, number-start, number-lead, number-go, number-stop, number-over, number-end, digit-least, digit-most}
 use Rattle.lines.proofs.number_of.Statement.{statement}
 use Rattle.lines.proofs.number_of.Tie as tie
+use Rattle.value.specs.Digits.{isDigit}
 
 abbrev Inv-loop : tie.InvT-loop
 Inv-loop part v₀ i₀ v i = (i ≤ length part) × ((v < bound) × (numberOf part ≡ numberFrom v (drop i part)))

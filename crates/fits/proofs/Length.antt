@@ -1,0 +1,46 @@
+-- The bytes that are written for a value that fits fill the field.
+use mathlib.Core.Path.{_≡_, refl, sym, ap, _∙_}
+use mathlib.Core.List.{List, [], _∷_, map}
+use mathlib.Core.Bool.{Bool, true, false, _&&_, cond}
+use Prim.Native.Nat.{ℕ, _-_, _*_, _%_, _^_, _<_, _≤_}
+use lib.Dec.{eqb, leb, ltb}
+use lib.ListN.{length}
+use borrow.Author.Tests.{lt-ltb}
+use Rattle.value.specs.declared.Scalar.{Scalar}
+use Rattle.value.specs.declared.Scalar.the-variants.{Null, Text, Int, Decimal, Float as FloatV, FloatBits, Bool as BoolV}
+use Rattle.value.specs.declared.Number.the-variants.{Of}
+use Rattle.value.specs.Digits.{limit}
+use Rattle.text.proofs.Back.{written-length}
+use Rattle.display.specs.Display as Display
+use Rattle.display.proofs.Back.{fits-decimal}
+use Rattle.float.proofs.Back.{exact-lt}
+use Rattle.hex.proofs.Back as HexBack
+use Rattle.packed.specs.Packed as Packed
+use Rattle.zoned.specs.Zoned as Zoned
+use Rattle.edited.proofs.Round as EditedRound
+use Rattle.decode_scalar.specs.Decode.{flag}
+use Rattle.encode_scalar.specs.Encode.{decimalFit, bytesOf, numberBytes}
+use Rattle.encode_scalar.specs.Fits.{Fits, text-fits, int-fits, binary-fits, float-fits, hex-fits, bool-fits, display-fits, packed-fits, zoned-fits, edited-fits}
+use Rattle.encode_scalar.proofs.Back.{minus-is, digits-minus, digits-fit, same-scale, floated}
+use Rattle.encode_scalar.proofs.Parts.{int-length, binary-length, float-length, decimal-length}
+
+pub bytes-long : {p q r s : ℕ} {mask : List ℕ} {w kind : ℕ} {v : Scalar} {t : List ℕ} (page : ℕ) → Fits p q r s mask w kind v t → length (bytesOf kind p q r mask page w v t) ≡ w
+unfolding bytesOf numberBytes
+bytes-long {p} {q} {r} {s} {mask} {w} page (text-fits start count t f) = written-length page (flag p) (r % 256) w t (f .room)
+bytes-long {p} {q} {r} {s} {mask} {w} page (int-fits negative size t d l) =
+    rw (minus-is negative size (digits-minus d)) (int-length page w negative size (flag p) q (digits-fit (flag p) d))
+bytes-long {p} {q} {r} {s} {mask} {w} page (binary-fits negative size t ok f) = binary-length p w (ltb 0 size && negative) size
+bytes-long {p} {q} {r} {s} {mask} {w} page (float-fits x t f e) = rw (floated p q r s mask page w t x (exact-lt f)) (float-length p q w x)
+bytes-long {p} {q} {r} {s} {mask} {w} page (hex-fits start count t f) = HexBack.bytes-length p w t (HexBack.hex-fits w t f)
+bytes-long page (bool-fits b t e) = sym e
+bytes-long {p} {q} {r} {s} {mask} {w} page (display-fits negative size t e d k l) =
+    let f : decimalFit p q s w negative size ≡ true = rw e (fits-decimal w s negative size q k (digits-fit (Display.hasSign q) d)) in
+    rw (same-scale negative size r l (digits-minus d)) (decimal-length p q s page w negative size f)
+bytes-long {p} {q} {r} {s} {mask} {w} page (packed-fits negative size t e h k l g) =
+    let f : decimalFit p q s w negative size ≡ true = rw (e, lt-ltb 0 w h, lt-ltb size (10 ^ (2 * w - 1)) k) in
+    rw (same-scale negative size r l (g .1)) (decimal-length p q s page w negative size f)
+bytes-long {p} {q} {r} {s} {mask} {w} page (zoned-fits negative size t e h k l g) =
+    let f : decimalFit p q s w negative size ≡ true = rw (e, lt-ltb 0 w h, lt-ltb size (10 ^ w) k) in
+    rw (same-scale negative size r l (g .1)) (decimal-length p q s page w negative size f)
+bytes-long {p} {q} {r} {s} {mask} {w} page (edited-fits negative size t e f m) =
+    rw (same-scale negative size r (f .small) m) (EditedRound.page-length page negative size mask ∙ e)

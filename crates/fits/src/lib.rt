@@ -1,0 +1,1 @@
+// Whether a value fits a scalar field of a layout.

@@ -1,0 +1,9 @@
+pub mod Puts
+pub mod Goes
+pub mod Plainly
+pub mod Trip
+pub mod Flat
+pub mod Scalars
+pub mod Demand3
+pub mod Decided
+pub mod NotEmpty

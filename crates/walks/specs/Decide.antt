@@ -1,0 +1,81 @@
+-- Fitting lists decided by a function.
+use mathlib.Core.Bool.{Bool, true, false, _&&_, _||_, not, cond}
+use mathlib.Core.List.{List, [], _∷_}
+use Prim.Native.Nat.{ℕ, zero, suc, _/_, _^_}
+use lib.Dec.{eqb, ltb}
+use lib.ListN.{length}
+use Rattle.layout.specs.declared.Entry.{Entry}
+use Rattle.layout.specs.Layout.{isGroup, entries}
+use Rattle.spans.specs.Tree.{Tree, none, node, size}
+use Rattle.items.specs.declared.Item.{Item}
+use Rattle.items.specs.Items.{Values, values, count, scalarOk, wellFormed}
+use Rattle.fits.specs.Decide.{fitsOf}
+use Rattle.walks.specs.Walk.{single, isPad, Many, never, times, howMany}
+use Rattle.walks.specs.Kinds.{State, start, held, maskOf, textOf, scalarIn}
+use Rattle.walks.specs.Fitting.{after}
+
+-- no fit; or the state behind what fits
+pub data Fit : Type 0 where
+  misfit : Fit
+  fit : State → Fit
+
+abbrev pub so : Fit → (State → Fit) → Fit
+so misfit f = misfit
+so (fit s) f = f s
+
+abbrev pub only : Bool → Fit → Fit
+only true x = x
+only false x = misfit
+
+abbrev pub alone : Values → Bool
+alone none = true
+alone (node it members rest) = false
+
+abbrev pub numbers : Many → ℕ → Bool
+numbers (never m) n = false
+numbers (times m) n = eqb m n
+
+-- a List or Struct of these members, under this name
+unfoldable pub holds : ℕ → ℕ → Item → Values → Bool
+holds name tag it members = eqb (it .name) name && (eqb (it .tag) tag && (eqb (it .a) (count members) && eqb (it .b) (suc (size members))))
+
+module _ (masks source : List ℕ) where
+  -- a scalar item that fits an entry, under this name
+  unfoldable pub goodOf : Entry → ℕ → Item → Values → State → Bool
+  goodOf e name it members s =
+      eqb (it .name) name && (alone members && (scalarOk (length source) it && (ltb (it .a) (2 ^ 64)
+      && (fitsOf (e .p) (e .q) (e .r) (e .s) (maskOf masks e) (e .width) (e .kind) (scalarIn it) (textOf source it)
+      && (not (eqb (it .tag) 1) || eqb (it .a) (length (s .text)))))))
+
+  unfoldable pub eachFits : Entry → (Values → State → Fit) → Values → State → Fit
+  eachFits e inner none s = fit s
+  eachFits e inner (node it ns vs) s =
+      cond (isGroup e) (only (holds 65536 7 it ns) (so (inner ns s) (λ s₁. eachFits e inner vs s₁)))
+      (only (goodOf e 65536 it ns s) (eachFits e inner vs (after source e false it s)))
+
+  unfoldable pub first : Entry → (Values → State → Fit) → Values → State → (Values → State → Fit) → Fit
+  first e inner none s next = misfit
+  first e inner (node it ns vs) s next =
+      cond (single e)
+      (cond (isGroup e) (only (holds (e .name) 7 it ns) (so (inner ns s) (next vs))) (only (goodOf e (e .name) it ns s) (next vs (after source e true it s))))
+      (only (holds (e .name) 6 it ns && numbers (howMany held e s) (count ns)) (so (eachFits e inner ns s) (next vs)))
+
+  unfoldable pub fitted : Tree Entry → Values → State → Fit
+  fitted none none s = fit s
+  fitted none (node it ns vs) s = misfit
+  fitted (node e ms rest) vs s =
+      cond (isPad e) (fitted rest vs s) (first e (λ ns s₁. fitted ms ns s₁) vs s (λ vs₁ s₁. fitted rest vs₁ s₁))
+
+abbrev pub same : List ℕ → List ℕ → Bool
+same [] [] = true
+same [] (y ∷ ys) = false
+same (x ∷ xs) [] = false
+same (x ∷ xs) (y ∷ ys) = eqb x y && same xs ys
+
+abbrev pub textIs : List ℕ → Fit → Bool
+textIs text misfit = false
+textIs text (fit s) = same (s .text) text
+
+-- the layout's words, its masks, the items' words, the texts
+unfoldable pub fitting : List ℕ → List ℕ → List ℕ → List ℕ → Bool
+fitting l masks items text = wellFormed items (length text) && textIs text (fitted masks text (entries l) (values items 0 (length items / 4)) start)

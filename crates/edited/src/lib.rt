@@ -111,7 +111,8 @@ fn count_positions(mask: &[u8]) -> usize
     n
 }
 
-fn count_of(mask: &[u8], sym: u8) -> usize
+// How many bytes of a mask are sym.
+pub fn count_of(mask: &[u8], sym: u8) -> usize
     ensures { λ r. ⌜ r ≡ countOf sym (now (mask .entry)) ⌝ }
 {
     let mut n = 0;

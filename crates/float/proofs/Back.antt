@@ -275,7 +275,7 @@ narrow-fits nan = tt
 narrow-fits (inf s) = tt
 narrow-fits (fin s m e) = round-fits binary32 s (m * up e) (down e)
 
-single-lt : (w : ℕ) → singleWord w < 2 ^ 32
+pub single-lt : (w : ℕ) → singleWord w < 2 ^ 32
 single-lt w = toBits-lt binary32 (narrow (ofBits binary64 w)) (narrow-fits (ofBits binary64 w))
 
 cut-lt : (v : ℕ) → cut v < 32768
@@ -289,7 +289,7 @@ cut-lt v = go (v % 2147483648 / 8388608) (v % 8388608) (omega arith)
         by false true q = let l : e < 143 = ltb-true e 143 q in omega arith
         by false false q = omega arith
 
-half-lt : (w : ℕ) → cutWord w < 2 ^ 16
+pub half-lt : (w : ℕ) → cutWord w < 2 ^ 16
 half-lt w = by (leb (2 ^ 63) w) (cut (singleWord w)) (cut-lt (singleWord w))
   where
     by : (s : Bool) (n : ℕ) → n < 32768 → cond s 32768 0 + n < 2 ^ 16

@@ -4,9 +4,9 @@ use value::Number;
 use value::Scalar;
 ghost use mathlib.Core.Path.{_≡_};
 ghost use Prim.Native.Nat.{_+_, _-_, _*_, _/_, _%_, _^_, _<_};
-ghost use mathlib.Core.Bool.{true, false, cond};
+ghost use mathlib.Core.Bool.{true, false, not, _&&_, cond};
 ghost use lib.IntN.{pos};
-ghost use lib.Dec.{ltb};
+ghost use lib.Dec.{eqb, ltb};
 ghost use lib.Ieee as Ieee;
 ghost use lib.Ieee.{binary32, binary64};
 ghost use lib.Ieee.Exact.{HasValue};
@@ -18,7 +18,7 @@ ghost use Rattle.float.specs.Half.{sig, halfWord};
 ghost use Rattle.float.specs.Single.{singleWord, singleSize, wideWord, cutSize, cutWord};
 ghost use Rattle.float.specs.Decimal.{toDecimal, ofDecimal};
 ghost use Rattle.float.specs.Convert.{floatedOf, decimalFor};
-ghost use Rattle.float.specs.Field.{fieldOk, wordFor, patternFor, floatIn, floatBytes};
+ghost use Rattle.float.specs.Field.{fieldOk, wordFor, patternFor, floatIn, floatBytes, plainHalf, exactIn};
 ghost use lib.ListN.{length};
 
 // The f64 word of a value, where it has one.
@@ -427,4 +427,52 @@ pub fn encode_float(part: &mut [u8], word: u64, bits: u32, order: u32) -> bool
         return true;
     }
     false
+}
+
+// ---- the words that a field keeps
+
+// A zero, an infinity or a normal number.
+fn plain_half(h: u64) -> bool
+    ensures { λ r. ⌜ r ≡ plainHalf h ⌝ }
+{
+    if h % 1024 == 0 {
+        return true;
+    }
+    let e = h % 32768 / 1024;
+    if e == 0 {
+        return false;
+    }
+    e != 31
+}
+
+fn exact_half(w: u64) -> bool
+    ensures { λ r. ⌜ r ≡ (plainHalf (cutWord w) && eqb (halfWord (cutWord w)) w) ⌝ }
+{
+    let h = cut_word(w);
+    if plain_half(h) {
+        return half_word(h) == w;
+    }
+    false
+}
+
+fn exact_single(w: u64) -> bool
+    ensures { λ r. ⌜ r ≡ (not (Ieee.nanBits binary32 (singleWord w)) && eqb (wideWord (singleWord w)) w) ⌝ }
+{
+    let v = single_word(w);
+    if v % 0x8000_0000 > 0x7F80_0000 {
+        return false;
+    }
+    wide_word(v) == w
+}
+
+// Whether a field of so many bits keeps an f64's word.
+pub fn exact(bits: u32, w: u64) -> bool
+    ensures { λ r. ⌜ r ≡ exactIn bits w ⌝ }
+{
+    match bits {
+        16 => exact_half(w),
+        32 => exact_single(w),
+        64 => true,
+        _ => false,
+    }
 }

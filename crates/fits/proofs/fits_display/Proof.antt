@@ -1,0 +1,26 @@
+use mathlib.Core.Path.{_≡_, refl, sym, ap, _∙_, subst}
+use mathlib.Core.Bool.{Bool, true, false}
+use mathlib.Core.Logic.{⊎-elim}
+use mathlib.Core.List.{List, [], _∷_, _++_, map, append-nil, append-assoc}
+use Prim.Native.Nat.{ℕ, zero, suc, _+_, _-_, _*_, _≤_, _<_}
+use native.Mathlib.Omega.{arith}
+use native.Mathlib.Numerals.{add-one}
+use borrow.Author.Tests.{lt-ltb, le-ltb, le-leb, lt-leb, eq-eqb, ne-eqb, eqb-true, eqb-false, ltb-true, ltb-false, leb-true, leb-false}
+use lib.Dec.{eqb, leb, ltb}
+use lib.ListN.{length, take, drop, getD, set, replicate, length-set, length-append, length-take, length-drop, length-replicate, length-map}
+use Rattle.fits.proofs.Steps.{go, stop}
+use borrow.Author.Needs.{needs}
+use Rattle.fits.proofs.fits_display.Statement.{statement}
+use Rattle.fits.proofs.fits_display.Tie as tie
+
+fits-digits-requires : tie.Need-fits-digits-requires
+fits-digits-requires c κs = search needs
+
+returns : tie.Need-returns
+returns c = go (c .before .fits-digits .ensures) (c .if1 .taken) refl
+
+returns-2 : tie.Need-returns-2
+returns-2 c = stop _ (c .before .fits-digits .ensures) (c .if1 .left)
+
+pub fits-display-spec : {M : Type 1} → statement M
+fits-display-spec = tie.close (tie.spec fits-digits-requires returns returns-2)

@@ -1,0 +1,39 @@
+use mathlib.Core.Path.{_≡_, refl, sym, ap, _∙_, subst}
+use mathlib.Core.Bool.{Bool, true, false}
+use mathlib.Core.Logic.{⊎-elim}
+use mathlib.Core.List.{List, [], _∷_, _++_, map, append-nil, append-assoc}
+use Prim.Native.Nat.{ℕ, zero, suc, _+_, _-_, _*_, _≤_, _<_}
+use native.Mathlib.Omega.{arith}
+use native.Mathlib.Numerals.{add-one}
+use borrow.Author.Tests.{lt-ltb, le-ltb, le-leb, lt-leb, eq-eqb, ne-eqb, eqb-true, eqb-false, ltb-true, ltb-false, leb-true, leb-false}
+use lib.Dec.{eqb, leb, ltb}
+use lib.ListN.{length, take, drop, getD, set, replicate, length-set, length-append, length-take, length-drop, length-replicate, length-map}
+use lib.Ieee.{binary32, nanBits}
+use mathlib.Core.Bool.{not, _&&_}
+use Rattle.value.proofs.Nans.{nan-pattern, no-nan-pattern}
+use Rattle.float.specs.Single.{singleWord, wideWord}
+use Rattle.float.proofs.Back.{single-lt}
+use borrow.Author.Needs.{needs}
+use Rattle.float.proofs.exact_single.Statement.{statement}
+use Rattle.float.proofs.exact_single.Tie as tie
+
+said : (w v r : ℕ) → v ≡ singleWord w → nanBits binary32 v ≡ false → r ≡ wideWord v → eqb r w ≡ (not (nanBits binary32 (singleWord w)) && eqb (wideWord (singleWord w)) w)
+said w v r e n k = rw (← e, n, k)
+
+unsaid : (w v : ℕ) → v ≡ singleWord w → nanBits binary32 v ≡ true → false ≡ (not (nanBits binary32 (singleWord w)) && eqb (wideWord (singleWord w)) w)
+unsaid w v e n = rw (← e, n)
+
+single-word-requires : tie.Need-single-word-requires
+single-word-requires c κs = search needs
+
+returns : tie.Need-returns
+returns c = unsaid (c .before .before .args .w) _ (c .before .single-word .ensures) (nan-pattern binary32 _ (c .if1 .taken))
+
+wide-word-requires : tie.Need-wide-word-requires
+wide-word-requires c κs = subst (λ (v : ℕ). v < 4294967296) (sym (c .before .single-word .ensures)) (single-lt (c .before .before .args .w))
+
+returns-2 : tie.Need-returns-2
+returns-2 c = said (c .before .before .before .args .w) _ _ (c .before .before .single-word .ensures) (no-nan-pattern binary32 _ (c .before .if1 .left)) (c .wide-word .ensures)
+
+pub exact-single-spec : {M : Type 1} → statement M
+exact-single-spec = tie.close (tie.spec single-word-requires returns wide-word-requires returns-2)

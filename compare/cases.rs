@@ -140,7 +140,7 @@ pub fn write_short(t: &mut Tally) {
     }
 }
 
-pub struct Random(u64);
+pub struct Random(pub u64);
 
 impl Random {
     pub fn next(&mut self) -> u64 {
@@ -152,12 +152,12 @@ impl Random {
     pub fn below(&mut self, n: u64) -> u64 {
         (self.next() >> 11) % n
     }
-    fn pick<T: Clone>(&mut self, of: &[T]) -> T {
+    pub fn pick<T: Clone>(&mut self, of: &[T]) -> T {
         of[self.below(of.len() as u64) as usize].clone()
     }
 }
 
-fn any_kind(g: &mut Random) -> Kind {
+pub fn any_kind(g: &mut Random) -> Kind {
     match g.below(9) {
         0 => kind(0, g.below(2) as u32, g.below(2) as u32, g.pick(&[0x20, 0x30, 0, 0x41, 0x80, 0xFF]), 0),
         1 => kind(1, g.below(2) as u32, g.below(4) as u32, 0, 0),
@@ -173,7 +173,7 @@ fn any_kind(g: &mut Random) -> Kind {
     }
 }
 
-fn width(g: &mut Random, k: &Kind) -> usize {
+pub fn width(g: &mut Random, k: &Kind) -> usize {
     match k.kind {
         3 => k.q as usize / 8,
         5 => 1 + g.below(4) as usize,
@@ -186,7 +186,7 @@ fn width(g: &mut Random, k: &Kind) -> usize {
 }
 
 /// Bytes that come near what the kind takes.
-fn bytes(g: &mut Random, k: &Kind, page: u32, w: usize) -> Vec<u8> {
+pub fn bytes(g: &mut Random, k: &Kind, page: u32, w: usize) -> Vec<u8> {
     let mut b: Vec<u8> = match (k.kind, k.p) {
         (7, 1) => (0..w).map(|i| if i + 1 == w { (g.below(10) * 16 + 10 + g.below(6)) as u8 } else { (g.below(10) * 16 + g.below(10)) as u8 }).collect(),
         (7, 2) => (0..w).map(|i| if i + 1 == w { g.pick(b"0123456789{}ABCDEFGHIJKLMNOPQR") } else { 48 + g.below(10) as u8 }).collect(),
@@ -224,7 +224,7 @@ fn near_power(g: &mut Random) -> i64 {
     }
 }
 
-fn any_item(g: &mut Random, k: &Kind) -> Item {
+pub fn any_item(g: &mut Random, k: &Kind) -> Item {
     let favourite = match k.kind {
         0 | 4 => 1,
         1 | 2 => 2,

@@ -58,7 +58,7 @@ impl Tally {
     pub fn cases(&self) -> u64 {
         self.groups.values().map(|g| g.cases).sum()
     }
-    fn note(&mut self, group: &'static str, refused: u32, seen: Seen, size: usize, input: impl FnOnce() -> String) {
+    pub fn note(&mut self, group: &'static str, refused: u32, seen: Seen, size: usize, input: impl FnOnce() -> String) {
         let g = self.groups.entry(group).or_default();
         g.cases += 1;
         if refused == 0 {
@@ -140,7 +140,7 @@ fn sign(n: u32) -> SignKind {
     }
 }
 
-fn field(k: &Kind, width: usize) -> Field {
+pub fn field(k: &Kind, width: usize) -> Field {
     let kind = match k.kind {
         0 => FieldKind::Text { justify: if k.p == 0 { Justify::Left } else { Justify::Right }, trim: k.q != 0, pad: k.r as u8 },
         1 => FieldKind::Int { signed: k.p != 0, sign: sign(k.q) },
@@ -164,7 +164,7 @@ fn field(k: &Kind, width: usize) -> Field {
     Field { name: "F".into(), offset: 0, width, kind, occurs: None, depending_on: None, redefines: None }
 }
 
-fn page(n: u32) -> Encoding {
+pub fn page(n: u32) -> Encoding {
     if n == 0 {
         Encoding::Ascii
     } else {
@@ -200,18 +200,38 @@ fn port_reads(k: &Kind, pg: u32, part: &[u8]) -> Result<(Value, [u64; 4]), u32> 
     Ok((v, words))
 }
 
-fn same(a: &Value, b: &Value) -> bool {
+pub fn same(a: &Value, b: &Value) -> bool {
     match (a, b) {
         (Value::Float(x), Value::Float(y)) => x.to_bits() == y.to_bits(),
         _ => a == b,
     }
 }
 
-/// Reads one part both ways.
-pub fn read(t: &mut Tally, k: &Kind, pg: u32, part: &[u8]) {
+/// What the port reads in a part, and how that stands to what the Rust reads there.
+pub fn reads(k: &Kind, pg: u32, part: &[u8]) -> (Result<Value, u32>, Seen) {
     let layout = Layout::from_fields(vec![field(k, part.len())]).unwrap();
     let ours = port_reads(k, pg, part);
     let theirs = decode::decode_record(&layout, part, page(pg)).map(|mut f| f.pop().map_or(Value::Null, |x| x.1));
+    let ascii: Vec<u8> = part.iter().map(|&b| if pg == 0 { b } else { ebcdic::to_ascii(b) }).collect();
+    let high = ascii.iter().any(|&b| b >= 0x80);
+    let seen = match (&ours, &theirs) {
+        (Ok((a, _)), Ok(b)) if same(a, b) => Seen::Same,
+        (Err(8), Err(_)) | (Err(9), Err(_)) => Seen::Same,
+        (Ok((Value::Float(a), _)), Ok(Value::Float(b))) if a.is_nan() && b.is_nan() && k.q != 64 && a.to_bits() == 0x7FF8_0000_0000_0000 => Seen::Listed("NaN of 16 or 32 bits reads as 0x7FF8000000000000"),
+        (Ok((Value::Text(a), _)), Ok(Value::Text(_))) if k.kind == 0 && high && *a == bytes_kept(k, &ascii) => Seen::Listed("bytes from 0x80 are kept in Text"),
+        (Err(8), Ok(_)) if matches!(k.kind, 1 | 7 | 8) && k.p_is_text() && high => Seen::Listed("bytes from 0x80 refused in Int, Display, Edited (8)"),
+        (Err(9), Ok(Value::Decimal { unscaled, .. })) if unscaled.abs() >= LIMIT => Seen::Listed("Decimal sizes from 10^18 (9)"),
+        (Err(9), Ok(Value::Int(n))) if k.kind == 2 && k.q == 0 && *n < 0 => Seen::Listed("unsigned Binary from 2^63 (9)"),
+        (Err(8), Ok(Value::Int(_))) if k.kind == 1 && k.q >= 2 && two_signs(&ascii) => Seen::Listed("a sign besides a separate one in Int (8)"),
+        (Err(9), Ok(Value::Int(_))) if k.kind == 1 && k.q >= 2 && two_signs(&ascii) => Seen::Listed("a sign besides a separate one in Int (8)"),
+        (a, b) => Seen::Other(format!("port {:?}, Rust {:?}", a.as_ref().map(|x| &x.0), b)),
+    };
+    (ours.map(|x| x.0), seen)
+}
+
+/// Reads one part both ways.
+pub fn read(t: &mut Tally, k: &Kind, pg: u32, part: &[u8]) {
+    let (ours, seen) = reads(k, pg, part);
     let ascii: Vec<u8> = part.iter().map(|&b| if pg == 0 { b } else { ebcdic::to_ascii(b) }).collect();
     let high = ascii.iter().any(|&b| b >= 0x80);
     let group = match k.kind {
@@ -231,18 +251,6 @@ pub fn read(t: &mut Tally, k: &Kind, pg: u32, part: &[u8]) {
         }
         7 => "read Display",
         n => ["read Text", "read Int", "read Binary", "read Float", "read Hex", "read Bool", "read Pad"][n as usize],
-    };
-    let seen = match (&ours, &theirs) {
-        (Ok((a, _)), Ok(b)) if same(a, b) => Seen::Same,
-        (Err(8), Err(_)) | (Err(9), Err(_)) => Seen::Same,
-        (Ok((Value::Float(a), _)), Ok(Value::Float(b))) if a.is_nan() && b.is_nan() && k.q != 64 && a.to_bits() == 0x7FF8_0000_0000_0000 => Seen::Listed("NaN of 16 or 32 bits reads as 0x7FF8000000000000"),
-        (Ok((Value::Text(a), _)), Ok(Value::Text(_))) if k.kind == 0 && high && *a == bytes_kept(k, &ascii) => Seen::Listed("bytes from 0x80 are kept in Text"),
-        (Err(8), Ok(_)) if matches!(k.kind, 1 | 7 | 8) && k.p_is_text() && high => Seen::Listed("bytes from 0x80 refused in Int, Display, Edited (8)"),
-        (Err(9), Ok(Value::Decimal { unscaled, .. })) if unscaled.abs() >= LIMIT => Seen::Listed("Decimal sizes from 10^18 (9)"),
-        (Err(9), Ok(Value::Int(n))) if k.kind == 2 && k.q == 0 && *n < 0 => Seen::Listed("unsigned Binary from 2^63 (9)"),
-        (Err(8), Ok(Value::Int(_))) if k.kind == 1 && k.q >= 2 && two_signs(&ascii) => Seen::Listed("a sign besides a separate one in Int (8)"),
-        (Err(9), Ok(Value::Int(_))) if k.kind == 1 && k.q >= 2 && two_signs(&ascii) => Seen::Listed("a sign besides a separate one in Int (8)"),
-        (a, b) => Seen::Other(format!("port {:?}, Rust {:?}", a.as_ref().map(|x| &x.0), b)),
     };
     t.note(group, ours.as_ref().err().copied().unwrap_or(0), seen, part.len(), || format!("reading {} {k:?} page {pg} bytes {part:02x?}", NAMES[k.kind as usize]));
 }
@@ -269,9 +277,9 @@ fn two_signs(ascii: &[u8]) -> bool {
     ascii.iter().filter(|&&b| b == b'+' || b == b'-').count() >= 2
 }
 
-fn leaf_same(t: &mut Tally, group: &'static str, theirs: rust::Result<i128>, ours: &Result<(Value, [u64; 4]), u32>, part: &[u8]) {
+fn leaf_same(t: &mut Tally, group: &'static str, theirs: rust::Result<i128>, ours: &Result<Value, u32>, part: &[u8]) {
     let seen = match (ours, &theirs) {
-        (Ok((Value::Decimal { unscaled, .. }, _)), Ok(n)) if unscaled == n => Seen::Same,
+        (Ok(Value::Decimal { unscaled, .. }), Ok(n)) if unscaled == n => Seen::Same,
         (Err(8), Err(_)) | (Err(9), Err(_)) => Seen::Same,
         (Err(9), Ok(n)) if n.abs() >= LIMIT => Seen::Listed("Decimal sizes from 10^18 (9)"),
         (a, b) => Seen::Other(format!("port {a:?}, Rust {b:?}")),
@@ -280,7 +288,7 @@ fn leaf_same(t: &mut Tally, group: &'static str, theirs: rust::Result<i128>, our
 }
 
 /// The Rust's value of an item; None for a text that a Rust String cannot hold.
-fn value(v: &Item) -> Option<Value> {
+pub fn value(v: &Item) -> Option<Value> {
     Some(match v.tag {
         0 => Value::Null,
         1 => Value::Text(String::from_utf8(v.text.clone()).ok()?),
@@ -293,9 +301,9 @@ fn value(v: &Item) -> Option<Value> {
     })
 }
 
-/// Writes one value both ways, into a part that holds 0xAA before.
-pub fn write(t: &mut Tally, k: &Kind, pg: u32, width: usize, v: &Item) {
-    let Some(theirs_value) = value(v) else { return };
+/// What the port writes for a value: the number that refuses it, the bytes, and how that stands to what the Rust writes.
+pub fn writes(k: &Kind, pg: u32, width: usize, v: &Item) -> Option<(u32, Vec<u8>, Seen)> {
+    let theirs_value = value(v)?;
     let taken = if k.kind == 5 { 1 } else { width };
     let mut buf = vec![0xAAu8; taken + 8];
     let n = unsafe { leaf_encode(buf[4..].as_mut_ptr(), taken, k.kind, k.p, k.q, k.r, k.s, k.mask.as_ptr(), k.mask.len(), pg, v.tag, v.a, v.b, v.text.as_ptr(), v.text.len()) };
@@ -304,31 +312,6 @@ pub fn write(t: &mut Tally, k: &Kind, pg: u32, width: usize, v: &Item) {
     layout.record_len = 0;
     let theirs = encode::encode_record(&layout, &[("F".into(), theirs_value.clone())], page(pg));
     let high = v.tag == 1 && v.text.iter().any(|&b| b >= 0x80);
-    let group = match k.kind {
-        7 if k.p == 1 => "write packed",
-        7 if k.p == 2 => "write zoned",
-        7 => "write Display",
-        8 => "write Edited",
-        n => ["write Text", "write Int", "write Binary", "write Float", "write Hex", "write Bool", "write Pad"][n as usize],
-    };
-    if v.tag == 3 && v.b == k.r as u64 && k.kind >= 7 {
-        let size = v.a as i64 as i128;
-        let leaf = match (k.kind, k.p) {
-            (7, 1) => Some(("packed::encode", packed::encode(size, width, k.q != 0))),
-            (7, 2) => Some(("zoned::encode", zoned::encode(size, width, k.q != 0).map(|b| if pg == 0 { b } else { ebcdic::encode_slice(&b) }))),
-            (8, _) => Some(("edited::encode", edited::encode(size, k.r as u8, std::str::from_utf8(&k.mask).unwrap()).map(|b| if pg == 0 { b } else { ebcdic::encode_slice(&b) }))),
-            _ => None,
-        };
-        if let Some((name, leaf)) = leaf {
-            let seen = match (&leaf, n) {
-                (Ok(b), 0) if b[..] == buf[4..4 + taken] => Seen::Same,
-                (Err(_), 14) | (Err(_), 15) => Seen::Same,
-                (Ok(_), 15) if half_marker(&k.mask) => Seen::Listed("C without R, D without B in a mask (15)"),
-                _ => Seen::Other(format!("port {n} {:02x?}, Rust {leaf:02x?}", &buf[4..4 + taken])),
-            };
-            t.note(name, n, seen, width + v.text.len(), || format!("writing {size} {k:?} page {pg} width {width}"));
-        }
-    }
     let untouched = buf[..4].iter().chain(&buf[4 + taken..]).all(|&b| b == 0xAA) && (n == 0 || buf.iter().all(|&b| b == 0xAA));
     let size_at = |scale: i128, unscaled: i128, from: i128| if from < scale { unscaled.checked_mul(10i128.pow((scale - from) as u32)) } else { Some(unscaled / 10i128.pow((from - scale) as u32)) };
     let big = match theirs_value {
@@ -356,6 +339,37 @@ pub fn write(t: &mut Tally, k: &Kind, pg: u32, width: usize, v: &Item) {
             (a, n) => Seen::Other(format!("port {n} {:02x?}, Rust {a:02x?}", &buf[4..4 + taken])),
         }
     };
+    Some((n, buf[4..4 + taken].to_vec(), seen))
+}
+
+/// Writes one value both ways, into a part that holds 0xAA before.
+pub fn write(t: &mut Tally, k: &Kind, pg: u32, width: usize, v: &Item) {
+    let Some((n, part, seen)) = writes(k, pg, width, v) else { return };
+    let group = match k.kind {
+        7 if k.p == 1 => "write packed",
+        7 if k.p == 2 => "write zoned",
+        7 => "write Display",
+        8 => "write Edited",
+        n => ["write Text", "write Int", "write Binary", "write Float", "write Hex", "write Bool", "write Pad"][n as usize],
+    };
+    if v.tag == 3 && v.b == k.r as u64 && k.kind >= 7 {
+        let size = v.a as i64 as i128;
+        let leaf = match (k.kind, k.p) {
+            (7, 1) => Some(("packed::encode", packed::encode(size, width, k.q != 0))),
+            (7, 2) => Some(("zoned::encode", zoned::encode(size, width, k.q != 0).map(|b| if pg == 0 { b } else { ebcdic::encode_slice(&b) }))),
+            (8, _) => Some(("edited::encode", edited::encode(size, k.r as u8, std::str::from_utf8(&k.mask).unwrap()).map(|b| if pg == 0 { b } else { ebcdic::encode_slice(&b) }))),
+            _ => None,
+        };
+        if let Some((name, leaf)) = leaf {
+            let seen = match (&leaf, n) {
+                (Ok(b), 0) if b[..] == part[..] => Seen::Same,
+                (Err(_), 14) | (Err(_), 15) => Seen::Same,
+                (Ok(_), 15) if half_marker(&k.mask) => Seen::Listed("C without R, D without B in a mask (15)"),
+                _ => Seen::Other(format!("port {n} {:02x?}, Rust {leaf:02x?}", part)),
+            };
+            t.note(name, n, seen, width + v.text.len(), || format!("writing {size} {k:?} page {pg} width {width}"));
+        }
+    }
     t.note(group, n, seen, width + v.text.len(), || format!("writing {v:x?} as {} {k:?} page {pg} width {width}", NAMES[k.kind as usize]));
 }
 

@@ -1,9 +1,10 @@
 //! Runs the port's leaves and the Rust on the same inputs and compares the answers: every value read, every byte written and not written,
-//! and whether it is refused. `compare CASES SEED`. A difference is counted under the rule of docs/DIFFERENCES.md that names it; any other
+//! and whether it is refused. `compare CASES SEED RECORDS`. A difference is counted under the rule of docs/DIFFERENCES.md that names it; any other
 //! one fails the run, and the smallest input that shows it is printed.
 
 mod cases;
 mod check;
+mod records;
 
 use check::Tally;
 use std::time::Instant;
@@ -12,6 +13,7 @@ fn main() {
     let args: Vec<String> = std::env::args().collect();
     let cases: u64 = args.get(1).and_then(|s| s.parse().ok()).unwrap_or(1_200_000);
     let seed: u64 = args.get(2).and_then(|s| s.parse().ok()).unwrap_or(1);
+    let records: u64 = args.get(3).and_then(|s| s.parse().ok()).unwrap_or(cases / 10);
     let start = Instant::now();
     let mut tally = Tally::default();
     let step = |name: &str, t: &Tally| eprintln!("{:>8.1} s  {:<28} {:>9} cases so far", start.elapsed().as_secs_f64(), name, t.cases());
@@ -23,6 +25,8 @@ fn main() {
     let left = cases.saturating_sub(tally.cases());
     cases::random(&mut tally, left.max(200_000), seed);
     step("random fields", &tally);
+    records::random(&mut tally, records, seed);
+    step("whole records and lists", &tally);
     if !tally.print(cases, seed) {
         std::process::exit(1);
     }

@@ -65,12 +65,12 @@ same-both a b n p q =
 
 -- ---- the place of a name among those that a table points at
 
-getD-map-at : (f : ℕ → List ℕ) (s : List ℕ) (i d : ℕ) → i < length s → getD (map f s) i [] ≡ f (getD s i d)
+pub getD-map-at : (f : ℕ → List ℕ) (s : List ℕ) (i d : ℕ) → i < length s → getD (map f s) i [] ≡ f (getD s i d)
 getD-map-at f [] i d h = absurd (not-suc-le-zero h)
 getD-map-at f (x ∷ s) zero d h = refl
 getD-map-at f (x ∷ s) (suc i) d h = getD-map-at f s i d (le-of-suc-le-suc h)
 
-names-long : (text starts : List ℕ) (count : ℕ) → length (namesAt text starts count) ≡ min count (length starts)
+pub names-long : (text starts : List ℕ) (count : ℕ) → length (namesAt text starts count) ≡ min count (length starts)
 names-long text starts count = length-map (take count starts) (lineFrom text) ∙ length-take count starts
 
 module _ (text starts : List ℕ) (count k : ℕ) (name : List ℕ) where
@@ -189,6 +189,37 @@ pub number-first : (names more : List (List ℕ)) (n : List ℕ) → numberIn na
 number-first names more n e =
     ap (placeIn n) (all-append [] names (n ∷ more)) ∙ all-kept n (see (distinct names) n) more (see-in n (distinct names)) ∙ see-new n (distinct names) e
 
+-- at each sight, a name's number is its place among the different names before, or their count
+pub number-sight : (names more : List (List ℕ)) (n : List ℕ) → numberIn (names ++ (n ∷ more)) n ≡ numberIn names n
+number-sight names more n = by (ltb (numberIn names n) (length (distinct names))) refl
+  where
+    by : (t : Bool) → ltb (numberIn names n) (length (distinct names)) ≡ t → numberIn (names ++ (n ∷ more)) n ≡ numberIn names n
+    by true q = number-kept names (n ∷ more) n (ltb-true (numberIn names n) (length (distinct names)) q)
+    by false q =
+        let a : length (distinct names) ≤ numberIn names n = ltb-false (numberIn names n) (length (distinct names)) q in
+        let b : numberIn names n ≤ length (distinct names) = place-most n (distinct names) in
+        let e : numberIn names n ≡ length (distinct names) = omega arith in
+        number-first names more n e ∙ sym e
+
+-- there are no more different names than sights
+see-few : (m : List ℕ) (seen : List (List ℕ)) → length (see seen m) ≤ suc (length seen)
+see-few m seen = by (ltb (placeIn m seen) (length seen))
+  where
+    by : (t : Bool) → length (cond t seen (seen ++ (m ∷ []))) ≤ suc (length seen)
+    by true = omega arith
+    by false = let q : length (seen ++ (m ∷ [])) ≡ suc (length seen) = long-snoc seen m in omega arith
+
+all-few : (seen names : List (List ℕ)) → length (seeAll seen names) ≤ length seen + length names
+all-few seen [] = omega arith
+all-few seen (n ∷ names) = omega (arith, see-few n seen, all-few (see seen n) names)
+
+pub distinct-few : (names : List (List ℕ)) → length (distinct names) ≤ length names
+distinct-few names = omega (arith, all-few [] names)
+
+-- the different names of a run and of another behind it
+pub distinct-append : (a b : List (List ℕ)) → distinct (a ++ b) ≡ seeAll (distinct a) b
+distinct-append a b = all-append [] a b
+
 -- every name of a text has a number below the count of different names
 pub number-below : (names more : List (List ℕ)) (n : List ℕ) → numberIn (names ++ (n ∷ more)) n < length (distinct (names ++ (n ∷ more)))
 number-below names more n =
@@ -229,10 +260,10 @@ map-snoc : (f : ℕ → List ℕ) (s : List ℕ) (x : ℕ) → map f (s ++ (x �
 map-snoc f [] x = refl
 map-snoc f (y ∷ s) x = ap (λ (l : List (List ℕ)). f y ∷ l) (map-snoc f s x)
 
-pub seen-after : (text starts : List ℕ) (count at : ℕ) → count < length starts → at < 65536
+pub seen-after : (text starts : List ℕ) (count at : ℕ) → count < length starts → at < 4294967296
     → namesAt text (startsAfter text starts count at) (countAfter text starts count at) ≡ see (namesAt text starts count) (lineFrom text at)
 seen-after text starts count at h k =
-    rw (lt-ltb count (length starts) h, lt-ltb at 65536 k, long) (by (ltb (numberAt text starts count at) count) refl)
+    rw (lt-ltb count (length starts) h, lt-ltb at 4294967296 k, long) (by (ltb (numberAt text starts count at) count) refl)
   where
     long : length (namesAt text starts count) ≡ count
     long = length-map (take count starts) (lineFrom text) ∙ length-take-le count starts (le-of-lt h)

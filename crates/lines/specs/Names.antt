@@ -54,9 +54,9 @@ namesAt text starts count = map (lineFrom text) (take count starts)
 abbrev pub numberAt : List ℕ → List ℕ → ℕ → ℕ → ℕ
 numberAt text starts count at = placeIn (lineFrom text at) (namesAt text starts count)
 
--- it is new, and the table can hold it: a place is left, and a start is below 65536
+-- it is new, and the table can hold it: a place is left, and a start is below 4294967296
 abbrev pub isNew : List ℕ → List ℕ → ℕ → ℕ → Bool
-isNew text starts count at = eqb (numberAt text starts count at) count && (ltb count (length starts) && ltb at 65536)
+isNew text starts count at = eqb (numberAt text starts count at) count && (ltb count (length starts) && ltb at 4294967296)
 
 -- what one more sight makes of the count and of the table
 abbrev pub countAfter : List ℕ → List ℕ → ℕ → ℕ → ℕ

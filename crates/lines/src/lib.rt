@@ -4,7 +4,7 @@ ghost use mathlib.Core.Path.{_≡_};
 ghost use Prim.Native.Nat.{_≤_, _<_};
 ghost use lib.ListN.{length, take};
 ghost use Rattle.lists.specs.Scan.{beforeBy};
-ghost use Rattle.lines.specs.Lines.{isEnd, lineFrom, startsWith, valueAt, leads, numberOf, isLetter, inName, nameOk, maskOk};
+ghost use Rattle.lines.specs.Lines.{isEnd, lineFrom, IsPart, startsWith, valueAt, leads, numberOf, isLetter, inName, nameOk, maskOk};
 ghost use Rattle.lines.specs.Names.{foldOf, sameName, placeIn, namesAt, numberAt, countAfter, startsAfter};
 ghost use Rattle.value.specs.Digits.{isDigit};
 
@@ -73,6 +73,7 @@ pub fn value_at(text: &[u8], at: usize, word: &[u8]) -> Found
 // The bytes from a position up to the next 0x0A, or to the text's end.
 pub fn name_at(text: &[u8], at: usize) -> &[u8]
     ensures { λ r. ⌜ now r ≡ lineFrom (now (text .entry)) at ⌝ }
+    ensures { λ r. ⌜ IsPart (text .entry) r ⌝ }
 {
     if text.len() < at {
         return &text[0..0];
@@ -223,14 +224,14 @@ pub fn same_name(a: &[u8], b: &[u8]) -> bool
     true
 }
 
-fn wide(p: u16) -> usize
+fn wide(p: u32) -> usize
     ensures { λ r. ⌜ r ≡ p ⌝ }
 {
     p as usize
 }
 
 // The place of a name among the first `count` that the table points at, or how many these are.
-fn find_name(text: &[u8], starts: &[u16], count: usize, name: &[u8]) -> usize
+fn find_name(text: &[u8], starts: &[u32], count: usize, name: &[u8]) -> usize
     ensures { λ r. ⌜ r ≡ placeIn (now (name .entry)) (namesAt (now (text .entry)) (now (starts .entry)) count) ⌝ }
 {
     let mut k = 0;
@@ -255,7 +256,7 @@ pub struct Seen {
 
 // One more sight, of the name at `at`. A new name is stored where the table can hold it; else count and table stay, and a name
 // that is not in the table gets the count of those in it.
-pub fn see_name(text: &[u8], starts: &mut [u16], count: usize, at: usize) -> Seen
+pub fn see_name(text: &[u8], starts: &mut [u32], count: usize, at: usize) -> Seen
     ensures { λ r. ⌜ r .number ≡ numberAt (now (text .entry)) (now (starts .entry)) count at ⌝ }
     ensures { λ r. ⌜ r .count ≡ countAfter (now (text .entry)) (now (starts .entry)) count at ⌝ }
     ensures { λ r. ⌜ now (starts .exit) ≡ startsAfter (now (text .entry)) (now (starts .entry)) count at ⌝ }
@@ -274,13 +275,13 @@ pub fn see_name(text: &[u8], starts: &mut [u16], count: usize, at: usize) -> See
             count: count,
         };
     }
-    if 65536 <= at {
+    if 4294967296 <= at {
         return Seen {
             number: k,
             count: count,
         };
     }
-    starts[count] = at as u16;
+    starts[count] = at as u32;
     Seen {
         number: k,
         count: count + 1,

@@ -1,10 +1,11 @@
 -- Text fields and Pads: the text of a field's bytes, a field's bytes for a text, and the texts that come back.
-use Prim.Native.Nat.{ℕ, _-_, _≤_, _<_}
+use Prim.Native.Nat.{ℕ, _+_, _-_, _≤_, _<_}
 use mathlib.Core.Path.{_≡_}
 use mathlib.Core.Bool.{Bool, false, cond}
 use mathlib.Core.List.{List, _++_, map}
 use lib.ListN.{length, drop, replicate, getD}
 use lib.Dec.{eqb, leb}
+use denote.Ref.{RefT, ptr}
 use Rattle.lists.specs.Scan.{leftBy, rightBy, beforeBy}
 use Rattle.ebcdic.specs.Ebcdic.{fromPage, ontoPage}
 use Rattle.text.specs.declared.Put.{Put}
@@ -22,6 +23,14 @@ cut right trim pad s =
 -- the text of a field's bytes, which stand on a page
 abbrev pub readText : ℕ → Bool → Bool → ℕ → List ℕ → List ℕ
 readText page right trim pad s = cut right trim pad (map (fromPage page) s)
+
+-- how many bytes the cut takes off at the left end
+unfoldable pub cutFrom : Bool → Bool → ℕ → List ℕ → ℕ
+cutFrom right trim pad s = cond trim (cond right (length s - length (leftBy (isByte pad) s)) 0) 0
+
+-- the place k bytes into a slice
+abbrev pub placeIn : RefT (List ℕ) → ℕ → ℕ × ℕ
+placeIn x k = (ptr x .0, k + ptr x .1)
 
 -- a text at the front of a buffer, the rest of which stays
 abbrev pub front : List ℕ → List ℕ → List ℕ

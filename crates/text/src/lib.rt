@@ -7,9 +7,10 @@ ghost use mathlib.Core.List.{_∷_, map};
 ghost use Prim.Native.Nat.{_+_, _≤_, _<_};
 ghost use lib.Dec.{leb};
 ghost use lib.ListN.{length, take, drop};
+ghost use denote.Ref.{ptr};
 ghost use Rattle.lists.specs.Scan.{leftBy, rightBy, beforeBy};
 ghost use Rattle.ebcdic.specs.Ebcdic.{fromPage};
-ghost use Rattle.text.specs.Text.{isByte, readText, front, putOf, putIn, writtenIn, padded};
+ghost use Rattle.text.specs.Text.{isByte, readText, cutFrom, placeIn, front, putOf, putIn, writtenIn, padded};
 ghost use Rattle.value.specs.Digits.{digitText};
 ghost use Rattle.text.specs.Shown.{digitCount, wholeText, minusText, intText, decimalText, boolText, placed};
 ghost use Rattle.text.specs.Shown.{shows, isText, shownOf, textIn, answerOf, shownIn, roomOf, refusalAt, encodedIn};
@@ -29,7 +30,7 @@ pub enum Shown {
 // ---- reading
 
 // How many pads stand at the left end.
-fn pad_start(s: &[u8], pad: u8) -> usize
+pub fn pad_start(s: &[u8], pad: u8) -> usize
     ensures { λ r. ⌜ (r ≤ length (now (s .entry))) × (drop r (now (s .entry)) ≡ leftBy (isByte pad) (now (s .entry))) ⌝ }
 {
     let mut i = 0;
@@ -73,6 +74,7 @@ fn zero_at(s: &[u8]) -> usize
 // The bytes of a field that are its text, as a part of it. The pad is looked for as it stands on the page.
 pub fn trimmed(s: &[u8], page: u32, right: bool, trim: bool, pad: u8) -> &[u8]
     ensures { λ r. ⌜ map (fromPage page) (now r) ≡ readText page right trim pad (now (s .entry)) ⌝ }
+    ensures { λ r. ⌜ ptr r ≡ placeIn (s .entry) (cutFrom right trim pad (map (fromPage page) (now (s .entry)))) ⌝ }
 {
     if trim {
         let p = ebcdic::onto_page(page, pad);

@@ -7,3 +7,4 @@ pub mod Scalars
 pub mod Demand3
 pub mod Decided
 pub mod NotEmpty
+pub mod Fakes

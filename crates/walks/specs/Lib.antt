@@ -10,3 +10,4 @@ pub mod Decide
 pub mod Needs
 pub mod Demand
 pub mod Worked
+pub mod Refusals

@@ -1,5 +1,5 @@
 -- Worked records, by computation over the definitions that the contracts cite: the specification's own record, a table under depending in a repeated group,
--- all kinds, and a case for each number by which reader and writer refuse.
+-- and all kinds.
 use mathlib.Core.Path.{_≡_, refl}
 use mathlib.Core.Bool.{true}
 use mathlib.Core.List.{List, [], _∷_, _++_}
@@ -47,13 +47,13 @@ once name offset width kind p q r = entry name offset width kind absent absent 1
 
 -- ---- "N Int 0,2; T packed 2,2, occurs 5, depending N, scale 1; E Text 2,2"
 
-abbrev shown : List ℕ
+abbrev pub shown : List ℕ
 shown =
     0 ∷ 0 ∷ 2 ∷ 1 ∷ absent ∷ absent ∷ 1 ∷ 0 ∷ 0 ∷ 0 ∷ 0 ∷ 0 ∷
     1 ∷ 2 ∷ 2 ∷ 7 ∷ 5 ∷ 0 ∷ 1 ∷ 1 ∷ 0 ∷ 1 ∷ 0 ∷ 0 ∷
     2 ∷ 2 ∷ 2 ∷ 0 ∷ absent ∷ absent ∷ 1 ∷ 0 ∷ 0 ∷ 0 ∷ 0 ∷ 0 ∷ []
 
-shown-read : decodeRecord shown [] 0 (0x30 ∷ 0x32 ∷ 0x01 ∷ 0x2C ∷ 0x34 ∷ 0x5D ∷ 0x4F ∷ 0x4B ∷ []) 20 2 6
+pub shown-read : decodeRecord shown [] 0 (0x30 ∷ 0x32 ∷ 0x01 ∷ 0x2C ∷ 0x34 ∷ 0x5D ∷ 0x4F ∷ 0x4B ∷ []) 20 2 6
     ≡ decoded (0 ∷ 2 ∷ 2 ∷ 0 ∷ 1 ∷ 6 ∷ 2 ∷ 3 ∷ 65536 ∷ 3 ∷ 12 ∷ 1 ∷ 65536 ∷ 3 ∷ 18446744073709551271 ∷ 1 ∷ 2 ∷ 1 ∷ 0 ∷ 2 ∷ []) (0x4F ∷ 0x4B ∷ [])
 unfolding checkedOf wordsOk entriesOk allBelow entryOk placeOk optionOk kindOk plainOk boolOk floatOk editedOk upTo spansOk nested size tree treeIn entryAt recordLength furthest reservedWidth dependsIn someBelow decodeRecord R.seq R.field R.elements R.one R.pad R.scalar R.inside single isPad howMany look dec says fromPage everyBy leftBy rightBy beforeBy fieldOf Display.intOf Display.intIn Display.digitsIn Display.signAt Display.restOf Display.wholeOf Packed.decodeOf Text.cut
 shown-read = refl
@@ -71,11 +71,11 @@ boxed =
     65536 ∷ 7 ∷ 3 ∷ 4 ∷ 1 ∷ 2 ∷ 0 ∷ 0 ∷ 2 ∷ 6 ∷ 0 ∷ 1 ∷ 3 ∷ 1 ∷ 1 ∷ 1 ∷
     4 ∷ 2 ∷ 7 ∷ 0 ∷ []
 
-boxes-read : decodeRecord boxes [] 0 (0x31 ∷ 0x5C ∷ 0x61 ∷ 0x30 ∷ 0x62 ∷ 0x37 ∷ []) 44 2 10 ≡ decoded boxed (0x61 ∷ 0x62 ∷ [])
+pub boxes-read : decodeRecord boxes [] 0 (0x31 ∷ 0x5C ∷ 0x61 ∷ 0x30 ∷ 0x62 ∷ 0x37 ∷ []) 44 2 10 ≡ decoded boxed (0x61 ∷ 0x62 ∷ [])
 unfolding checkedOf wordsOk entriesOk allBelow entryOk placeOk optionOk kindOk plainOk boolOk floatOk editedOk upTo spansOk nested size tree treeIn entryAt recordLength furthest reservedWidth dependsIn someBelow decodeRecord R.seq R.field R.elements R.one R.pad R.scalar R.inside single isPad howMany look dec says fromPage everyBy leftBy rightBy beforeBy fieldOf Display.intOf Display.intIn Display.digitsIn Display.signAt Display.restOf Display.wholeOf Packed.decodeOf Text.cut
 boxes-read = refl
 
-boxes-written : encodeRecord boxes [] 0 boxed (0x61 ∷ 0x62 ∷ []) 6 10 ≡ encoded (0x31 ∷ 0x5C ∷ 0x61 ∷ 0x30 ∷ 0x62 ∷ 0x37 ∷ [])
+pub boxes-written : encodeRecord boxes [] 0 boxed (0x61 ∷ 0x62 ∷ []) 6 10 ≡ encoded (0x31 ∷ 0x5C ∷ 0x61 ∷ 0x30 ∷ 0x62 ∷ 0x37 ∷ [])
 unfolding checkedOf wordsOk entriesOk allBelow entryOk placeOk optionOk kindOk plainOk boolOk floatOk editedOk upTo spansOk nested size tree treeIn entryAt recordLength furthest reservedWidth dependsIn someBelow encodeRecord supplied W.seq W.field W.table W.tableLength W.elements W.one lookup count wellFormed listOk itemOk holderOk scalarOk values enc scalarOf single isPad judgedOf bytesOf numberJudged numberBytes ontoPage Text.written Display.intFits Display.intBytes Packed.writtenOf decimalFor rescaled rounded everyBy
 boxes-written = refl
 
@@ -114,81 +114,3 @@ every-plain = refl
 pub every-fits : fitting every everyMask everyItem everyText ≡ true
 unfolding checkedOf wordsOk entriesOk allBelow entryOk placeOk optionOk kindOk plainOk boolOk floatOk editedOk upTo spansOk nested size tree treeIn entryAt recordLength furthest reservedWidth dependsIn someBelow single isPad howMany look fitting Fit.fitted Fit.first Fit.eachFits Fit.goodOf Fit.holds wellFormed listOk itemOk holderOk scalarOk count values scalarOf Scalar.fitsOf Scalar.textFits Scalar.hexFits Scalar.digitsFit Scalar.intFits Scalar.binaryFits Scalar.wordFits Scalar.decimalFits Scalar.editedFits Scalar.tells exactIn narrow fits isNan toBits nanBits ofBits everyBy Edited.countBy Edited.lawfulFrom
 every-fits = refl
-
--- ---- the reader's refusals, in the order of the questions; then two at once
-
-abbrev readNumber : List ℕ → List ℕ → ℕ → ℕ → ℕ → ℕ
-readNumber l r items text work = numberOf (decodeRecord l [] 0 r items text work)
-
--- N Int 0,1 and T Int 1,1 under depending N, occurs 2
-abbrev counted : List ℕ
-counted = once 0 0 1 1 0 0 0 ++ entry 1 1 1 1 2 0 1 0 0 0
-
--- two packed fields of a byte
-abbrev two : List ℕ
-two = once 0 0 1 7 1 1 0 ++ once 1 1 1 7 1 1 0
-
-abbrev largest : List ℕ
-largest = 0xFF ∷ 0xFF ∷ 0xFF ∷ 0xFF ∷ 0xFF ∷ 0xFF ∷ 0xFF ∷ 0xFF ∷ []
-
-reader-refuses :
-    readNumber (0 ∷ []) [] 8 4 4
-    ∷ readNumber (once 0 0 1 10 0 0 0) [] 8 4 4
-    ∷ readNumber (entry 0 0 0 9 absent absent 0 0 0 0) [] 8 4 4
-    ∷ readNumber (once 0 0 1 1 0 0 0) (0x31 ∷ []) 8 4 1
-    ∷ readNumber (once 0 0 2 1 0 0 0) (0x31 ∷ []) 8 4 4
-    ∷ readNumber (entry 0 0 1 1 2 7 1 0 0 0) (0x31 ∷ []) 8 4 4
-    ∷ readNumber counted (0x33 ∷ 0x31 ∷ 0x31 ∷ 0x31 ∷ []) 40 4 4
-    ∷ readNumber (once 0 0 1 2 0 1 0 ++ entry 1 1 1 1 2 0 1 0 0 0) largest 40 4 4
-    ∷ readNumber counted (0x32 ∷ 0x31 ∷ []) 40 4 4
-    ∷ readNumber (once 0 0 1 7 1 1 0) (0x19 ∷ []) 8 4 4
-    ∷ readNumber (once 0 0 8 2 0 0 0) largest 8 4 4
-    ∷ readNumber (entry 0 0 0 0 2 absent 1 0 1 0x20) [] 8 4 4
-    ∷ readNumber (once 0 0 1 1 0 0 0) (0x31 ∷ []) 3 4 4
-    ∷ readNumber (once 0 0 1 0 0 1 0x20) (0x41 ∷ []) 8 0 4
-    -- 8 then 7 behind a count; 8 before 16; the List's place before its elements, 10 before an element's place
-    ∷ readNumber (once 0 0 1 1 0 0 0 ++ entry 1 1 1 7 5 0 1 1 1 0) (0x33 ∷ 0x19 ∷ []) 40 4 4
-    ∷ readNumber two (0x19 ∷ 0x1C ∷ []) 0 4 4
-    ∷ readNumber two (0x1C ∷ 0x19 ∷ []) 4 4 4
-    ∷ readNumber two (0x1C ∷ 0x1C ∷ []) 4 4 4
-    ∷ readNumber (entry 0 0 0 0 2 absent 1 0 1 0x20) [] 3 4 4
-    ∷ readNumber (entry 0 0 0 0 2 absent 1 0 1 0x20) [] 4 4 4
-    ∷ []
-    ≡ 1 ∷ 2 ∷ 3 ∷ 16 ∷ 4 ∷ 5 ∷ 6 ∷ 6 ∷ 7 ∷ 8 ∷ 9 ∷ 10 ∷ 16 ∷ 16 ∷ 8 ∷ 8 ∷ 8 ∷ 16 ∷ 16 ∷ 10 ∷ []
-unfolding checkedOf wordsOk entriesOk allBelow entryOk placeOk optionOk kindOk plainOk boolOk floatOk editedOk upTo spansOk nested size tree treeIn entryAt recordLength furthest reservedWidth dependsIn someBelow decodeRecord R.seq R.field R.elements R.one R.pad R.scalar R.inside single isPad howMany look dec says fromPage everyBy leftBy rightBy beforeBy fieldOf Display.intOf Display.intIn Display.digitsIn Display.signAt Display.restOf Display.wholeOf Packed.decodeOf Text.cut wordIn integerOf
-reader-refuses = refl
-
--- ---- the writer's refusals, in the order of the questions; then two at once
-
-abbrev writeNumber : List ℕ → List ℕ → List ℕ → List ℕ → ℕ → ℕ → ℕ
-writeNumber l masks items text room work = refusalOf (encodeRecord l masks 0 items text room work)
-
-abbrev int : ℕ → List ℕ
-int name = once name name 1 1 0 0 0
-
-abbrev edited : List ℕ
-edited = once 0 0 2 8 0 0 0
-
-writer-refuses :
-    writeNumber (0 ∷ []) [] [] [] 9 4
-    ∷ writeNumber (once 0 0 1 10 0 0 0) [] [] [] 9 4
-    ∷ writeNumber (entry 0 0 0 9 absent absent 0 0 0 0) [] [] [] 9 4
-    ∷ writeNumber (int 0) [] [] [] 9 1
-    ∷ writeNumber (int 0) [] (0 ∷ []) [] 9 4
-    ∷ writeNumber (int 0) [] [] [] 0 4
-    ∷ writeNumber (int 0) [] (0 ∷ 2 ∷ 1 ∷ 0 ∷ []) [] 0 4
-    ∷ writeNumber (int 0) [] (0 ∷ 1 ∷ 0 ∷ 1 ∷ []) (0x78 ∷ []) 9 4
-    ∷ writeNumber (int 0) [] (0 ∷ 7 ∷ 0 ∷ 1 ∷ []) [] 9 4
-    -- `$$`, and `9X` with a number that fits it and one that does not
-    ∷ writeNumber edited (0x24 ∷ 0x24 ∷ []) (0 ∷ 3 ∷ 1000 ∷ 0 ∷ []) [] 9 4
-    ∷ writeNumber edited (0x39 ∷ 0x58 ∷ []) (0 ∷ 3 ∷ 10 ∷ 0 ∷ []) [] 9 4
-    ∷ writeNumber edited (0x39 ∷ 0x58 ∷ []) (0 ∷ 3 ∷ 1 ∷ 0 ∷ []) [] 9 4
-    ∷ writeNumber (int 0) [] (0 ∷ 2 ∷ 10 ∷ 0 ∷ []) [] 9 4
-    ∷ writeNumber (entry 0 0 1 1 5 7 1 0 0 0) [] (0 ∷ 6 ∷ 2 ∷ 3 ∷ 65536 ∷ 2 ∷ 1 ∷ 0 ∷ 65536 ∷ 2 ∷ 1 ∷ 0 ∷ []) [] 1 4
-    -- the earlier field's number
-    ∷ writeNumber (int 0 ++ int 1) [] (0 ∷ 2 ∷ 10 ∷ 0 ∷ 1 ∷ 7 ∷ 0 ∷ 1 ∷ []) [] 9 4
-    ∷ writeNumber (int 0 ++ int 1) [] (0 ∷ 7 ∷ 0 ∷ 1 ∷ 1 ∷ 2 ∷ 10 ∷ 0 ∷ []) [] 9 4
-    ∷ []
-    ≡ 1 ∷ 2 ∷ 3 ∷ 16 ∷ 11 ∷ 12 ∷ 16 ∷ 13 ∷ 13 ∷ 15 ∷ 14 ∷ 15 ∷ 14 ∷ 16 ∷ 14 ∷ 13 ∷ []
-unfolding checkedOf wordsOk entriesOk allBelow entryOk placeOk optionOk kindOk plainOk boolOk floatOk editedOk upTo spansOk nested size tree treeIn entryAt recordLength furthest reservedWidth dependsIn someBelow encodeRecord supplied W.seq W.field W.table W.tableLength W.elements W.one lookup count wellFormed listOk itemOk holderOk scalarOk values enc scalarOf single isPad judgedOf bytesOf numberJudged numberBytes ontoPage Text.written Display.intFits Display.intBytes Packed.writtenOf decimalFor rescaled rounded everyBy Edited.judged Edited.countBy Edited.lawfulFrom Display.restOf Display.signAt Display.wholeOf Display.digitsIn Display.intIn leftBy rightBy
-writer-refuses = refl

@@ -49,7 +49,7 @@ same-name-requires c κs = search needs
 returns-2 : tie.Need-returns-2 Inv-loop μ-loop
 returns-2 c =
     let a = c .before .before .before .before .before .before .before .before .before .before .before .args in
-    sym (c .before .before .before .before .before .before .before .loop .inv .1 ∙ place-stop (a .text .now) (a .starts .now) (a .count) (c .before .before .before .before .before .before .before .loop .k) (a .name .now) (c .before .before .before .before .before .before .loop-test .taken) (c .before .before .before .before .before .if1 .left) (ap (sameName (a .name .now)) (sym (c .before .before .name-at .ensures ∙ ap (lineFrom (a .text .now)) (c .before .before .before .wide .ensures))) ∙ sym (c .before .same-name .ensures) ∙ c .if2 .taken))
+    sym (c .before .before .before .before .before .before .before .loop .inv .1 ∙ place-stop (a .text .now) (a .starts .now) (a .count) (c .before .before .before .before .before .before .before .loop .k) (a .name .now) (c .before .before .before .before .before .before .loop-test .taken) (c .before .before .before .before .before .if1 .left) (ap (sameName (a .name .now)) (sym (c .before .before .name-at .ensures .0 ∙ ap (lineFrom (a .text .now)) (c .before .before .before .wide .ensures))) ∙ sym (c .before .same-name .ensures) ∙ c .if2 .taken))
 
 add-k : tie.Need-add-k Inv-loop μ-loop
 add-k c = search needs
@@ -60,7 +60,7 @@ loop-less c = search needs
 loop-again : tie.Need-loop-again Inv-loop μ-loop
 loop-again c =
     let a = c .before .before .before .before .before .before .before .before .before .before .before .args in
-    ((omega arith, omega arith), c .before .before .before .before .before .before .before .loop .inv .1 ∙ place-go (a .text .now) (a .starts .now) (a .count) (c .before .before .before .before .before .before .before .loop .k) (a .name .now) (c .before .before .before .before .before .before .loop-test .taken) (c .before .before .before .before .before .if1 .left) (ap (sameName (a .name .now)) (sym (c .before .before .name-at .ensures ∙ ap (lineFrom (a .text .now)) (c .before .before .before .wide .ensures))) ∙ sym (c .before .same-name .ensures) ∙ c .if2 .left))
+    ((omega arith, omega arith), c .before .before .before .before .before .before .before .loop .inv .1 ∙ place-go (a .text .now) (a .starts .now) (a .count) (c .before .before .before .before .before .before .before .loop .k) (a .name .now) (c .before .before .before .before .before .before .loop-test .taken) (c .before .before .before .before .before .if1 .left) (ap (sameName (a .name .now)) (sym (c .before .before .name-at .ensures .0 ∙ ap (lineFrom (a .text .now)) (c .before .before .before .wide .ensures))) ∙ sym (c .before .same-name .ensures) ∙ c .if2 .left))
 
 returns-3 : tie.Need-returns-3 Inv-loop μ-loop
 returns-3 c =

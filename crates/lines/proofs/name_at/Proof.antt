@@ -10,6 +10,9 @@ use lib.Dec.{eqb, leb, ltb}
 use lib.ListN.{length, take, drop, getD, set, replicate, length-set, length-append, length-take, length-drop, length-replicate, length-map}
 use Rattle.lines.proofs.Laws.{line-is, none-past}
 use borrow.Author.Needs.{needs}
+use denote.Ref.{ptr}
+use native.Mathlib.Nat.{zero-add}
+use Rattle.lines.proofs.Inside.{line-there}
 use Rattle.lines.proofs.name_at.Statement.{statement}
 use Rattle.lines.proofs.name_at.Tie as tie
 
@@ -23,7 +26,7 @@ part-result-end : tie.Need-part-result-end
 part-result-end c = search needs
 
 returns : tie.Need-returns
-returns c = none-past (c .before .before .before .args .text .now) (c .before .before .before .args .at) (c .before .if1 .taken)
+returns c = (none-past (c .before .before .before .args .text .now) (c .before .before .before .args .at) (c .before .if1 .taken), (0, (refl, refl)))
 
 sub-rest : tie.Need-sub-rest
 sub-rest c = search needs
@@ -47,7 +50,7 @@ part-result-end-2 : tie.Need-part-result-end-2
 part-result-end-2 c = search needs
 
 returns-2 : tie.Need-returns-2
-returns-2 c = line-is (c .before .before .before .before .before .args .text .now) (c .before .before .before .before .before .args .at) (c .before .line-end .result) (c .before .line-end .ensures .1)
+returns-2 c = let e = line-is (c .before .before .before .before .before .args .text .now) (c .before .before .before .before .before .args .at) (c .before .line-end .result) (c .before .line-end .ensures .1) in (e, ((c .before .before .before .before .before .args .at), ((λ i. (ptr (c .before .before .before .before .before .args .text) .0, zero-add ((c .before .before .before .before .before .args .at) + ptr (c .before .before .before .before .before .args .text) .1) i)), line-there (c .before .before .before .before .before .args .text .now) _ (c .before .before .before .before .before .args .at) e)))
 
 pub name-at-spec : {M : Type 1} → statement M
 name-at-spec =

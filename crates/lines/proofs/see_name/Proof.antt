@@ -26,7 +26,7 @@ same-length c = search needs
 returns : tie.Need-returns
 returns c =
     let a = c .before .before .before .before .before .before .args in
-    let e : c .before .find-name .result ≡ numberAt (a .text .now) (a .starts .now) (a .count) (a .at) = number-is (a .text .now) (a .starts .now) (a .count) (a .at) _ _ (c .before .before .before .name-at .ensures) (c .before .find-name .ensures) in
+    let e : c .before .find-name .result ≡ numberAt (a .text .now) (a .starts .now) (a .count) (a .at) = number-is (a .text .now) (a .starts .now) (a .count) (a .at) _ _ (c .before .before .before .name-at .ensures .0) (c .before .find-name .ensures) in
     rw (← e, ne-eqb _ _ (c .if1 .taken)) (refl, (refl, refl))
 
 same-length-2 : tie.Need-same-length-2
@@ -35,7 +35,7 @@ same-length-2 c = search needs
 returns-2 : tie.Need-returns-2
 returns-2 c =
     let a = c .before .before .before .before .before .before .before .args in
-    let e : c .before .before .find-name .result ≡ numberAt (a .text .now) (a .starts .now) (a .count) (a .at) = number-is (a .text .now) (a .starts .now) (a .count) (a .at) _ _ (c .before .before .before .before .name-at .ensures) (c .before .before .find-name .ensures) in
+    let e : c .before .before .find-name .result ≡ numberAt (a .text .now) (a .starts .now) (a .count) (a .at) = number-is (a .text .now) (a .starts .now) (a .count) (a .at) _ _ (c .before .before .before .before .name-at .ensures .0) (c .before .before .find-name .ensures) in
     rw (← e, eq-eqb _ _ (c .before .if1 .left), le-ltb _ _ (c .if2 .taken)) (refl, (refl, refl))
 
 same-length-3 : tie.Need-same-length-3
@@ -44,7 +44,7 @@ same-length-3 c = search needs
 returns-3 : tie.Need-returns-3
 returns-3 c =
     let a = c .before .before .before .before .before .before .before .before .args in
-    let e : c .before .before .before .find-name .result ≡ numberAt (a .text .now) (a .starts .now) (a .count) (a .at) = number-is (a .text .now) (a .starts .now) (a .count) (a .at) _ _ (c .before .before .before .before .before .name-at .ensures) (c .before .before .before .find-name .ensures) in
+    let e : c .before .before .before .find-name .result ≡ numberAt (a .text .now) (a .starts .now) (a .count) (a .at) = number-is (a .text .now) (a .starts .now) (a .count) (a .at) _ _ (c .before .before .before .before .before .name-at .ensures .0) (c .before .before .before .find-name .ensures) in
     rw (← e, eq-eqb _ _ (c .before .before .if1 .left), lt-ltb _ _ (c .before .if2 .left), le-ltb _ _ (c .if3 .taken)) (refl, (refl, refl))
 
 cast-starts : tie.Need-cast-starts
@@ -65,7 +65,7 @@ same-length-4 c = search needs
 returns-4 : tie.Need-returns-4
 returns-4 c =
     let a = c .before .before .before .before .before .before .before .before .args in
-    let e : c .before .before .before .find-name .result ≡ numberAt (a .text .now) (a .starts .now) (a .count) (a .at) = number-is (a .text .now) (a .starts .now) (a .count) (a .at) _ _ (c .before .before .before .before .before .name-at .ensures) (c .before .before .before .find-name .ensures) in
+    let e : c .before .before .before .find-name .result ≡ numberAt (a .text .now) (a .starts .now) (a .count) (a .at) = number-is (a .text .now) (a .starts .now) (a .count) (a .at) _ _ (c .before .before .before .before .before .name-at .ensures .0) (c .before .before .before .find-name .ensures) in
     rw (← e, eq-eqb _ _ (c .before .before .if1 .left), lt-ltb _ _ (c .before .if2 .left), lt-ltb _ _ (c .if3 .left)) (refl, (refl, refl))
 
 pub see-name-spec : {M : Type 1} → statement M

@@ -25,11 +25,11 @@ same-length c = search needs
 
 returns : tie.Need-returns
 returns c =
-    rw (← (c .before .before .before .before .before .trimmed .ensures), length-map, le-leb _ _ (c .before .before .before .before .if1 .taken))
+    rw (← (c .before .before .before .before .before .trimmed .ensures .0), length-map, le-leb _ _ (c .before .before .before .before .if1 .taken))
     (refl, c .before .before .decode-slice .ensures ∙ copied-all (fromPage (c .before .before .before .before .before .before .before .before .args .page)) (c .before .before .before .before .before .trimmed .result .now) (c .before .before .before .before .before .before .before .before .args .out .now) (c .before .before .before .before .if1 .taken))
 
 returns-2 : tie.Need-returns-2
-returns-2 c = rw (← (c .before .trimmed .ensures), length-map, lt-leb _ _ (c .if1 .left)) (refl, refl)
+returns-2 c = rw (← (c .before .trimmed .ensures .0), length-map, lt-leb _ _ (c .if1 .left)) (refl, refl)
 
 pub put-text-spec : {M : Type 1} → statement M
 put-text-spec =

@@ -8,8 +8,9 @@ use native.Mathlib.Numerals.{add-one}
 use borrow.Author.Tests.{lt-ltb, le-ltb, le-leb, lt-leb, eq-eqb, ne-eqb, eqb-true, eqb-false, ltb-true, ltb-false, leb-true, leb-false}
 use lib.Dec.{eqb, leb, ltb}
 use lib.ListN.{length, take, drop, getD, set, replicate, length-set, length-append, length-take, length-drop, length-replicate, length-map}
-use Rattle.text.specs.Text.{cut}
-use Rattle.text.proofs.Cuts.{right-part, left-part}
+use Rattle.text.specs.Text.{cut, placeIn}
+use Rattle.ebcdic.specs.Ebcdic.{fromPage}
+use Rattle.text.proofs.Cuts.{right-part, right-from, left-part, place-zero, place-front, from-zero, from-right}
 use borrow.Author.Needs.{needs}
 use Rattle.text.proofs.trimmed.Statement.{statement}
 use Rattle.text.proofs.trimmed.Tie as tie
@@ -44,9 +45,13 @@ part-result-end c = search needs
 returns : tie.Need-returns
 returns c =
     let a = c .before .before .before .before .before .before .before .before .args in
-    rw (c .before .before .before .before .before .before .if1 .taken, c .before .before .before .before .if2 .taken)
-    (right-part (a .page) (a .pad) (omega arith) (a .s .now) (λ k _. omega (arith, c .before .before .before .before .before .before .before .shared-slice-known .given k)) (c .before .before .before .before .before .onto-page .result) (c .before .before .before .pad-start .result) (c .before .zero-at .result)
-    (c .before .before .before .before .before .onto-page .ensures) (c .before .before .before .pad-start .ensures .1) (c .before .zero-at .ensures .1))
+    rw (c .before .before .before .before .before .before .if1 .taken, c .before .before .before .before .if2 .taken) (
+      right-part (a .page) (a .pad) (omega arith) (a .s .now) (λ k _. omega (arith, c .before .before .before .before .before .before .before .shared-slice-known .given k)) (c .before .before .before .before .before .onto-page .result) (c .before .before .before .pad-start .result) (c .before .zero-at .result)
+          (c .before .before .before .before .before .onto-page .ensures) (c .before .before .before .pad-start .ensures .1) (c .before .zero-at .ensures .1),
+      place-front (a .s) (c .before .before .before .pad-start .result) _
+          (right-from (a .page) (a .pad) (omega arith) (a .s .now) (λ k _. omega (arith, c .before .before .before .before .before .before .before .shared-slice-known .given k)) (c .before .before .before .before .before .onto-page .result) (c .before .before .before .pad-start .result)
+          (c .before .before .before .before .before .onto-page .ensures) (c .before .before .before .pad-start .ensures .0) (c .before .before .before .pad-start .ensures .1)),
+    )
 
 pad-end-requires : tie.Need-pad-end-requires
 pad-end-requires c κs = search needs
@@ -75,13 +80,17 @@ part-result-end-2 c = search needs
 returns-2 : tie.Need-returns-2
 returns-2 c =
     let a = c .before .before .before .before .before .before .before .before .args in
-    rw (c .before .before .before .before .before .before .if1 .taken, c .before .before .before .before .if2 .left)
-    (left-part (a .page) (a .pad) (omega arith) (a .s .now) (λ k _. omega (arith, c .before .before .before .before .before .before .before .shared-slice-known .given k)) (c .before .before .before .before .before .onto-page .result) (c .before .before .before .pad-end .result) (c .before .zero-at2 .result)
-    (c .before .before .before .before .before .onto-page .ensures) (c .before .before .before .pad-end .ensures .1) (c .before .zero-at2 .ensures .1))
+    rw (c .before .before .before .before .before .before .if1 .taken, c .before .before .before .before .if2 .left) (
+      left-part (a .page) (a .pad) (omega arith) (a .s .now) (λ k _. omega (arith, c .before .before .before .before .before .before .before .shared-slice-known .given k)) (c .before .before .before .before .before .onto-page .result) (c .before .before .before .pad-end .result) (c .before .zero-at2 .result)
+          (c .before .before .before .before .before .onto-page .ensures) (c .before .before .before .pad-end .ensures .1) (c .before .zero-at2 .ensures .1),
+      place-front (a .s) 0 _ (from-right (a .pad) (map (fromPage (a .page)) (a .s .now))),
+    )
 
 returns-3 : tie.Need-returns-3
 unfolding cut
-returns-3 c = rw (c .if1 .left)
+returns-3 c =
+    let a = c .before .before .args in
+    rw (c .if1 .left) (refl, place-zero (a .s) ∙ ap (placeIn (a .s)) (from-zero (a .right) (a .pad) (map (fromPage (a .page)) (a .s .now))))
 
 pub trimmed-spec : {M : Type 1} → statement M
 trimmed-spec =

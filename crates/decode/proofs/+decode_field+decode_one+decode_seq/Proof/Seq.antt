@@ -1,0 +1,138 @@
+use Prim.Native.Nat.{ℕ, _<_}
+use borrow.Fn.Kinds.{In}
+use borrow.Fn.PlainCycle.{Measures, is, falls, and}
+use Rattle.decode.proofs.decode_field.Reads as decode-field
+use Rattle.decode.proofs.decode_field.Kinds as decode-field-kinds
+use Rattle.decode.proofs.decode_one.Reads as decode-one
+use Rattle.decode.proofs.decode_one.Kinds as decode-one-kinds
+use Rattle.decode.proofs.decode_seq.Reads as decode-seq
+use Rattle.decode.proofs.decode_seq.Kinds as decode-seq-kinds
+use Rattle.decode.proofs.+decode_field+decode_one+decode_seq.Lts-decode_seq as decode-seq-lts
+use Rattle.decode_leaf.proofs.decode_leaf.Reads as decode-leaf-reads
+use Rattle.decode_leaf.proofs.head_words.Reads as head-words-reads
+use Rattle.decode_leaf.proofs.how_many.Reads as how-many-reads
+use Rattle.decode_leaf.proofs.is_single.Reads as is-single-reads
+use Rattle.decode_leaf.proofs.larger.Reads as larger-reads
+use Rattle.decode_leaf.proofs.less.Reads as less-reads
+use Rattle.decode_leaf.proofs.listed.Reads as listed-reads
+use Rattle.decode_leaf.proofs.put_header.Reads as put-header-reads
+use Rattle.decode_leaf.proofs.refusal.Reads as refusal-reads
+use Rattle.decode_leaf.proofs.sat_add.Reads as sat-add-reads
+use Rattle.layout.proofs.load.Reads as load-reads
+use Rattle.layout.proofs.reserved_width.Reads as reserved-width-reads
+use Rattle.spans.proofs.end_of.Reads as end-of-reads
+use Rattle.decode.proofs.+decode_field+decode_one+decode_seq.Proof.Common.{μ-decode-field, μ-decode-one, μ-decode-seq, decode-field-at, decode-field-below, decode-one-at, decode-one-below, decode-seq-at, decode-seq-below}
+use mathlib.Core.Path.{_≡_, refl, sym, ap, _∙_}
+use mathlib.Core.Bool.{true, false}
+use mathlib.Core.List.{List, [], _∷_, _++_}
+use Prim.Native.Nat.{_+_, _-_, _*_, _≤_}
+use native.Mathlib.Omega.{arith}
+use borrow.Author.Needs.{needs}
+use lib.ListN.{length, take, drop}
+use Rattle.layout.specs.Layout.{part}
+use Rattle.decode_leaf.specs.Capped.{seq}
+use Rattle.decode_leaf.specs.Machine.{kept}
+use Rattle.decode_leaf.proofs.Meets.{refuse, same-as}
+use Rattle.decode.proofs.Turns.{SeqInv, seq-starts, seq-stops, seq-goes, seq-done, returned-same, returned-written}
+
+abbrev pub decode-seq-claims : ℕ → decode-seq-lts.Claims
+decode-seq-claims t = (load-reads.Asked, load-reads.Learnt, end-of-reads.Asked, end-of-reads.Learnt, sat-add-reads.Asked, sat-add-reads.Learnt, decode-field-below t, decode-field.Post, refusal-reads.Asked, refusal-reads.Learnt, reserved-width-reads.Asked, reserved-width-reads.Learnt, less-reads.Asked, less-reads.Learnt, larger-reads.Asked, larger-reads.Learnt)
+
+abbrev pub decode-seq-Inv-loop : decode-seq-lts.InvT-loop
+decode-seq-Inv-loop layout «record» items₀ text₀ counts₀ page deps lo hi base told i₀ used₀ members₀ shift₀ far₀ behind₀ items text counts i used members shift far behind = SeqInv (λ m. kept layout page m deps) «record» layout items₀ text₀ counts₀ lo hi base told items text counts i used members shift far behind
+
+abbrev pub decode-seq-μ-loop : decode-seq-lts.MeasureT-loop
+decode-seq-μ-loop layout «record» items₀ text₀ counts₀ page deps lo hi base told i₀ used₀ members₀ shift₀ far₀ behind₀ items text counts i used members shift far behind = hi - i
+
+pub decode-seq-loop-holds : (t : ℕ) → decode-seq-lts.Need-loop-holds (decode-seq-claims t) (decode-seq-at t) decode-seq.Post decode-seq-Inv-loop decode-seq-μ-loop
+decode-seq-loop-holds t c = seq-starts _ _ _ _ _ _ _ _ _ _ (c .before .before .before .before .pre .1)
+
+pub decode-seq-load-requires : (t : ℕ) → decode-seq-lts.Need-load-requires (decode-seq-claims t) (decode-seq-at t) decode-seq.Post decode-seq-Inv-loop decode-seq-μ-loop
+decode-seq-load-requires t c κs = search needs
+
+pub decode-seq-cast-end-of : (t : ℕ) → decode-seq-lts.Need-cast-end-of (decode-seq-claims t) (decode-seq-at t) decode-seq.Post decode-seq-Inv-loop decode-seq-μ-loop
+decode-seq-cast-end-of t c = search needs
+
+pub decode-seq-end-of-requires : (t : ℕ) → decode-seq-lts.Need-end-of-requires (decode-seq-claims t) (decode-seq-at t) decode-seq.Post decode-seq-Inv-loop decode-seq-μ-loop
+decode-seq-end-of-requires t c κs = search needs
+
+pub decode-seq-cast-sat-add : (t : ℕ) → decode-seq-lts.Need-cast-sat-add (decode-seq-claims t) (decode-seq-at t) decode-seq.Post decode-seq-Inv-loop decode-seq-μ-loop
+decode-seq-cast-sat-add t c = search needs
+
+pub decode-seq-sat-add-requires : (t : ℕ) → decode-seq-lts.Need-sat-add-requires (decode-seq-claims t) (decode-seq-at t) decode-seq.Post decode-seq-Inv-loop decode-seq-μ-loop
+decode-seq-sat-add-requires t c κs = search needs
+
+pub decode-seq-sat-add-requires-2 : (t : ℕ) → decode-seq-lts.Need-sat-add-requires-2 (decode-seq-claims t) (decode-seq-at t) decode-seq.Post decode-seq-Inv-loop decode-seq-μ-loop
+decode-seq-sat-add-requires-2 t c κs = search needs
+
+pub decode-seq-mul-decode-field : (t : ℕ) → decode-seq-lts.Need-mul-decode-field (decode-seq-claims t) (decode-seq-at t) decode-seq.Post decode-seq-Inv-loop decode-seq-μ-loop
+decode-seq-mul-decode-field t c = omega (arith, c .before .before .before .before .before .before .before .loop .inv .written .within, c .before .before .before .before .before .before .before .loop .inv .written .same, c .before .before .before .before .before .before .before .before .before .before .before .before .good .1 .1 .0 .0, c .before .before .before .before .before .before .before .before .before .before .before .before .good .1 .1 .0 .1)
+
+pub decode-seq-sub-decode-field : (t : ℕ) → decode-seq-lts.Need-sub-decode-field (decode-seq-claims t) (decode-seq-at t) decode-seq.Post decode-seq-Inv-loop decode-seq-μ-loop
+decode-seq-sub-decode-field t c = omega (arith, c .before .before .before .before .before .before .before .loop .inv .written .within, c .before .before .before .before .before .before .before .loop .inv .written .same)
+
+pub decode-seq-part-decode-field-start : (t : ℕ) → decode-seq-lts.Need-part-decode-field-start (decode-seq-claims t) (decode-seq-at t) decode-seq.Post decode-seq-Inv-loop decode-seq-μ-loop
+decode-seq-part-decode-field-start t c = omega (arith, c .before .before .before .before .before .before .before .loop .inv .written .within, c .before .before .before .before .before .before .before .loop .inv .written .same)
+
+pub decode-seq-part-decode-field-end : (t : ℕ) → decode-seq-lts.Need-part-decode-field-end (decode-seq-claims t) (decode-seq-at t) decode-seq.Post decode-seq-Inv-loop decode-seq-μ-loop
+decode-seq-part-decode-field-end t c = omega arith
+
+pub decode-seq-add-decode-field : (t : ℕ) → decode-seq-lts.Need-add-decode-field (decode-seq-claims t) (decode-seq-at t) decode-seq.Post decode-seq-Inv-loop decode-seq-μ-loop
+decode-seq-add-decode-field t c = omega (arith, c .before .before .before .before .before .before .before .before .before .loop-test .taken, c .before .before .before .before .before .before .before .before .before .before .before .before .before .before .before .fits .hi)
+
+pub decode-seq-decode-field-requires : (t : ℕ) → decode-seq-lts.Need-decode-field-requires (decode-seq-claims t) (decode-seq-at t) decode-seq.Post decode-seq-Inv-loop decode-seq-μ-loop
+decode-seq-decode-field-requires t c κs = (omega (arith, c .before .before .before .before .before .before .before .before .before .before .before .before .before .before .before .pre .0, c .before .before .before .before .before .before .before .before .before .before .loop .inv .past, c .before .before .before .before .before .before .before .before .before .loop-test .taken, c .before .before .before .before .before .before .end-of .ensures), c .before .before .before .before .before .before .before .before .before .before .loop .inv .fits)
+
+pub decode-seq-refusal-requires : (t : ℕ) → decode-seq-lts.Need-refusal-requires (decode-seq-claims t) (decode-seq-at t) decode-seq.Post decode-seq-Inv-loop decode-seq-μ-loop
+decode-seq-refusal-requires t c κs = search needs
+
+pub decode-seq-same-length : (t : ℕ) → decode-seq-lts.Need-same-length (decode-seq-claims t) (decode-seq-at t) decode-seq.Post decode-seq-Inv-loop decode-seq-μ-loop
+decode-seq-same-length t c = returned-same (c .before .before .before .before .before .before .before .before .before .before .before .before .before .before .before .before .before .before .before .loop .inv .written) (c .before .before .before .before .before .before .before .before .decode-field .last .1 .1 .0) (c .before .before .before .before .before .before .before .before .decode-field .kept .1 .1 .0) ∙ c .before .before .before .before .before .before .before .before .before .before .before .before .before .before .before .before .before .before .before .loop .inv .written .same
+
+pub decode-seq-same-length-2 : (t : ℕ) → decode-seq-lts.Need-same-length-2 (decode-seq-claims t) (decode-seq-at t) decode-seq.Post decode-seq-Inv-loop decode-seq-μ-loop
+decode-seq-same-length-2 t c = (c .before .before .before .before .before .before .before .before .decode-field .kept .1 .1 .1 .0) ∙ c .before .before .before .before .before .before .before .before .before .before .before .before .before .before .before .before .before .before .before .loop .inv .texts
+
+pub decode-seq-same-length-3 : (t : ℕ) → decode-seq-lts.Need-same-length-3 (decode-seq-claims t) (decode-seq-at t) decode-seq.Post decode-seq-Inv-loop decode-seq-μ-loop
+decode-seq-same-length-3 t c = (c .before .before .before .before .before .before .before .before .decode-field .kept .1 .1 .1 .1 .0) ∙ c .before .before .before .before .before .before .before .before .before .before .before .before .before .before .before .before .before .before .before .loop .inv .kept
+
+pub decode-seq-returns : (t : ℕ) → decode-seq-lts.Need-returns (decode-seq-claims t) (decode-seq-at t) decode-seq.Post decode-seq-Inv-loop decode-seq-μ-loop
+decode-seq-returns t c = refuse (c .before .before .before .before .before .before .before .before .decode-field .result .refused) (c .refusal .ensures) (c .before .if1 .taken) (seq-stops (c .before .before .before .before .before .before .before .before .before .before .before .before .before .before .before .before .before .before .before .loop .inv) _ _ _ _ (c .before .before .before .before .before .before .before .before .before .before .before .before .before .before .before .before .before .before .loop-test .taken) (c .before .before .before .before .before .before .before .before .before .before .before .before .before .before .before .before .before .load .ensures) (c .before .before .before .before .before .before .before .before .before .before .before .before .before .before .before .end-of .ensures) (c .before .before .before .before .before .before .before .before .before .before .before .before .before .sat-add .ensures) (c .before .before .before .before .before .before .before .before .before .before .before .before .sat-add2 .ensures) (c .before .before .before .before .before .before .before .before .decode-field .last .1 .1 .0) (c .before .before .before .before .before .before .before .before .decode-field .kept .1 .1 .0) _ (c .before .before .before .before .before .before .before .before .decode-field .ensures .refuses (c .before .if1 .taken)))
+
+pub decode-seq-reserved-width-requires : (t : ℕ) → decode-seq-lts.Need-reserved-width-requires (decode-seq-claims t) (decode-seq-at t) decode-seq.Post decode-seq-Inv-loop decode-seq-μ-loop
+decode-seq-reserved-width-requires t c κs = search needs
+
+pub decode-seq-less-requires : (t : ℕ) → decode-seq-lts.Need-less-requires (decode-seq-claims t) (decode-seq-at t) decode-seq.Post decode-seq-Inv-loop decode-seq-μ-loop
+decode-seq-less-requires t c κs = search needs
+
+pub decode-seq-sat-add-requires-3 : (t : ℕ) → decode-seq-lts.Need-sat-add-requires-3 (decode-seq-claims t) (decode-seq-at t) decode-seq.Post decode-seq-Inv-loop decode-seq-μ-loop
+decode-seq-sat-add-requires-3 t c κs = search needs
+
+pub decode-seq-sat-add-requires-4 : (t : ℕ) → decode-seq-lts.Need-sat-add-requires-4 (decode-seq-claims t) (decode-seq-at t) decode-seq.Post decode-seq-Inv-loop decode-seq-μ-loop
+decode-seq-sat-add-requires-4 t c κs = search needs
+
+pub decode-seq-larger-requires : (t : ℕ) → decode-seq-lts.Need-larger-requires (decode-seq-claims t) (decode-seq-at t) decode-seq.Post decode-seq-Inv-loop decode-seq-μ-loop
+decode-seq-larger-requires t c κs = search needs
+
+pub decode-seq-add-used : (t : ℕ) → decode-seq-lts.Need-add-used (decode-seq-claims t) (decode-seq-at t) decode-seq.Post decode-seq-Inv-loop decode-seq-μ-loop
+decode-seq-add-used t c = omega (arith, returned-written (c .before .before .before .before .before .before .before .before .before .before .before .before .before .before .before .before .before .before .before .before .before .before .before .before .loop .inv .written) (c .before .before .before .before .before .before .before .before .before .before .before .before .before .decode-field .last .1 .1 .0) (c .before .before .before .before .before .before .before .before .before .before .before .before .before .decode-field .kept .1 .1 .0) _ ((c .before .before .before .before .before .before .before .before .before .before .before .before .before .decode-field .ensures .fine (c .before .before .before .before .before .before .if1 .left)) .within) .within, c .before .before .before .before .before .before .before .before .before .before .before .before .before .before .before .before .before .before .before .before .before .before .before .before .before .before .before .before .before .good .1 .1 .0 .0)
+
+pub decode-seq-add-members : (t : ℕ) → decode-seq-lts.Need-add-members (decode-seq-claims t) (decode-seq-at t) decode-seq.Post decode-seq-Inv-loop decode-seq-μ-loop
+decode-seq-add-members t c = omega (arith, returned-written (c .before .before .before .before .before .before .before .before .before .before .before .before .before .before .before .before .before .before .before .before .before .before .before .before .before .loop .inv .written) (c .before .before .before .before .before .before .before .before .before .before .before .before .before .before .decode-field .last .1 .1 .0) (c .before .before .before .before .before .before .before .before .before .before .before .before .before .before .decode-field .kept .1 .1 .0) _ ((c .before .before .before .before .before .before .before .before .before .before .before .before .before .before .decode-field .ensures .fine (c .before .before .before .before .before .before .before .if1 .left)) .within) .within, c .before .before .before .before .before .before .before .before .before .before .before .before .before .before .before .before .before .before .before .before .before .before .before .before .before .before .before .before .before .before .good .1 .1 .0 .0, c .before .before .before .before .before .before .before .before .before .before .before .before .before .before .before .before .before .before .before .before .before .before .before .before .before .loop .inv .few, (c .before .before .before .before .before .before .before .before .before .before .before .before .before .before .decode-field .ensures .fine (c .before .before .before .before .before .before .before .if1 .left)) .few)
+
+pub decode-seq-loop-less : (t : ℕ) → decode-seq-lts.Need-loop-less (decode-seq-claims t) (decode-seq-at t) decode-seq.Post decode-seq-Inv-loop decode-seq-μ-loop
+decode-seq-loop-less t c = omega (arith, c .before .before .before .before .before .before .before .before .before .before .before .before .before .before .before .before .before .before .before .before .before .end-of .ensures, c .before .before .before .before .before .before .before .before .before .before .before .before .before .before .before .before .before .before .before .before .before .before .before .before .loop-test .taken)
+
+pub decode-seq-loop-again : (t : ℕ) → decode-seq-lts.Need-loop-again (decode-seq-claims t) (decode-seq-at t) decode-seq.Post decode-seq-Inv-loop decode-seq-μ-loop
+decode-seq-loop-again t c = seq-goes (c .before .before .before .before .before .before .before .before .before .before .before .before .before .before .before .before .before .before .before .before .before .before .before .before .before .loop .inv) _ _ _ _ (c .before .before .before .before .before .before .before .before .before .before .before .before .before .before .before .before .before .before .before .before .before .before .before .before .loop-test .taken) (c .before .before .before .before .before .before .before .before .before .before .before .before .before .before .before .before .before .before .before .before .before .before .before .load .ensures) (c .before .before .before .before .before .before .before .before .before .before .before .before .before .before .before .before .before .before .before .before .before .end-of .ensures) (c .before .before .before .before .before .before .before .before .before .before .before .before .before .before .before .before .before .before .before .sat-add .ensures) (c .before .before .before .before .before .before .before .before .before .before .before .before .before .before .before .before .before .before .sat-add2 .ensures) (c .before .before .before .before .before .before .before .before .before .before .before .before .before .before .decode-field .last .1 .1 .0) (c .before .before .before .before .before .before .before .before .before .before .before .before .before .before .decode-field .kept .1 .1 .0) (c .before .before .before .before .before .before .before .before .before .before .before .before .before .before .decode-field .result) (c .before .before .before .before .before .before .before .before .before .before .before .before .before .before .decode-field .last .1 .1 .1 .0) (c .before .before .before .before .before .before .before .before .before .before .before .before .before .before .decode-field .last .1 .1 .1 .1 .0) (c .before .before .before .before .before .before .before .before .before .before .before .before .before .before .decode-field .ensures .fine (c .before .before .before .before .before .before .before .if1 .left)) _ _ _ _ _ (c .before .before .before .before .before .before .before .before .before .before .before .before .before .before .decode-field .kept .1 .1 .1 .0) (c .before .before .before .before .before .before .before .before .before .before .before .before .before .before .decode-field .kept .1 .1 .1 .1 .0) (c .before .before .before .before .before .before .reserved-width .ensures) (c .before .before .before .before .before .less .ensures) (c .before .before .before .before .sat-add3 .ensures) (c .before .before .before .sat-add4 .ensures) (c .before .before .larger .ensures)
+
+pub decode-seq-same-length-4 : (t : ℕ) → decode-seq-lts.Need-same-length-4 (decode-seq-claims t) (decode-seq-at t) decode-seq.Post decode-seq-Inv-loop decode-seq-μ-loop
+decode-seq-same-length-4 t c = c .before .loop .inv .written .same
+
+pub decode-seq-same-length-5 : (t : ℕ) → decode-seq-lts.Need-same-length-5 (decode-seq-claims t) (decode-seq-at t) decode-seq.Post decode-seq-Inv-loop decode-seq-μ-loop
+decode-seq-same-length-5 t c = c .before .loop .inv .texts
+
+pub decode-seq-same-length-6 : (t : ℕ) → decode-seq-lts.Need-same-length-6 (decode-seq-claims t) (decode-seq-at t) decode-seq.Post decode-seq-Inv-loop decode-seq-μ-loop
+decode-seq-same-length-6 t c = c .before .loop .inv .kept
+
+pub decode-seq-returns-2 : (t : ℕ) → decode-seq-lts.Need-returns-2 (decode-seq-claims t) (decode-seq-at t) decode-seq.Post decode-seq-Inv-loop decode-seq-μ-loop
+decode-seq-returns-2 t c = seq-done (c .before .loop .inv) (c .loop-test .left)

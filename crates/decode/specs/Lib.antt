@@ -1,0 +1,2 @@
+-- The questions that the reader asks before its walk.
+pub mod Asked

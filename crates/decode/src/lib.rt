@@ -1,0 +1,337 @@
+// The record reader: a sequence reads fields, a field reads elements, a group element reads a sequence.
+use decode_leaf::Out;
+use decode_leaf::clear_counts;
+use decode_leaf::clear_items;
+use decode_leaf::clear_text;
+use decode_leaf::decode_leaf;
+use decode_leaf::head_words;
+use decode_leaf::how_many;
+use decode_leaf::is_single;
+use decode_leaf::larger;
+use decode_leaf::less;
+use decode_leaf::listed;
+use decode_leaf::put_header;
+use decode_leaf::refusal;
+use decode_leaf::sat_add;
+use layout::Entry;
+use layout::check_layout;
+use layout::has_depending_on;
+use layout::load;
+use layout::record_length;
+use layout::reserved_width;
+use spans::end_of;
+ghost use mathlib.Core.Path.{_≡_};
+ghost use mathlib.Core.Bool.{Bool, true, false};
+ghost use mathlib.Core.List.{List, []};
+ghost use Prim.Native.Nat.{ℕ, _+_, _≤_};
+ghost use lib.IntN.{pos};
+ghost use lib.ListN.{length, replicate};
+ghost use Rattle.layout.specs.Layout.{part};
+ghost use Rattle.walks.specs.Reading.{one};
+ghost use Rattle.walks.specs.Records.{decodeRecord, numberOf, itemsOf, textsOf, filled};
+ghost use Rattle.decode_leaf.specs.Capped.{seq, field};
+ghost use Rattle.decode_leaf.specs.Machine.{kept, state, Met};
+ghost use Rattle.decode.specs.Asked.{askedOf};
+
+// What reading a record answers: the number that refuses it, or 0 with the item words and the text bytes used.
+pub struct Reading {
+    pub number: u32,
+    pub items: usize,
+    pub text: usize,
+}
+
+// The entries lo up to hi, one after the other, from a base on.
+fn decode_seq(
+    layout: &[u32],
+    record: &[u8],
+    items: &mut [u64],
+    text: &mut [u8],
+    counts: &mut [i64],
+    page: u32,
+    deps: bool,
+    lo: usize,
+    hi: usize,
+    base: u64,
+    told: usize,
+) -> Out
+    requires { ⌜ told ≤ length (now text) ⌝ }
+    ensures { λ r. ⌜ Met (seq (kept (now (layout .entry)) page (length (now (text .entry))) deps) (now («record» .entry)) (part (now (layout .entry)) lo hi) base 0 (length (now (items .entry))) (state (now (counts .entry)) told (now (text .entry)))) r (now (items .exit)) (now (text .exit)) (now (counts .exit)) ⌝ }
+{
+    let mut i = lo;
+    let mut used: usize = 0;
+    let mut members: u64 = 0;
+    let mut shift: u64 = 0;
+    let mut far: u64 = 0;
+    let mut behind = told;
+    while i < hi {
+        let e = load(layout, i);
+        let end = end_of(e.span as u64, i, hi);
+        let off = sat_add(e.offset as u64, shift);
+        let at = sat_add(base, off);
+        let o = decode_field(
+            layout,
+            record,
+            &mut items[used..],
+            text,
+            counts,
+            page,
+            deps,
+            e,
+            i + 1,
+            end,
+            at,
+            behind,
+        );
+        if o.refused != 0 {
+            return refusal(o.refused);
+        }
+        let grown = less(o.taken, reserved_width(e));
+        shift = sat_add(shift, grown);
+        far = larger(far, sat_add(off, o.taken));
+        used = used + o.used;
+        members = members + o.members;
+        behind = o.told;
+        i = end;
+    }
+    Out {
+        refused: 0,
+        used,
+        members,
+        taken: far,
+        told: behind,
+    }
+}
+
+// An entry whose members are the entries lo up to hi: one element, or the elements of a table.
+fn decode_field(
+    layout: &[u32],
+    record: &[u8],
+    items: &mut [u64],
+    text: &mut [u8],
+    counts: &mut [i64],
+    page: u32,
+    deps: bool,
+    e: Entry,
+    lo: usize,
+    hi: usize,
+    at: u64,
+    told: usize,
+) -> Out
+    requires { ⌜ told ≤ length (now text) ⌝ }
+    ensures { λ r. ⌜ Met (field (kept (now (layout .entry)) page (length (now (text .entry))) deps) (now («record» .entry)) e (λ b n s. seq (kept (now (layout .entry)) page (length (now (text .entry))) deps) (now («record» .entry)) (part (now (layout .entry)) lo hi) b 0 n s) at (length (now (items .entry))) (state (now (counts .entry)) told (now (text .entry)))) r (now (items .exit)) (now (text .exit)) (now (counts .exit)) ⌝ }
+{
+    if is_single(e) {
+        return decode_one(
+            layout,
+            record,
+            items,
+            text,
+            counts,
+            page,
+            deps,
+            e,
+            lo,
+            hi,
+            at,
+            told,
+            e.name as u64,
+            true,
+        );
+    }
+    let c = how_many(layout, counts, e);
+    if c.refused != 0 {
+        return refusal(c.refused);
+    }
+    let head = head_words(e);
+    if items.len() < head {
+        return refusal(16);
+    }
+    let n = c.n;
+    let mut k: u64 = 0;
+    let mut used = head;
+    let mut members: u64 = 0;
+    let mut place = at;
+    let mut taken: u64 = 0;
+    let mut behind = told;
+    while k < n {
+        let o = decode_one(
+            layout,
+            record,
+            &mut items[used..],
+            text,
+            counts,
+            page,
+            deps,
+            e,
+            lo,
+            hi,
+            place,
+            behind,
+            65536,
+            false,
+        );
+        if o.refused != 0 {
+            return refusal(o.refused);
+        }
+        if o.taken == 0 {
+            return refusal(10);
+        }
+        place = sat_add(place, o.taken);
+        taken = sat_add(taken, o.taken);
+        used = used + o.used;
+        members = members + o.members;
+        behind = o.told;
+        k = k + 1;
+    }
+    listed(items, e, head, used, members, taken, behind)
+}
+
+// One element: a group of the entries lo up to hi, or a scalar or Pad.
+fn decode_one(
+    layout: &[u32],
+    record: &[u8],
+    items: &mut [u64],
+    text: &mut [u8],
+    counts: &mut [i64],
+    page: u32,
+    deps: bool,
+    e: Entry,
+    lo: usize,
+    hi: usize,
+    at: u64,
+    told: usize,
+    name: u64,
+    once: bool,
+) -> Out
+    requires { ⌜ told ≤ length (now text) ⌝ }
+    ensures { λ r. ⌜ Met (one (kept (now (layout .entry)) page (length (now (text .entry))) deps) (now («record» .entry)) e (λ b n s. seq (kept (now (layout .entry)) page (length (now (text .entry))) deps) (now («record» .entry)) (part (now (layout .entry)) lo hi) b 0 n s) name once at (length (now (items .entry))) (state (now (counts .entry)) told (now (text .entry)))) r (now (items .exit)) (now (text .exit)) (now (counts .exit)) ⌝ }
+{
+    if e.kind != 9 {
+        return decode_leaf(
+            layout,
+            record,
+            items,
+            text,
+            counts,
+            page,
+            deps,
+            e,
+            at,
+            told,
+            name,
+            once,
+        );
+    }
+    if items.len() < 4 {
+        return refusal(16);
+    }
+    let o = decode_seq(
+        layout,
+        record,
+        &mut items[4..],
+        text,
+        counts,
+        page,
+        deps,
+        lo,
+        hi,
+        at,
+        told,
+    );
+    if o.refused != 0 {
+        return refusal(o.refused);
+    }
+    let used = o.used + 4;
+    put_header(items, name, 7, o.members, (used / 4) as u64);
+    Out {
+        refused: 0,
+        used,
+        members: 1,
+        taken: o.taken,
+        told: o.told,
+    }
+}
+
+// The questions before the walk: the number of the first that fails, or 0.
+fn asked(layout: &[u32], masks: &[u8], page: u32, bytes: usize, work: usize, deps: bool) -> u32
+    ensures { λ r. ⌜ r ≡ askedOf (now (layout .entry)) (now (masks .entry)) page bytes work deps ⌝ }
+{
+    let number = check_layout(layout, masks, page);
+    if number != 0 {
+        return number;
+    }
+    if work < layout.len() / 12 * 2 {
+        return 16;
+    }
+    if 65536 < bytes {
+        return 4;
+    }
+    if deps {
+        return 0;
+    }
+    if (bytes as u64) < record_length(layout) {
+        return 4;
+    }
+    0
+}
+
+// Reads a record by a layout: the items and their texts, and zeros behind them; zeros alone after a refusal.
+pub fn decode_record(
+    layout: &[u32],
+    masks: &[u8],
+    page: u32,
+    record: &[u8],
+    items: &mut [u64],
+    text: &mut [u8],
+    counts: &mut [i64],
+) -> Reading
+    ensures { λ r. ⌜ r .number ≡ numberOf (decodeRecord (now (layout .entry)) (now (masks .entry)) page (now («record» .entry)) (length (now (items .entry))) (length (now (text .entry))) (length (now (counts .entry)))) ⌝ }
+    ensures { λ r. ⌜ r .items ≡ length (itemsOf (decodeRecord (now (layout .entry)) (now (masks .entry)) page (now («record» .entry)) (length (now (items .entry))) (length (now (text .entry))) (length (now (counts .entry))))) ⌝ }
+    ensures { λ r. ⌜ r .text ≡ length (textsOf (decodeRecord (now (layout .entry)) (now (masks .entry)) page (now («record» .entry)) (length (now (items .entry))) (length (now (text .entry))) (length (now (counts .entry))))) ⌝ }
+    ensures { λ _. ⌜ now (items .exit) ≡ filled (length (now (items .entry))) (itemsOf (decodeRecord (now (layout .entry)) (now (masks .entry)) page (now («record» .entry)) (length (now (items .entry))) (length (now (text .entry))) (length (now (counts .entry))))) ⌝ }
+    ensures { λ _. ⌜ now (text .exit) ≡ filled (length (now (text .entry))) (textsOf (decodeRecord (now (layout .entry)) (now (masks .entry)) page (now («record» .entry)) (length (now (items .entry))) (length (now (text .entry))) (length (now (counts .entry))))) ⌝ }
+    ensures { λ _. ⌜ now (counts .exit) ≡ replicate (length (now (counts .entry))) (pos 0) ⌝ }
+{
+    let deps = has_depending_on(layout);
+    let number = asked(layout, masks, page, record.len(), counts.len(), deps);
+    clear_counts(counts);
+    if number != 0 {
+        clear_items(items, 0);
+        clear_text(text, 0);
+        return Reading {
+            number,
+            items: 0,
+            text: 0,
+        };
+    }
+    let o = decode_seq(
+        layout,
+        record,
+        items,
+        text,
+        counts,
+        page,
+        deps,
+        0,
+        layout.len() / 12,
+        0,
+        0,
+    );
+    clear_counts(counts);
+    if o.refused != 0 {
+        clear_items(items, 0);
+        clear_text(text, 0);
+        return Reading {
+            number: o.refused,
+            items: 0,
+            text: 0,
+        };
+    }
+    clear_items(items, o.used);
+    clear_text(text, o.told);
+    Reading {
+        number: 0,
+        items: o.used,
+        text: o.told,
+    }
+}

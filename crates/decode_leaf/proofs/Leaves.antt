@@ -1,0 +1,126 @@
+-- How the reader's leaves come to what they promise.
+use mathlib.Core.Path.{_≡_, refl, sym, ap, ap₂, _∙_}
+use mathlib.Core.Bool.{Bool, true, false, _&&_, _||_, not, cond}
+use mathlib.Core.List.{List, [], _∷_, _++_, append-nil}
+use Prim.Native.Nat.{ℕ, suc, _+_, _-_, _/_, _≤_, _<_}
+use native.Mathlib.Omega.{arith}
+use lib.Dec.{eqb, leb, ltb}
+use lib.ListN.{length, set, take, drop, length-drop, drop-of-length-le}
+use lib.Seq.{take-all, length-take-le}
+use borrow.Author.Tests.{lt-ltb, le-ltb, le-leb, lt-leb, eq-eqb, ne-eqb, eqb-true, eqb-false, leb-true, leb-false}
+use Rattle.layout.specs.declared.Entry.{Entry}
+use Rattle.decode_scalar.specs.declared.Decoded.{Decoded}
+use Rattle.decode_scalar.specs.Decode.{says, answerOf, textAfter}
+use Rattle.walks.specs.Walk.{single}
+use Rattle.decode_leaf.specs.declared.Out.{Out}
+use Rattle.value.specs.declared.Scalar.{Scalar}
+use Rattle.value.specs.declared.Scalar.the-variants.{Null, Text, Int, Decimal, Float as FloatV, FloatBits, Bool as BoolV}
+use Rattle.decode_leaf.specs.Machine.{headOf, headed, Listed, isText, movedIn, toldIn, sizeIn}
+
+pub put4 : (xs : List ℕ) (a b c d : ℕ) → 4 ≤ length xs → set (set (set (set xs 0 a) 1 b) 2 c) 3 d ≡ a ∷ b ∷ c ∷ d ∷ drop 4 xs
+put4 [] a b c d h = absurd (omega arith)
+put4 (w ∷ []) a b c d h = absurd (omega arith)
+put4 (w ∷ x ∷ []) a b c d h = absurd (omega arith)
+put4 (w ∷ x ∷ y ∷ []) a b c d h = absurd (omega arith)
+put4 (w ∷ x ∷ y ∷ z ∷ xs) a b c d h = refl
+
+-- ---- tests
+
+pub fits-is : (bytes at width : ℕ) → at ≤ bytes → leb width (bytes - at) ≡ leb (at + width) bytes
+fits-is bytes at width h = go (leb width (bytes - at)) refl
+  where
+    go : (b : Bool) → leb width (bytes - at) ≡ b → leb width (bytes - at) ≡ leb (at + width) bytes
+    go true e = e ∙ sym (le-leb (at + width) bytes (omega (arith, leb-true width (bytes - at) e)))
+    go false e = e ∙ sym (lt-leb (at + width) bytes (omega (arith, leb-false width (bytes - at) e)))
+
+pub none-is : (once : Bool) (width : ℕ) → once ≡ false → eqb width 0 ≡ not (once || leb 1 width)
+none-is once width e = rw e (go (eqb width 0) refl)
+  where
+    go : (b : Bool) → eqb width 0 ≡ b → eqb width 0 ≡ not (leb 1 width)
+    go true z = z ∙ sym (ap not (lt-leb 1 width (omega (arith, eqb-true width 0 z))))
+    go false z = z ∙ sym (ap not (le-leb 1 width (let n : width ≡ 0 → ⊥ = eqb-false width 0 z in omega arith)))
+
+pub once-none : (once : Bool) (width : ℕ) → once ≡ true → false ≡ not (once || leb 1 width)
+once-none once width e = rw e refl
+
+pub table-word : (e : Entry) → (e .occurs ≡ 4294967295 → ⊥) → false ≡ single e
+unfolding single
+table-word e n = rw (ne-eqb (e .occurs) 4294967295 n) refl
+
+pub single-word : (e : Entry) → e .occurs ≡ 4294967295 → eqb (e .depending) 4294967295 ≡ single e
+unfolding single
+single-word e p = rw (eq-eqb (e .occurs) 4294967295 p) (go (eqb (e .depending) 4294967295))
+  where
+    go : (b : Bool) → b ≡ not (not b)
+    go true = refl
+    go false = refl
+
+-- ---- a table's own item
+
+module _ (e : Entry) (head : ℕ) (h : head ≡ headOf e) where
+  no-head : head ≡ 0 → eqb (e .kind) 6 ≡ true
+  no-head z = go (eqb (e .kind) 6) refl
+    where
+      go : (b : Bool) → eqb (e .kind) 6 ≡ b → eqb (e .kind) 6 ≡ true
+      go true q = q
+      go false q = absurd (omega (arith, h ∙ ap (λ x. cond {A = ℕ} x 0 4) q))
+
+  pub has-head : (head ≡ 0 → ⊥) → (eqb (e .kind) 6 ≡ false) × (head ≡ 4)
+  has-head n = go (eqb (e .kind) 6) refl
+    where
+      go : (b : Bool) → eqb (e .kind) 6 ≡ b → (eqb (e .kind) 6 ≡ false) × (head ≡ 4)
+      go true q = absurd (n (h ∙ ap (λ x. cond {A = ℕ} x 0 4) q))
+      go false q = (q, h ∙ ap (λ x. cond {A = ℕ} x 0 4) q)
+
+  module _ (used members taken told : ℕ) (before : List ℕ) where
+    pub listed-pads : head ≡ 0 → Listed e used members taken told (record { refused = 0; used = used; members = members; taken = taken; told = told }) before before
+    listed-pads z = record { is = rw (no-head z) refl; fine = refl; used = refl; counted = rw (no-head z) refl; taken = refl; told = refl }
+
+    pub listed-items : (head ≡ 0 → ⊥) → (after : List ℕ) → after ≡ e .name ∷ 6 ∷ members ∷ (used / 4) ∷ drop 4 before
+        → Listed e used members taken told (record { refused = 0; used = used; members = 1; taken = taken; told = told }) before after
+    listed-items n after p = record { is = rw (has-head n .0) p; fine = refl; used = refl; counted = rw (has-head n .0) refl; taken = refl; told = refl }
+
+-- ---- counts
+
+pub status-none : (negative : Bool) (size : ℕ) → size ≡ 0 → 1 ≡ cond {A = ℕ} (negative && ltb 0 size) 2 1
+status-none true size z = rw z refl
+status-none false size z = refl
+
+pub status-minus : (negative : Bool) (size : ℕ) → (size ≡ 0 → ⊥) → negative ≡ true → 2 ≡ cond {A = ℕ} (negative && ltb 0 size) 2 1
+status-minus negative size n e = rw (e, lt-ltb 0 size (omega arith)) refl
+
+pub status-plus : (negative : Bool) (size : ℕ) → negative ≡ false → 1 ≡ cond {A = ℕ} (negative && ltb 0 size) 2 1
+status-plus negative size e = rw e refl
+
+-- ---- texts
+
+pub some-text : (kind told n : ℕ) (v : Scalar) (b : Bool) → b ≡ isText kind → b ≡ true → n ≡ sizeIn v → Text told n ≡ movedIn kind told v
+some-text kind told n v b p q e = rw (sym p ∙ q, e) refl
+
+pub some-told : (kind told n : ℕ) (v : Scalar) (b : Bool) → b ≡ isText kind → b ≡ true → n ≡ sizeIn v → told + n ≡ toldIn kind told v
+some-told kind told n v b p q e = rw (sym p ∙ q, e) refl
+
+-- a part from `told` on, lent and come back
+pub told-back : (told : ℕ) (buffer ys zs : List ℕ) → ys ≡ zs → take told buffer ++ (ys ++ drop (length buffer - told) (drop told buffer)) ≡ take told buffer ++ zs
+told-back told buffer ys zs e =
+    ap (λ l. take told buffer ++ (ys ++ l)) (drop-of-length-le (drop told buffer) {i = length buffer - told} (omega (arith, length-drop told buffer)))
+    ∙ ap (λ l. take told buffer ++ l) (append-nil ys ∙ e)
+
+pub told-part : (told : ℕ) (buffer : List ℕ) → take (length buffer - told) (drop told buffer) ≡ drop told buffer
+told-part told buffer = take-all (length buffer - told) (drop told buffer) (omega (arith, length-drop told buffer))
+
+module _ (kind p q r page at width told : ℕ) (bytes buffer : List ℕ) where
+  abbrev Stretch : List ℕ
+  Stretch = take (at + width - at) (drop at bytes)
+
+  stretch : Stretch ≡ take width (drop at bytes)
+  stretch = let z : at + width - at ≡ width = omega arith in ap (λ n. take n (drop at bytes)) z
+
+  pub read-answer : (a : Decoded) → a ≡ answerOf (says kind p q r page Stretch) (length (take (length buffer - told) (drop told buffer)))
+      → a ≡ answerOf (says kind p q r page (take width (drop at bytes))) (length buffer - told)
+  read-answer a e = e ∙ ap₂ (λ s n. answerOf (says kind p q r page s) n) stretch (ap length (told-part told buffer) ∙ length-drop told buffer)
+
+  pub read-text : (ys : List ℕ) → ys ≡ textAfter (says kind p q r page Stretch) (take (length buffer - told) (drop told buffer))
+      → take told buffer ++ (ys ++ drop (length buffer - told) (drop told buffer)) ≡ take told buffer ++ textAfter (says kind p q r page (take width (drop at bytes))) (drop told buffer)
+  read-text ys e = told-back told buffer ys (textAfter (says kind p q r page (take width (drop at bytes))) (drop told buffer))
+      (e ∙ ap₂ (λ s t. textAfter (says kind p q r page s) t) stretch (told-part told buffer))

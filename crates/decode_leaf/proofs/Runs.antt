@@ -1,0 +1,157 @@
+-- Laws of the run of counts: casts, words past its end, and the first entry of a name.
+use mathlib.Core.Path.{_≡_, refl, sym, ap, _∙_, subst⁻¹}
+use mathlib.Core.Bool.{Bool, true, false, _&&_, _||_, cond, true≢false}
+use mathlib.Core.List.{List, [], _∷_}
+use mathlib.Core.Logic.{⊎-elim}
+use Prim.Native.Nat.{ℕ, zero, suc, _+_, _-_, _*_, _/_, _≤_, _<_, min}
+use native.Mathlib.Omega.{arith}
+use native.Mathlib.Numerals.{add-one}
+use lib.Dec.{T, eqb, ltb, leb}
+use lib.IntN.{ℤ, pos, negsuc, natAbs}
+use lib.ListN.{length, getD, set}
+use lib.Signed.{nonNeg, ltZ, mag}
+use borrow.Author.Needs.{sfits-of}
+use borrow.Author.Tests.{ltb-true, eqb-true, eqb-false, eq-eqb, ne-eqb, le-leb, lt-leb}
+use mir.Syntax.{w64}
+use mir.Val.{Fits, SFits, toZ, ofZ}
+use mir.Facts.{toZ-ofZ}
+use Rattle.layout.specs.Layout.{entryCount}
+use types.Run.{OneOf}
+use denote.Enum.Declared as Declared
+use Rattle.layout.specs.declared.Entry.{Entry}
+use Rattle.value.specs.declared.Scalar.{Scalar}
+use Rattle.value.proofs.Scalar.{the-type}
+use Rattle.value.specs.declared.Scalar.the-variants.{Null, Text, Int, Decimal, Float as FloatV, FloatBits, Bool as BoolV}
+use Rattle.walks.specs.Walk.{Many, howMany}
+use Rattle.decode_leaf.specs.declared.Count.{Count}
+use Rattle.decode_leaf.specs.Counts.{natOf, firstIn, first, statusOf, setIn, noteIn, heldIn}
+use Rattle.decode_leaf.specs.Machine.{Counted}
+
+-- ---- casts
+
+pub round : (z : ℤ) → mag z < 9223372036854775808 → natOf (toZ w64 (ofZ w64 z)) ≡ natOf z
+round z s = ap natOf (toZ-ofZ {w = w64} {z = z} (sfits-of s))
+
+cast-cases : (z : ℤ) → SFits w64 z → ltZ z (pos 0) ≡ false → T (nonNeg z) × Fits w64 (natAbs z)
+cast-cases (pos n) s e = (tt, record { fits = omega (arith, s .sfits) })
+cast-cases (negsuc n) s e = absurd (true≢false e)
+
+pub nat-cast : (x : ℤ) → SFits w64 x → ltZ (toZ w64 (ofZ w64 x)) (pos 0) ≡ false → T (nonNeg (toZ w64 (ofZ w64 x))) × Fits w64 (natAbs (toZ w64 (ofZ w64 x)))
+nat-cast x s = subst⁻¹ (λ z. ltZ z (pos 0) ≡ false → T (nonNeg z) × Fits w64 (natAbs z)) (toZ-ofZ s) (cast-cases x s)
+
+neg-cases : (z : ℤ) → ltZ z (pos 0) ≡ true → 0 ≡ natOf z
+neg-cases (pos n) e = absurd (omega (arith, ltb-true n 0 e))
+neg-cases (negsuc n) e = refl
+
+pub nat-neg : (x : ℤ) → SFits w64 x → ltZ (toZ w64 (ofZ w64 x)) (pos 0) ≡ true → 0 ≡ natOf x
+nat-neg x s e = neg-cases x (ap (λ z. ltZ z (pos 0)) (sym (toZ-ofZ s)) ∙ e)
+
+pos-cases : (z : ℤ) → ltZ z (pos 0) ≡ false → natAbs z ≡ natOf z
+pos-cases (pos n) e = refl
+pos-cases (negsuc n) e = absurd (true≢false e)
+
+pub nat-pos : (x : ℤ) → SFits w64 x → ltZ (toZ w64 (ofZ w64 x)) (pos 0) ≡ false → natAbs (toZ w64 (ofZ w64 x)) ≡ natOf x
+nat-pos x s e = ap natAbs (toZ-ofZ s) ∙ pos-cases x (ap (λ z. ltZ z (pos 0)) (sym (toZ-ofZ s)) ∙ e)
+
+-- ---- words past the end
+
+pub set-past : {A : Type 0} (s : List A) (i : ℕ) (v : A) → length s ≤ i → s ≡ set s i v
+set-past [] i v h = refl
+set-past (x ∷ s) zero v h = absurd (omega arith)
+set-past (x ∷ s) (suc i) v h = ap (λ l. x ∷ l) (set-past s i v (omega arith))
+
+pub put-is : (cs : List ℤ) (at x : ℕ) (a : ℤ) → mag a < 9223372036854775808 → a ≡ pos x → set cs at (toZ w64 (ofZ w64 a)) ≡ set cs at (pos x)
+put-is cs at x a h p = ap (set cs at) (toZ-ofZ {w = w64} {z = a} (sfits-of h) ∙ p)
+
+-- ---- the first entry of a name
+
+module _ (l : List ℕ) (name : ℕ) where
+  pub first-hit : (n i : ℕ) → i < n → getD l (i * 12) 0 ≡ name → firstIn (n - i) l name i ≡ i
+  unfolding firstIn
+  first-hit n i h e = let z : n - i ≡ suc (n - (i + 1)) = omega arith in rw (z, eq-eqb (getD l (i * 12) 0) name e) refl
+
+  pub first-next : (n i : ℕ) → i < n → (getD l (i * 12) 0 ≡ name → ⊥) → firstIn (n - i) l name i ≡ firstIn (n - (i + 1)) l name (i + 1)
+  unfolding firstIn
+  first-next n i h e = let z : n - i ≡ suc (n - (i + 1)) = omega arith in rw (z, ne-eqb (getD l (i * 12) 0) name e, add-one i) refl
+
+  pub first-end : (n i : ℕ) → n ≤ i → firstIn (n - i) l name i ≡ i
+  unfolding firstIn
+  first-end n i h = let z : n - i ≡ 0 = omega arith in rw z refl
+
+  pub first-starts : first l name ≡ firstIn (entryCount l - 0) l name 0
+  unfolding first
+  first-starts = let z : entryCount l - 0 ≡ entryCount l = omega arith in rw z refl
+
+-- ---- setting and holding counts
+
+pub set-is : (l : List ℕ) (name : ℕ) (negative : Bool) (size j st v : ℕ) (run mid end : List ℤ) → j ≡ first l name → st ≡ statusOf negative size → v ≡ min 9223372036854775807 size
+    → mid ≡ set run (j * 2) (pos st) → end ≡ set mid (j * 2 + 1) (pos v) → end ≡ setIn l name negative size run
+unfolding setIn
+set-is l name negative size j st v run mid end a b c p q = q ∙ rw (p, b, c, a) refl
+
+pub status-small : (negative : Bool) (size : ℕ) → statusOf negative size ≤ 2
+status-small negative size = go (negative && ltb 0 size)
+  where
+    go : (b : Bool) → cond {A = ℕ} b 2 1 ≤ 2
+    go true = omega arith
+    go false = omega arith
+
+module _ (l : List ℕ) (deps : Bool) (e : Entry) (once : Bool) (run : List ℤ) (b : Bool) (p : b ≡ (deps && (once && (eqb (e .kind) 1 || eqb (e .kind) 2)))) where
+  pub note-int : b ≡ true → (v : Scalar) (negative : Bool) (size : ℕ) (after : List ℤ) → v ≡ Int negative size → after ≡ setIn l (e .name) negative size run → after ≡ noteIn l deps e once v run
+  unfolding noteIn
+  note-int q v negative size after z a = rw (z, sym p ∙ q) a
+
+  pub note-not : b ≡ false → (v : Scalar) → run ≡ noteIn l deps e once v run
+  unfolding noteIn
+  note-not q v = rw (sym p ∙ q) refl
+
+  two-is-not : OneOf (0 ∷ 1 ∷ 3 ∷ 4 ∷ 5 ∷ 6 ∷ []) 2 → ⊥
+  two-is-not = ⊎-elim (λ x. omega (arith, x)) (⊎-elim (λ x. omega (arith, x)) (⊎-elim (λ x. omega (arith, x)) (⊎-elim (λ x. omega (arith, x)) (⊎-elim (λ x. omega (arith, x)) (λ x. omega (arith, x))))))
+
+  pub note-other : b ≡ true → (v : Scalar) → OneOf (0 ∷ 1 ∷ 3 ∷ 4 ∷ 5 ∷ 6 ∷ []) (Declared.tagOf the-type v) → run ≡ noteIn l deps e once v run
+  unfolding noteIn
+  note-other q Null h = rw (sym p ∙ q) refl
+  note-other q (Text x y) h = rw (sym p ∙ q) refl
+  note-other q (Int x y) h = absurd (two-is-not h)
+  note-other q (Decimal x y z) h = rw (sym p ∙ q) refl
+  note-other q (FloatV x) h = rw (sym p ∙ q) refl
+  note-other q (FloatBits x) h = rw (sym p ∙ q) refl
+  note-other q (BoolV x) h = rw (sym p ∙ q) refl
+
+module _ (l : List ℕ) (name : ℕ) (run : List ℤ) (j s : ℕ) (a : j ≡ first l name) (b : s ≡ natOf (getD run (j * 2) (pos 0))) where
+  pub held-none : s ≡ 0 → (r : Count) → r .refused ≡ 5 → Counted (heldIn l name run) r
+  unfolding heldIn
+  held-none z r n = record { fine = λ f. absurd (omega (arith, n, f)); refuses = λ _. rw (← a, ← b, z, n) refl }
+
+  pub held-minus : s ≡ 2 → (r : Count) → r .refused ≡ 6 → Counted (heldIn l name run) r
+  unfolding heldIn
+  held-minus z r n = record { fine = λ f. absurd (omega (arith, n, f)); refuses = λ _. rw (← a, ← b, z, n) refl }
+
+  pub held-count : (s ≡ 0 → ⊥) → (s ≡ 2 → ⊥) → (n : ℕ) → n ≡ natOf (getD run (j * 2 + 1) (pos 0)) → Counted (heldIn l name run) (record { refused = 0; n = n })
+  unfolding heldIn
+  held-count x y n z = record { fine = λ _. rw (← a, ← b, ne-eqb s 0 x, ne-eqb s 2 y, ← z) refl; refuses = λ f. absurd (f refl) }
+
+module _ (l : List ℕ) (run : List ℤ) (e : Entry) where
+  abbrev pub Many-of : Many
+  Many-of = howMany (λ name run. heldIn l name run) e run
+
+  pub many-occurs : e .depending ≡ 4294967295 → Counted Many-of (record { refused = 0; n = e .occurs })
+  unfolding howMany
+  many-occurs p = record { fine = λ _. rw (eq-eqb (e .depending) 4294967295 p) refl; refuses = λ f. absurd (f refl) }
+
+  module _ (d : e .depending ≡ 4294967295 → ⊥) (c : Count) (h : Counted (heldIn l (e .depending) run) c) where
+    pub many-refused : (c .refused ≡ 0 → ⊥) → Counted Many-of c
+    unfolding howMany
+    many-refused n = record { fine = λ z. absurd (n z); refuses = λ _. rw (ne-eqb (e .depending) 4294967295 d, h .refuses n) refl }
+
+    pub many-free : c .refused ≡ 0 → e .occurs ≡ 4294967295 → Counted Many-of c
+    unfolding howMany
+    many-free z o = record { fine = λ _. rw (ne-eqb (e .depending) 4294967295 d, h .fine z, eq-eqb (e .occurs) 4294967295 o) refl; refuses = λ n. absurd (n z) }
+
+    pub many-within : c .refused ≡ 0 → (e .occurs ≡ 4294967295 → ⊥) → c .n ≤ e .occurs → Counted Many-of c
+    unfolding howMany
+    many-within z o k = record { fine = λ _. rw (ne-eqb (e .depending) 4294967295 d, h .fine z, ne-eqb (e .occurs) 4294967295 o, le-leb (c .n) (e .occurs) k) refl; refuses = λ n. absurd (n z) }
+
+    pub many-above : c .refused ≡ 0 → (e .occurs ≡ 4294967295 → ⊥) → e .occurs < c .n → (r : Count) → r .refused ≡ 6 → Counted Many-of r
+    unfolding howMany
+    many-above z o k r n = record { fine = λ f. absurd (omega (arith, n, f)); refuses = λ _. rw (ne-eqb (e .depending) 4294967295 d, h .fine z, ne-eqb (e .occurs) 4294967295 o, lt-leb (c .n) (e .occurs) k, n) refl }

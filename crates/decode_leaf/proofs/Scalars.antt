@@ -1,0 +1,86 @@
+-- A scalar that is inside the record, and every entry but a group.
+use mathlib.Core.Path.{_≡_, refl, sym, ap, _∙_}
+use mathlib.Core.Bool.{Bool, true, false, not, cond}
+use mathlib.Core.List.{List, [], _++_}
+use Prim.Native.Nat.{ℕ, _+_, _-_, _≤_, _<_}
+use native.Mathlib.Omega.{arith}
+use lib.Dec.{eqb, leb}
+use lib.IntN.{ℤ}
+use lib.ListN.{length, take, drop}
+use borrow.Author.Tests.{le-leb, lt-leb, leb-true, leb-false, eq-eqb, ne-eqb}
+use Rattle.layout.specs.declared.Entry.{Entry}
+use Rattle.value.specs.declared.Scalar.{Scalar}
+use Rattle.decode_scalar.specs.declared.Decoded.{Decoded}
+use Rattle.decode_scalar.specs.declared.Decoded.the-variants.{Value, Refused}
+use Rattle.decode_scalar.specs.Decode.{Says, says, answerOf, textAfter}
+use Rattle.walks.specs.Walk.{isPad}
+use Rattle.walks.specs.Reading.{Outcome, refused, read, placed, scalar, pad}
+use Rattle.decode_leaf.specs.declared.Out.{Out}
+use Rattle.decode_leaf.specs.Counts.{noteIn}
+use Rattle.decode_leaf.specs.Machine.{Held, state, leafIn, leafOf, leafAt, dec, kept, movedIn, toldIn, Fine, Met, Placed}
+use Rattle.decode_leaf.proofs.Meets.{refuse, fine, same-as, value-met, out}
+use Rattle.decode_leaf.proofs.Said.{Read, matches, refused-leaf, read-leaf}
+
+module _ (l bytes : List ℕ) (page : ℕ) (deps : Bool) (e : Entry) (name : ℕ) (once : Bool) (at room : ℕ) (run : List ℤ) (told : ℕ) (buffer : List ℕ) where
+  abbrev Said : Says
+  Said = says (e .kind) (e .p) (e .q) (e .r) page (take (e .width) (drop at bytes))
+
+  abbrev pub Scalar-at : Outcome Held
+  Scalar-at = scalar (kept l page (length buffer) deps) bytes e name once at room (state run told buffer)
+
+  abbrev pub Leaf-at : Outcome Held
+  Leaf-at = leafAt (kept l page (length buffer) deps) bytes e name once at room (state run told buffer)
+
+  module _ (inside : at + e .width ≤ length bytes) (h : told ≤ length buffer) where
+    scalar-is : Scalar-at ≡ placed name once (e .width) room (leafOf l page (length buffer) deps e once (state run told buffer) Said)
+    unfolding scalar dec
+    scalar-is = rw (le-leb (at + e .width) (length bytes) inside) refl
+
+    module _ (d : Decoded) (q : d ≡ answerOf Said (length buffer - told)) where
+      pub value-refuses : {r : Out} {items after : List ℕ} {run′ : List ℤ} (n : ℕ) → d ≡ Refused n → r .refused ≡ n → Met Scalar-at r items after run′
+      value-refuses n p z =
+          let f = refused-leaf l page deps e once run told buffer h Said (matches (e .kind) (e .p) (e .q) (e .r) page (take (e .width) (drop at bytes))) n (sym p ∙ q) in
+          refuse n z (f .0) (scalar-is ∙ ap (placed name once (e .width) room) (f .1))
+
+      module _ (v : Scalar) (p : d ≡ Value v) (after : List ℕ) (a : after ≡ take told buffer ++ textAfter Said (drop told buffer)) where
+        pub value-read : Read l page deps e once run told buffer h Said v after
+        value-read = read-leaf l page deps e once run told buffer h Said (matches (e .kind) (e .p) (e .q) (e .r) page (take (e .width) (drop at bytes))) v (sym p ∙ q) after a
+
+        pub value-reads : {r : Out} {items : List ℕ} {run′ : List ℤ}
+            → Placed (λ s. placed name once (e .width) room (leafIn (movedIn (e .kind) told v) s)) (noteIn l deps e once v run) (toldIn (e .kind) told v) (e .width) r items run′
+            → Met Scalar-at r items after run′
+        value-reads f = value-met after (scalar-is ∙ ap (placed name once (e .width) room) (value-read .is)) (value-read .within) f
+
+  module _ (b : Bool) (p : b ≡ leb (at + e .width) (length bytes)) where
+    no : not b ≡ true → leb (at + e .width) (length bytes) ≡ false
+    no q = go b p q
+      where
+        go : (x : Bool) → x ≡ leb (at + e .width) (length bytes) → not x ≡ true → leb (at + e .width) (length bytes) ≡ false
+        go true s t = sym s ∙ sym t
+        go false s t = sym s
+
+    yes : not b ≡ false → leb (at + e .width) (length bytes) ≡ true
+    yes q = go b p q
+      where
+        go : (x : Bool) → x ≡ leb (at + e .width) (length bytes) → not x ≡ false → leb (at + e .width) (length bytes) ≡ true
+        go true s t = sym s
+        go false s t = sym s ∙ sym t
+
+    pub leaf-outside : not b ≡ true → {r : Out} {items after : List ℕ} {run′ : List ℤ} → r .refused ≡ 7 → Met Leaf-at r items after run′
+    unfolding scalar pad
+    leaf-outside q n = refuse 7 n (λ z. omega arith) (rw (no q) (go (isPad e)))
+      where
+        go : (x : Bool) → cond {A = Outcome Held} x (refused 7) (refused 7) ≡ refused 7
+        go true = refl
+        go false = refl
+
+    pub leaf-inside : not b ≡ false → at + e .width ≤ length bytes
+    leaf-inside q = leb-true (at + e .width) (length bytes) (yes q)
+
+    pub leaf-pad : not b ≡ false → e .kind ≡ 6 → told ≤ length buffer → {items : List ℕ} → Met Leaf-at (out 0 0 (e .width) told) items buffer run
+    unfolding pad isPad
+    leaf-pad q k h = fine (record { is = rw (eq-eqb (e .kind) 6 k, yes q) refl; within = omega arith; told = h; few = omega arith }) refl
+
+    pub leaf-scalar : (e .kind ≡ 6 → ⊥) → {r : Out} {items after : List ℕ} {run′ : List ℤ} → Met Scalar-at r items after run′ → Met Leaf-at r items after run′
+    unfolding isPad
+    leaf-scalar k m = same-as (rw (ne-eqb (e .kind) 6 k) refl) m

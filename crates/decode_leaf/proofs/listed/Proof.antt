@@ -1,0 +1,33 @@
+use mathlib.Core.Path.{_≡_, refl, sym, ap, _∙_, subst}
+use mathlib.Core.Bool.{Bool, true, false}
+use mathlib.Core.Logic.{⊎-elim}
+use mathlib.Core.List.{List, [], _∷_, _++_, map, append-nil, append-assoc}
+use Prim.Native.Nat.{ℕ, zero, suc, _+_, _-_, _*_, _≤_, _<_}
+use native.Mathlib.Omega.{arith}
+use native.Mathlib.Numerals.{add-one}
+use borrow.Author.Tests.{lt-ltb, le-ltb, le-leb, lt-leb, eq-eqb, ne-eqb, eqb-true, eqb-false, ltb-true, ltb-false, leb-true, leb-false}
+use lib.Dec.{eqb, leb, ltb}
+use lib.ListN.{length, take, drop, getD, set, replicate, length-set, length-append, length-take, length-drop, length-replicate, length-map}
+use Rattle.decode_leaf.proofs.Leaves.{has-head, listed-pads, listed-items}
+use borrow.Author.Needs.{needs}
+use Rattle.decode_leaf.proofs.listed.Statement.{statement}
+use Rattle.decode_leaf.proofs.listed.Tie as tie
+
+returns : tie.Need-returns
+returns c = listed-pads _ _ (c .before .before .pre .0) _ _ _ _ _ (c .if1 .taken)
+
+cast-put-header : tie.Need-cast-put-header
+cast-put-header c = search needs
+
+put-header-requires : tie.Need-put-header-requires
+put-header-requires c κs = omega (arith, c .before .before .before .before .pre .1 .0, c .before .before .before .before .pre .1 .1, has-head (c .before .before .before .before .args .e) (c .before .before .before .before .args .head) (c .before .before .before .before .pre .0) (c .before .before .if1 .left) .1)
+
+same-length : tie.Need-same-length
+same-length c = search needs
+
+returns-2 : tie.Need-returns-2
+returns-2 c = listed-items _ _ (c .before .before .before .before .before .before .before .pre .0) _ _ _ _ _ (c .before .before .before .before .before .if1 .left) _ (c .before .before .put-header .ensures)
+
+pub listed-spec : {M : Type 1} → statement M
+listed-spec =
+    tie.close (tie.spec returns cast-put-header put-header-requires same-length returns-2)

@@ -1,0 +1,117 @@
+-- What the reader's inner functions promise: the walk with the state as the code holds it, by its own answer.
+use mathlib.Core.Path.{_≡_}
+use mathlib.Core.Bool.{Bool, true, false, _||_, cond}
+use mathlib.Core.List.{List, [], _∷_, _++_}
+use Prim.Native.Nat.{ℕ, _+_, _/_, _≤_}
+use lib.Dec.{eqb, leb}
+use lib.IntN.{ℤ}
+use lib.ListN.{length, take, drop}
+use Rattle.layout.specs.declared.Entry.{Entry}
+use Rattle.value.specs.declared.Scalar.{Scalar}
+use Rattle.value.specs.declared.Scalar.the-variants.{Null, Text, Int, Decimal, Float as FloatV, FloatBits, Bool as BoolV}
+use Rattle.value.specs.Scalar.{tagOf, firstOf, secondOf}
+use Rattle.decode_scalar.specs.Decode.{Says, refused, value, text, says}
+use Rattle.walks.specs.Walk.{isPad, Many, never, times, unfit, Leaf, bad, leaf, Codec}
+use Rattle.walks.specs.Reading as R
+use Rattle.walks.specs.Reading.{Outcome, Reader, read, scalar, pad}
+use Rattle.decode_leaf.specs.declared.Out.{Out}
+use Rattle.decode_leaf.specs.declared.Count.{Count}
+use Rattle.decode_leaf.specs.Counts.{noteIn, heldIn}
+
+-- the run of counts, and the texts so far
+pub record Held : Type 0 where
+  pub run : List ℤ
+  pub text : List ℕ
+
+-- the first `told` bytes of the text buffer are the texts so far
+abbrev pub state : List ℤ → ℕ → List ℕ → Held
+state run told buffer = record { run = run; text = take told buffer }
+
+abbrev pub leafIn : Scalar → Held → Leaf Held
+leafIn v s = leaf (tagOf v) (firstOf v) (secondOf v) s
+
+-- the layout, the page, the bytes of the text buffer, whether some table depends on a count
+module _ (l : List ℕ) (page room : ℕ) (deps : Bool) where
+  abbrev pub leafOf : Entry → Bool → Held → Says → Leaf Held
+  leafOf e once s (refused n) = bad n
+  leafOf e once s (value v) = leafIn v (record { run = noteIn l deps e once v (s .run); text = s .text })
+  leafOf e once s (text t) = cond (leb (length (s .text) + length t) room) (leaf 1 (length (s .text)) (length t) (record { run = s .run; text = s .text ++ t })) (bad 16)
+
+  unfoldable pub dec : Entry → Bool → List ℕ → Held → Leaf Held
+  dec e once bs s = leafOf e once s (says (e .kind) (e .p) (e .q) (e .r) page bs)
+
+  abbrev pub held : ℕ → Held → Many
+  held name s = heldIn l name (s .run)
+
+  -- the codec of all kinds on this state
+  abbrev pub kept : Codec Held
+  kept = record { enc = λ e it. unfit 0; dec = dec; held = held }
+
+-- every entry but a group
+abbrev pub leafAt : Codec Held → List ℕ → Entry → ℕ → Bool → Reader Held
+leafAt k r e name once at room s = cond (isPad e) (pad r e at room s) (scalar k r e name once at room s)
+
+-- the words of a table's own item
+abbrev pub headOf : Entry → ℕ
+headOf e = cond (eqb (e .kind) 6) 0 4
+
+-- ---- a scalar as its item holds it
+
+abbrev pub sizeIn : Scalar → ℕ
+sizeIn (Text start n) = n
+sizeIn Null = 0
+sizeIn (Int negative size) = 0
+sizeIn (Decimal negative size scale) = 0
+sizeIn (FloatV x) = 0
+sizeIn (FloatBits x) = 0
+sizeIn (BoolV b) = 0
+
+abbrev pub isText : ℕ → Bool
+isText kind = eqb kind 0 || eqb kind 4
+
+abbrev pub movedIn : ℕ → ℕ → Scalar → Scalar
+movedIn kind told v = cond (isText kind) (Text told (sizeIn v)) v
+
+abbrev pub toldIn : ℕ → ℕ → Scalar → ℕ
+toldIn kind told v = cond (isText kind) (told + sizeIn v) told
+
+-- ---- promises: by the answer's own number
+
+pub record Fine (o : Outcome Held) (r : Out) (items buffer : List ℕ) (run : List ℤ) : Type 0 where
+  pub is : o ≡ read (take (r .used) items) (r .members) (r .taken) (state run (r .told) buffer)
+  pub within : r .used ≤ length items
+  pub told : r .told ≤ length buffer
+  pub few : r .members ≤ r .used
+
+pub record Met (o : Outcome Held) (r : Out) (items buffer : List ℕ) (run : List ℤ) : Type 0 where
+  pub fine : r .refused ≡ 0 → Fine o r items buffer run
+  pub refuses : (r .refused ≡ 0 → ⊥) → o ≡ R.refused (r .refused)
+
+-- an item of four words, whatever the state behind it
+pub record Item (o : Held → Outcome Held) (behind width : ℕ) (r : Out) (items : List ℕ) : Type 0 where
+  pub is : (s : Held) → o s ≡ read (take 4 items) 1 width s
+  pub used : r .used ≡ 4
+  pub members : r .members ≡ 1
+  pub taken : r .taken ≡ width
+  pub told : r .told ≡ behind
+  pub within : 4 ≤ length items
+
+pub record Placed (o : Held → Outcome Held) (noted : List ℤ) (behind width : ℕ) (r : Out) (items : List ℕ) (run : List ℤ) : Type 0 where
+  pub fine : r .refused ≡ 0 → Item o behind width r items × (run ≡ noted)
+  pub refuses : (r .refused ≡ 0 → ⊥) → (s : Held) → o s ≡ R.refused (r .refused)
+
+-- a table's own item around the elements behind it; a table of Pads has none
+abbrev pub headed : Entry → ℕ → ℕ → List ℕ → List ℕ
+headed e used members items = cond (eqb (e .kind) 6) items (e .name ∷ 6 ∷ members ∷ (used / 4) ∷ drop 4 items)
+
+pub record Listed (e : Entry) (end members width behind : ℕ) (r : Out) (before items : List ℕ) : Type 0 where
+  pub is : items ≡ headed e end members before
+  pub fine : r .refused ≡ 0
+  pub used : r .used ≡ end
+  pub counted : r .members ≡ cond (eqb (e .kind) 6) members 1
+  pub taken : r .taken ≡ width
+  pub told : r .told ≡ behind
+
+pub record Counted (m : Many) (r : Count) : Type 0 where
+  pub fine : r .refused ≡ 0 → m ≡ times (r .n)
+  pub refuses : (r .refused ≡ 0 → ⊥) → m ≡ never (r .refused)

@@ -1,0 +1,508 @@
+// The parts of the record reader: sums that stop, the counts of a walk, one scalar or Pad with its item.
+use decode_scalar::Decoded;
+use layout::Entry;
+use value::Scalar;
+ghost use mathlib.Core.Path.{_≡_};
+ghost use mathlib.Core.Bool.{Bool, true, false, _||_, _&&_, not};
+ghost use mathlib.Core.List.{List, [], _∷_, _++_};
+ghost use Prim.Native.Nat.{ℕ, _+_, _-_, _*_, _/_, _≤_, _<_, min, max};
+ghost use lib.IntN.{ℤ, pos};
+ghost use lib.Dec.{eqb, leb, ltb};
+ghost use lib.ListN.{length, take, drop, getD, set, replicate};
+ghost use Rattle.walks.specs.Walk.{single, isPad, howMany};
+ghost use Rattle.walks.specs.Reading.{placed, scalar};
+ghost use Rattle.decode_scalar.specs.Decode.{says, answerOf, textAfter};
+ghost use Rattle.decode_leaf.specs.Counts.{natOf, first, statusOf, heldIn, noteIn, setIn};
+ghost use Rattle.decode_leaf.specs.Capped.{sat};
+ghost use Rattle.decode_leaf.specs.Machine.{kept, state, leafIn, leafAt, Met, Placed, Listed, Counted, headOf, movedIn, toldIn, sizeIn};
+
+// What a part of the walk came to: the number that refuses it, or 0 with the item words written, how many items these are at
+// their own level, the bytes taken, and the text bytes so far.
+pub struct Out {
+    pub refused: u32,
+    pub used: usize,
+    pub members: u64,
+    pub taken: u64,
+    pub told: usize,
+}
+
+// How many elements a table has, or the number that refuses it.
+pub struct Count {
+    pub refused: u32,
+    pub n: u64,
+}
+
+pub fn refusal(n: u32) -> Out
+    ensures { λ r. ⌜ r .refused ≡ n ⌝ }
+{
+    Out {
+        refused: n,
+        used: 0,
+        members: 0,
+        taken: 0,
+        told: 0,
+    }
+}
+
+// ---- positions
+
+// A sum that stops at 2^63.
+pub fn sat_add(a: u64, b: u64) -> u64
+    ensures { λ r. ⌜ r ≡ sat (a + b) ⌝ }
+{
+    if a < 9223372036854775808 {
+        if b < 9223372036854775808 - a {
+            a + b
+        } else {
+            9223372036854775808
+        }
+    } else {
+        9223372036854775808
+    }
+}
+
+pub fn less(a: u64, b: u64) -> u64
+    ensures { λ r. ⌜ r ≡ a - b ⌝ }
+{
+    if b <= a { a - b } else { 0 }
+}
+
+pub fn larger(a: u64, b: u64) -> u64
+    ensures { λ r. ⌜ r ≡ max a b ⌝ }
+{
+    if a <= b { b } else { a }
+}
+
+// Whether a field of this width at this position is inside a record of so many bytes.
+pub fn inside_record(bytes: usize, at: u64, width: u32) -> bool
+    ensures { λ r. ⌜ r ≡ leb (at + width) bytes ⌝ }
+{
+    let n = bytes as u64;
+    if n < at {
+        return false;
+    }
+    width as u64 <= n - at
+}
+
+// ---- counts: two words for each entry, used at the first entry of each name. The first word is 0 before the count is set,
+// 1 for a count and 2 for a negative number, and the second is the count.
+
+fn natural(x: i64) -> u64
+    ensures { λ r. ⌜ r ≡ natOf x ⌝ }
+{
+    if x < 0 { 0 } else { x as u64 }
+}
+
+fn signed(x: u64) -> i64
+    requires { ⌜ x < 9223372036854775808 ⌝ }
+    ensures { λ r. ⌜ r ≡ pos x ⌝ }
+{
+    x as i64
+}
+
+// The place of the first entry of a name, and the number of entries where there is none.
+pub fn first_of(layout: &[u32], name: u32) -> usize
+    ensures { λ r. ⌜ (r ≡ first (now (layout .entry)) name) × (r ≤ length (now (layout .entry)) / 12) ⌝ }
+{
+    let n = layout.len() / 12;
+    let mut i = 0;
+    while i < n {
+        if layout[i * 12] == name {
+            return i;
+        }
+        i += 1;
+    }
+    n
+}
+
+fn word_in(counts: &[i64], at: usize) -> u64
+    ensures { λ r. ⌜ r ≡ natOf (getD (now (counts .entry)) at (pos 0)) ⌝ }
+{
+    if at < counts.len() {
+        return natural(counts[at]);
+    }
+    0
+}
+
+fn put_word(counts: &mut [i64], at: usize, x: u64)
+    requires { ⌜ x < 9223372036854775808 ⌝ }
+    ensures { λ _. ⌜ now (counts .exit) ≡ set (now (counts .entry)) at (pos x) ⌝ }
+{
+    if at < counts.len() {
+        counts[at] = signed(x);
+    }
+}
+
+fn status(negative: bool, size: u64) -> u64
+    ensures { λ r. ⌜ r ≡ statusOf negative size ⌝ }
+{
+    if size == 0 {
+        return 1;
+    }
+    if negative {
+        return 2;
+    }
+    1
+}
+
+fn stored(size: u64) -> u64
+    ensures { λ r. ⌜ r ≡ min 9223372036854775807 size ⌝ }
+{
+    if size < 9223372036854775807 {
+        size
+    } else {
+        9223372036854775807
+    }
+}
+
+// The count that an Int or Binary sets for its name.
+fn set_count(layout: &[u32], counts: &mut [i64], name: u32, negative: bool, size: u64)
+    ensures { λ _. ⌜ now (counts .exit) ≡ setIn (now (layout .entry)) name negative size (now (counts .entry)) ⌝ }
+{
+    let j = first_of(layout, name);
+    put_word(counts, j * 2, status(negative, size));
+    put_word(counts, j * 2 + 1, stored(size));
+}
+
+// An unrepeated Int or Binary sets the count for its name, where some table depends on one.
+fn sets_count(deps: bool, once: bool, kind: u32) -> bool
+    ensures { λ r. ⌜ r ≡ (deps && (once && (eqb kind 1 || eqb kind 2))) ⌝ }
+{
+    if !deps {
+        return false;
+    }
+    if !once {
+        return false;
+    }
+    if kind == 1 {
+        return true;
+    }
+    kind == 2
+}
+
+fn note(layout: &[u32], counts: &mut [i64], deps: bool, e: Entry, once: bool, v: Scalar)
+    ensures { λ _. ⌜ now (counts .exit) ≡ noteIn (now (layout .entry)) deps e once v (now (counts .entry)) ⌝ }
+{
+    if sets_count(deps, once, e.kind) {
+        match v {
+            Scalar::Int(negative, size) => set_count(layout, counts, e.name, negative, size),
+            _ => {}
+        }
+    }
+}
+
+// The count that the controller of this name holds.
+fn held(layout: &[u32], counts: &[i64], name: u32) -> Count
+    ensures { λ r. ⌜ Counted (heldIn (now (layout .entry)) name (now (counts .entry))) r ⌝ }
+{
+    let j = first_of(layout, name);
+    let s = word_in(counts, j * 2);
+    if s == 0 {
+        return Count { refused: 5, n: 0 };
+    }
+    if s == 2 {
+        return Count { refused: 6, n: 0 };
+    }
+    Count {
+        refused: 0,
+        n: word_in(counts, j * 2 + 1),
+    }
+}
+
+// How many elements a table has: occurs, or under depending what the controller holds, at most occurs where given.
+pub fn how_many(layout: &[u32], counts: &[i64], e: Entry) -> Count
+    ensures { λ r. ⌜ Counted (howMany (λ name run. heldIn (now (layout .entry)) name run) e (now (counts .entry))) r ⌝ }
+{
+    if e.depending == 4294967295 {
+        return Count {
+            refused: 0,
+            n: e.occurs as u64,
+        };
+    }
+    let c = held(layout, counts, e.depending);
+    if c.refused != 0 {
+        return c;
+    }
+    if e.occurs == 4294967295 {
+        return c;
+    }
+    if c.n <= e.occurs as u64 {
+        return c;
+    }
+    Count { refused: 6, n: 0 }
+}
+
+// ---- one scalar or Pad
+
+pub fn is_single(e: Entry) -> bool
+    ensures { λ r. ⌜ r ≡ single e ⌝ }
+{
+    if e.occurs != 4294967295 {
+        return false;
+    }
+    e.depending == 4294967295
+}
+
+// The words of a table's own item: a table of Pads has none.
+pub fn head_words(e: Entry) -> usize
+    ensures { λ r. ⌜ r ≡ headOf e ⌝ }
+{
+    if e.kind == 6 { 0 } else { 4 }
+}
+
+// The item of a List or Struct at the front, around the members behind it.
+pub fn put_header(items: &mut [u64], name: u64, tag: u64, members: u64, span: u64)
+    requires { ⌜ 4 ≤ length (now items) ⌝ }
+    ensures { λ _. ⌜ now (items .exit) ≡ name ∷ tag ∷ members ∷ span ∷ drop 4 (now (items .entry)) ⌝ }
+{
+    items[0] = name;
+    items[1] = tag;
+    items[2] = members;
+    items[3] = span;
+}
+
+// A table's own item around its elements, which stand behind it and end at `used`.
+pub fn listed(
+    items: &mut [u64],
+    e: Entry,
+    head: usize,
+    used: usize,
+    members: u64,
+    taken: u64,
+    told: usize,
+) -> Out
+    requires { ⌜ head ≡ headOf e ⌝ }
+    requires { ⌜ head ≤ used ⌝ }
+    requires { ⌜ used ≤ length (now items) ⌝ }
+    ensures { λ r. ⌜ Listed e used members taken told r (now (items .entry)) (now (items .exit)) ⌝ }
+{
+    if head == 0 {
+        return Out {
+            refused: 0,
+            used,
+            members,
+            taken,
+            told,
+        };
+    }
+    put_header(items, e.name as u64, 6, members, (used / 4) as u64);
+    Out {
+        refused: 0,
+        used,
+        members: 1,
+        taken,
+        told,
+    }
+}
+
+// Text and Hex yield a text.
+fn yields_text(kind: u32) -> bool
+    ensures { λ r. ⌜ r ≡ (eqb kind 0 || eqb kind 4) ⌝ }
+{
+    if kind == 0 {
+        return true;
+    }
+    kind == 4
+}
+
+// A text's length; 0 for any other scalar.
+fn text_size(v: Scalar) -> u64
+    ensures { λ r. ⌜ r ≡ sizeIn v ⌝ }
+{
+    match v {
+        Scalar::Text(_, n) => n,
+        Scalar::Null => 0,
+        Scalar::Int(_, _) => 0,
+        Scalar::Decimal(_, _, _) => 0,
+        Scalar::Float(_) => 0,
+        Scalar::FloatBits(_) => 0,
+        Scalar::Bool(_) => 0,
+    }
+}
+
+// Whether a repeated element takes no byte.
+fn takes_none(once: bool, width: u32) -> bool
+    ensures { λ r. ⌜ r ≡ not (once || leb 1 width) ⌝ }
+{
+    if once {
+        return false;
+    }
+    width == 0
+}
+
+// A scalar as its item holds it: a text starts behind the texts so far.
+fn moved(kind: u32, told: usize, v: Scalar) -> Scalar
+    ensures { λ r. ⌜ r ≡ movedIn kind told v ⌝ }
+{
+    if yields_text(kind) {
+        return Scalar::Text(told as u64, text_size(v));
+    }
+    v
+}
+
+// The text bytes so far, once a scalar is read.
+fn told_after(kind: u32, told: usize, v: Scalar) -> usize
+    requires { ⌜ toldIn kind told v < 9223372036854775808 ⌝ }
+    ensures { λ r. ⌜ r ≡ toldIn kind told v ⌝ }
+{
+    if yields_text(kind) {
+        return told + text_size(v) as usize;
+    }
+    told
+}
+
+// A scalar's item at the front, and the count that it sets.
+fn place(
+    layout: &[u32],
+    items: &mut [u64],
+    counts: &mut [i64],
+    deps: bool,
+    e: Entry,
+    told: usize,
+    name: u64,
+    once: bool,
+    v: Scalar,
+) -> Out
+    requires { ⌜ toldIn (e .kind) told v < 9223372036854775808 ⌝ }
+    ensures { λ r. ⌜ Placed (λ st. placed name once (e .width) (length (now (items .entry))) (leafIn (movedIn (e .kind) told v) st)) (noteIn (now (layout .entry)) deps e once v (now (counts .entry))) (toldIn (e .kind) told v) (e .width) r (now (items .exit)) (now (counts .exit)) ⌝ }
+{
+    if takes_none(once, e.width) {
+        return refusal(10);
+    }
+    let s = moved(e.kind, told, v);
+    if !value::put_item(items, name, s) {
+        return refusal(16);
+    }
+    note(layout, counts, deps, e, once, v);
+    Out {
+        refused: 0,
+        used: 4,
+        members: 1,
+        taken: e.width as u64,
+        told: told_after(e.kind, told, v),
+    }
+}
+
+// What the bytes of a field say; a text goes behind the texts so far.
+fn read_part(record: &[u8], text: &mut [u8], page: u32, e: Entry, at: u64, told: usize) -> Decoded
+    requires { ⌜ at + e .width ≤ length (now «record») ⌝ }
+    requires { ⌜ told ≤ length (now text) ⌝ }
+    ensures { λ r. ⌜ r ≡ answerOf (says (e .kind) (e .p) (e .q) (e .r) page (take (e .width) (drop at (now («record» .entry))))) (length (now (text .entry)) - told) ⌝ }
+    ensures { λ _. ⌜ now (text .exit) ≡ take told (now (text .entry)) ++ textAfter (says (e .kind) (e .p) (e .q) (e .r) page (take (e .width) (drop at (now («record» .entry))))) (drop told (now (text .entry))) ⌝ }
+{
+    let from = at as usize;
+    let end = from + e.width as usize;
+    decode_scalar::decode_scalar(
+        e.kind,
+        e.p,
+        e.q,
+        e.r,
+        page,
+        &record[from..end],
+        &mut text[told..],
+    )
+}
+
+// A scalar that is inside the record.
+fn decode_value(
+    layout: &[u32],
+    record: &[u8],
+    items: &mut [u64],
+    text: &mut [u8],
+    counts: &mut [i64],
+    page: u32,
+    deps: bool,
+    e: Entry,
+    at: u64,
+    told: usize,
+    name: u64,
+    once: bool,
+) -> Out
+    requires { ⌜ at + e .width ≤ length (now «record») ⌝ }
+    requires { ⌜ told ≤ length (now text) ⌝ }
+    ensures { λ r. ⌜ Met (scalar (kept (now (layout .entry)) page (length (now (text .entry))) deps) (now («record» .entry)) e name once at (length (now (items .entry))) (state (now (counts .entry)) told (now (text .entry)))) r (now (items .exit)) (now (text .exit)) (now (counts .exit)) ⌝ }
+{
+    match read_part(record, text, page, e, at, told) {
+        Decoded::Refused(n) => refusal(n),
+        Decoded::Value(v) => place(layout, items, counts, deps, e, told, name, once, v),
+    }
+}
+
+// One scalar or Pad: every entry but a group.
+pub fn decode_leaf(
+    layout: &[u32],
+    record: &[u8],
+    items: &mut [u64],
+    text: &mut [u8],
+    counts: &mut [i64],
+    page: u32,
+    deps: bool,
+    e: Entry,
+    at: u64,
+    told: usize,
+    name: u64,
+    once: bool,
+) -> Out
+    requires { ⌜ told ≤ length (now text) ⌝ }
+    ensures { λ r. ⌜ Met (leafAt (kept (now (layout .entry)) page (length (now (text .entry))) deps) (now («record» .entry)) e name once at (length (now (items .entry))) (state (now (counts .entry)) told (now (text .entry)))) r (now (items .exit)) (now (text .exit)) (now (counts .exit)) ⌝ }
+{
+    if !inside_record(record.len(), at, e.width) {
+        return refusal(7);
+    }
+    if e.kind == 6 {
+        return Out {
+            refused: 0,
+            used: 0,
+            members: 0,
+            taken: e.width as u64,
+            told,
+        };
+    }
+    decode_value(
+        layout,
+        record,
+        items,
+        text,
+        counts,
+        page,
+        deps,
+        e,
+        at,
+        told,
+        name,
+        once,
+    )
+}
+
+// ---- zeros
+
+// Zeros from a place on.
+pub fn clear_items(items: &mut [u64], from: usize)
+    ensures { λ _. ⌜ now (items .exit) ≡ take from (now (items .entry)) ++ replicate (length (now (items .entry)) - from) 0 ⌝ }
+{
+    let mut i = from;
+    while i < items.len() {
+        items[i] = 0;
+        i += 1;
+    }
+}
+
+pub fn clear_text(text: &mut [u8], from: usize)
+    ensures { λ _. ⌜ now (text .exit) ≡ take from (now (text .entry)) ++ replicate (length (now (text .entry)) - from) 0 ⌝ }
+{
+    let mut i = from;
+    while i < text.len() {
+        text[i] = 0;
+        i += 1;
+    }
+}
+
+pub fn clear_counts(counts: &mut [i64])
+    ensures { λ _. ⌜ now (counts .exit) ≡ replicate (length (now (counts .entry))) (pos 0) ⌝ }
+{
+    let mut i = 0;
+    while i < counts.len() {
+        counts[i] = 0;
+        i += 1;
+    }
+}

@@ -1,0 +1,5 @@
+pub mod Ranges
+pub mod Stands
+pub mod Alike
+pub mod Joined
+pub mod Local

@@ -1,0 +1,84 @@
+-- The numbers that Int and Binary fields say: one that is not negative is below 2^63.
+use mathlib.Core.Path.{_≡_, refl, sym, ap, _∙_}
+use mathlib.Core.Bool.{Bool, true, false, _&&_, _||_, cond, true≢false}
+use mathlib.Core.List.{List, map}
+use Prim.Native.Nat.{ℕ, zero, suc, _+_, _-_, _/_, _^_, _<_, _≤_}
+use native.Mathlib.Omega.{arith}
+use lib.Dec.{eqb, ltb, leb}
+use lib.ListN.{length, getD, drop}
+use borrow.Author.Tests.{ltb-true, ltb-false, leb-true, leb-false, eqb-true}
+use Rattle.value.specs.declared.Number.{Number}
+use Rattle.value.specs.declared.Number.the-variants.{Of, Bad, Big}
+use Rattle.value.specs.Number.{numberIn}
+use Rattle.value.specs.Digits.{valueOf, isDigit, digitIn}
+use Rattle.lists.specs.Scan.{everyBy}
+use Rattle.ebcdic.specs.Ebcdic.{fromPage}
+use Rattle.display.specs.Display.{digitsIn, wholeOf, intIn, intOf, isSign, signAt, trimmed, restOf}
+use Rattle.binary.specs.Binary.{widthOk, signedWord, unsignedWord, integerOf}
+use Rattle.binary.specs.Bytes.{wordIn}
+use Rattle.binary.proofs.Integers.{width-high}
+
+-- a number that is not negative is below 2^63
+abbrev pub Small : Number → Type 0
+Small (Of negative size) = (negative && ltb 0 size) ≡ false → size < 9223372036854775808
+Small Bad = Unit {0}
+Small Big = Unit {0}
+
+by : (b : Bool) (x y : Number) → (b ≡ true → Small x) → (b ≡ false → Small y) → Small (cond b x y)
+by true x y f g = f refl
+by false x y f g = g refl
+
+number-small : (bound : ℕ) (negative : Bool) (v : ℕ) → bound ≤ 9223372036854775808 → Small (numberIn bound negative v)
+number-small bound negative v h = by (ltb v bound) (Of (ltb 0 v && negative) v) Big (λ e _. omega (arith, ltb-true v bound e, h)) (λ _. tt)
+
+minus-small : (bound v : ℕ) → Small (numberIn bound true v)
+minus-small bound v = by (ltb v bound) (Of (ltb 0 v && true) v) Big (λ e. go (ltb 0 v) refl) (λ _. tt)
+  where
+    go : (b : Bool) → ltb 0 v ≡ b → ((b && true) && b) ≡ false → v < 9223372036854775808
+    go true e f = absurd (true≢false f)
+    go false e f = omega (arith, ltb-false 0 v e)
+
+digits-small : (bound : ℕ) (negative : Bool) (t : List ℕ) → bound ≤ 9223372036854775808 → Small (digitsIn bound negative t)
+unfolding digitsIn
+digits-small bound negative t h = by (ltb 0 (length t) && everyBy isDigit t) (numberIn bound negative (valueOf (map digitIn t))) Bad (λ _. number-small bound negative (valueOf (map digitIn t)) h) (λ _. tt)
+
+digits-minus : (bound : ℕ) (t : List ℕ) → Small (digitsIn bound true t)
+unfolding digitsIn
+digits-minus bound t = by (ltb 0 (length t) && everyBy isDigit t) (numberIn bound true (valueOf (map digitIn t))) Bad (λ _. minus-small bound (valueOf (map digitIn t))) (λ _. tt)
+
+whole-small : (t : List ℕ) → Small (wholeOf t)
+unfolding wholeOf
+whole-small t =
+    by (eqb (getD t 0 0) 45) (digitsIn (2 ^ 63 + 1) true (drop 1 t)) _ (λ _. digits-minus (2 ^ 63 + 1) (drop 1 t)) (λ _.
+    by (eqb (getD t 0 0) 43) (digitsIn (2 ^ 63) false (drop 1 t)) (digitsIn (2 ^ 63) false t) (λ _. digits-small (2 ^ 63) false (drop 1 t) (omega arith)) (λ _. digits-small (2 ^ 63) false t (omega arith)))
+
+pub int-small : (sign : ℕ) (s : List ℕ) → Small (intOf sign s)
+unfolding intOf intIn
+int-small sign s =
+    by (eqb (length (trimmed (restOf sign (trimmed s)))) 0) (Of false 0) _ (λ _ _. omega arith) (λ _.
+    by (isSign (signAt sign (trimmed s))) (digitsIn (2 ^ 63) (eqb (signAt sign (trimmed s)) 45) (trimmed (restOf sign (trimmed s)))) (wholeOf (trimmed (restOf sign (trimmed s))))
+    (λ _. digits-small (2 ^ 63) (eqb (signAt sign (trimmed s)) 45) (trimmed (restOf sign (trimmed s))) (omega arith)) (λ _. whole-small (trimmed (restOf sign (trimmed s)))))
+
+half-small : (n : ℕ) → n ≤ 8 → 256 ^ n / 2 ≤ 9223372036854775808
+half-small zero h = omega arith
+half-small (suc zero) h = omega arith
+half-small (suc (suc zero)) h = omega arith
+half-small (suc (suc (suc zero))) h = omega arith
+half-small (suc (suc (suc (suc zero)))) h = omega arith
+half-small (suc (suc (suc (suc (suc zero))))) h = omega arith
+half-small (suc (suc (suc (suc (suc (suc zero)))))) h = omega arith
+half-small (suc (suc (suc (suc (suc (suc (suc zero))))))) h = omega arith
+half-small (suc (suc (suc (suc (suc (suc (suc (suc zero)))))))) h = omega arith
+half-small (suc (suc (suc (suc (suc (suc (suc (suc (suc n))))))))) h = absurd (omega arith)
+
+pub binary-small : (order : ℕ) (signed : Bool) (s : List ℕ) → Small (integerOf order signed s)
+unfolding integerOf
+binary-small order signed s = by (widthOk (length s)) (cond signed (signedWord (length s) (wordIn order s)) (unsignedWord (wordIn order s))) Bad
+    (λ w. by signed (signedWord (length s) (wordIn order s)) (unsignedWord (wordIn order s)) (λ _. sign w) (λ _. plain)) (λ _. tt)
+  where
+    sign : widthOk (length s) ≡ true → Small (signedWord (length s) (wordIn order s))
+    sign w = by (leb (256 ^ length s / 2) (wordIn order s)) (Of true (256 ^ length s - wordIn order s)) (Of false (wordIn order s))
+        (λ _ f. omega (arith, ltb-false 0 (256 ^ length s - wordIn order s) f)) (λ e _. omega (arith, leb-false (256 ^ length s / 2) (wordIn order s) e, half-small (length s) (width-high (length s) w)))
+
+    plain : Small (unsignedWord (wordIn order s))
+    plain = by (ltb (wordIn order s) (2 ^ 63)) (Of false (wordIn order s)) Big (λ e _. omega (arith, ltb-true (wordIn order s) (2 ^ 63) e)) (λ _. tt)

@@ -1,0 +1,2 @@
+-- What reading depends on.
+pub mod Local

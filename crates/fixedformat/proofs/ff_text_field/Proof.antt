@@ -1,0 +1,29 @@
+use mathlib.Core.Path.{_≡_, refl, sym, ap, _∙_, subst}
+use mathlib.Core.Bool.{Bool, true, false}
+use mathlib.Core.Logic.{⊎-elim}
+use mathlib.Core.List.{List, [], _∷_, _++_, map, append-nil, append-assoc}
+use Prim.Native.Nat.{ℕ, zero, suc, _+_, _-_, _*_, _≤_, _<_}
+use native.Mathlib.Omega.{arith}
+use native.Mathlib.Numerals.{add-one}
+use borrow.Author.Tests.{lt-ltb, le-ltb, le-leb, lt-leb, eq-eqb, ne-eqb, eqb-true, eqb-false, ltb-true, ltb-false, leb-true, leb-false}
+use lib.Dec.{eqb, leb, ltb}
+use lib.ListN.{length, take, drop, getD, set, replicate, length-set, length-append, length-take, length-drop, length-replicate, length-map}
+use mathlib.Core.Path.{ap}
+use mathlib.Core.List.{List}
+use Prim.Native.Nat.{ℕ}
+use lib.ListN.{length}
+use borrow.Author.Needs.{needs}
+use Rattle.fixedformat.proofs.ff_text_field.Statement.{statement}
+use Rattle.fixedformat.proofs.ff_text_field.Tie as tie
+
+text-start-requires : tie.Need-text-start-requires
+text-start-requires c κs = search needs
+
+text-field-requires : tie.Need-text-field-requires
+text-field-requires c κs = search needs
+
+returns : tie.Need-returns
+returns c = (c .text-field .ensures .1 .1, (c .before .before .text-start .ensures, ap (λ (l : List ℕ). length l) (c .text-field .ensures .0)))
+
+pub ff-text-field-spec : {M : Type 1} → statement M
+ff-text-field-spec = tie.close (tie.spec text-start-requires text-field-requires returns)

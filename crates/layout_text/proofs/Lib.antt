@@ -1,0 +1,15 @@
+pub mod Twelve
+pub mod Place
+pub mod Step
+pub mod Values
+pub mod Lines
+pub mod Eleven
+pub mod Page
+pub mod Judging
+pub mod Levels
+pub mod Words
+pub mod Ranges
+pub mod Answers
+pub mod Sights
+pub mod Storing
+pub mod Spellings

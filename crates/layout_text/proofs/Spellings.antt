@@ -1,0 +1,93 @@
+-- The first spelling of a name, by the table of starts.
+use mathlib.Core.Path.{_≡_, refl, sym, ap, _∙_, subst}
+use mathlib.Core.Bool.{Bool, true, false, _&&_, _||_, not, cond, false≢true}
+use mathlib.Core.List.{List, [], _∷_, _++_}
+use Prim.Native.Nat.{ℕ, zero, suc, _+_, _-_, _*_, _/_, _≤_, _<_, min}
+use native.Mathlib.Omega.{arith}
+use lib.Dec.{eqb, leb}
+use lib.ListN.{length, getD, take, drop, length-append, length-take, List·getD-eq-default}
+use lib.Seq.{getD-take}
+use borrow.Author.Tests.{eq-eqb, ne-eqb, eqb-true, eqb-false, le-leb}
+use Rattle.spans.proofs.Tree.{and-left, and-right}
+use Rattle.layout.specs.declared.Entry.{Entry}
+use Rattle.layout.specs.Layout.{allBelow, entryOk}
+use Rattle.layout.proofs.Laws.{all-at}
+use Rattle.layout.proofs.Lawful.{width-lawful}
+use Rattle.lines.specs.Lines.{lineFrom, startsWith, maskOk}
+use Rattle.lines.specs.Names.{distinct, namesAt}
+use Rattle.lines.proofs.Sight.{getD-map-at, names-long}
+use Rattle.layout_text.specs.declared.LayoutRead.{LayoutRead}
+use Rattle.layout_text.specs.Form.{linesOf, isNone, maskFor, says, countOf, lineIn, kindSaid, all, tests, entryLawful, lawful, maskWord}
+use Rattle.layout_text.specs.Reading.{widthSaid, maskSaid, namesOf, masksBelow, masksOf, maskLong, wordsOf, textChecked, refusal, readOf, spelling}
+use Rattle.layout_text.specs.Walk.{bareSaid, fineIn, Lasts}
+use Rattle.layout_text.proofs.Words.{words-long}
+use Rattle.layout_text.proofs.Answers.{Passed, passed, number-read, refusal-place, refusal-other, lasts}
+
+-- ---- a text that passes 1 and 2 has few mask bytes
+
+all-get : (bs : List Bool) (i : ℕ) → all bs ≡ true → getD bs i true ≡ true
+unfolding all
+all-get [] i e = refl
+all-get (b ∷ bs) zero e = and-left b (all bs) e
+all-get (b ∷ bs) (suc i) e = all-get bs i (and-right b (all bs) e)
+
+mask-said : (l : List (List ℕ)) (k : ℕ) → entryLawful l k ≡ true → maskFor (kindSaid l k) (maskSaid l k) ≡ true
+unfolding entryLawful
+mask-said l k e = and-right (startsWith maskWord (lineIn l k 10)) (maskFor (kindSaid l k) (maskSaid l k)) (all-get (tests l k) 10 e)
+
+mask-small : (l : List (List ℕ)) (k : ℕ) → entryLawful l k ≡ true → fineIn l k ≡ true → length (maskSaid l k) ≤ 65535
+unfolding fineIn bareSaid
+mask-small l k a b = by (eqb (kindSaid l k) 8) (mask-said l k a) (and-right (entryOk (bareSaid l k) (length (maskSaid l k))) (maskLong l k) b)
+  where
+    none : (s : List ℕ) → isNone s ≡ true → length s ≤ 65535
+    none [] q = omega arith
+    none (x ∷ s) q = absurd (false≢true q)
+
+    by : (t : Bool) → cond t (maskOk (maskSaid l k)) (isNone (maskSaid l k)) ≡ true → (not t || eqb (length (maskSaid l k)) (widthSaid l k)) ≡ true → length (maskSaid l k) ≤ 65535
+    by true p q =
+        let w : widthSaid l k ≤ 65535 = width-lawful (bareSaid l k) (length (maskSaid l k)) (and-left (entryOk (bareSaid l k) (length (maskSaid l k))) (maskLong l k) b) in
+        omega (arith, eqb-true (length (maskSaid l k)) (widthSaid l k) q)
+    by false p q = none (maskSaid l k) p
+
+masks-small : (l : List (List ℕ)) (n : ℕ) → ((k : ℕ) → k < n → length (maskSaid l k) ≤ 65535) → length (masksBelow l n) ≤ n * 65535
+unfolding masksBelow
+masks-small l zero h = omega arith
+masks-small l (suc n) h = omega (arith, length-append (masksBelow l n) (maskSaid l n), masks-small l n (λ k a. h k (omega arith)), h n (omega arith))
+
+-- the questions before place, where there is place enough
+pub room-enough : (text : List ℕ) → refusal text 18446744073709551615 18446744073709551615 ≡ textChecked text
+room-enough text = by (eqb (textChecked text) 0) refl
+  where
+    by : (t : Bool) → eqb (textChecked text) 0 ≡ t → refusal text 18446744073709551615 18446744073709551615 ≡ textChecked text
+    by true q =
+        let z : textChecked text ≡ 0 = eqb-true (textChecked text) 0 q in
+        let p : Passed text = passed text z in
+        let m : length (masksOf (linesOf text)) ≤ countOf (linesOf text) * 65535 =
+        masks-small (linesOf text) (countOf (linesOf text)) (λ k a. mask-small (linesOf text) k (p .entries k a) (all-at (fineIn (linesOf text)) (countOf (linesOf text)) k a (p .fine))) in
+        refusal-place text 18446744073709551615 18446744073709551615 z (omega (arith, words-long (linesOf text) (countOf (linesOf text)), p .few)) (omega (arith, p .few)) ∙ sym z
+    by false q = refusal-other text 18446744073709551615 18446744073709551615 (eqb-false (textChecked text) 0 q)
+
+-- ---- the table points at the different names
+
+module _ (text starts : List ℕ) (seen : ℕ) (h : seen ≤ 1024) (l : length starts ≡ 1024) (e : namesAt text starts seen ≡ distinct (namesOf (linesOf text))) (number : ℕ) where
+  long : length (distinct (namesOf (linesOf text))) ≡ seen
+  long = sym (ap length e) ∙ names-long text starts seen ∙ omega arith
+
+  pub spelled-none : seen ≤ number → [] ≡ getD (distinct (namesOf (linesOf text))) number []
+  spelled-none a = sym (List·getD-eq-default (distinct (namesOf (linesOf text))) [] {n = number} (omega (arith, long)))
+
+  pub spelled-at : number < seen → lineFrom text (getD starts number 0) ≡ getD (distinct (namesOf (linesOf text))) number []
+  spelled-at a =
+      let t : length (take seen starts) ≡ min seen (length starts) = length-take seen starts in
+      rw (← e) (sym (getD-map-at (lineFrom text) (take seen starts) number 0 (omega arith) ∙ ap (lineFrom text) (getD-take seen starts number 0 a)))
+
+pub spelled-there : (text : List ℕ) (number : ℕ) (r : LayoutRead) → r ≡ readOf text 18446744073709551615 18446744073709551615 → r .number ≡ 0 → getD (distinct (namesOf (linesOf text))) number [] ≡ spelling text number
+unfolding spelling
+spelled-there text number r e z = rw (sym (number-read text 18446744073709551615 18446744073709551615 r e ∙ room-enough text) ∙ z) refl
+
+pub spelled-not : (text : List ℕ) (number : ℕ) (r : LayoutRead) → r ≡ readOf text 18446744073709551615 18446744073709551615 → (r .number ≡ 0 → ⊥) → [] ≡ spelling text number
+unfolding spelling
+spelled-not text number r e z = rw (ne-eqb (textChecked text) 0 (λ x. z (number-read text 18446744073709551615 18446744073709551615 r e ∙ room-enough text ∙ x))) refl
+
+pub names-last : (text : List ℕ) (r : LayoutRead) → r ≡ readOf text 18446744073709551615 18446744073709551615 → r .number ≡ 0 → length text < 4294967296 → Lasts text (r .words / 12)
+names-last text r e z s = lasts text 18446744073709551615 18446744073709551615 (sym (number-read text 18446744073709551615 18446744073709551615 r e) ∙ z) r e s

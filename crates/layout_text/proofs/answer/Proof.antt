@@ -1,0 +1,97 @@
+use mathlib.Core.Path.{_≡_, refl, sym, ap, _∙_, subst}
+use mathlib.Core.Bool.{Bool, true, false}
+use mathlib.Core.Logic.{⊎-elim}
+use mathlib.Core.List.{List, [], _∷_, _++_, map, append-nil, append-assoc}
+use Prim.Native.Nat.{ℕ, zero, suc, _+_, _-_, _*_, _≤_, _<_}
+use native.Mathlib.Omega.{arith}
+use native.Mathlib.Numerals.{add-one}
+use borrow.Author.Tests.{lt-ltb, le-ltb, le-leb, lt-leb, eq-eqb, ne-eqb, eqb-true, eqb-false, ltb-true, ltb-false, leb-true, leb-false}
+use lib.Dec.{eqb, leb, ltb}
+use lib.ListN.{length, take, drop, getD, set, replicate, length-set, length-append, length-take, length-drop, length-replicate, length-map}
+use borrow.Author.Tests.{not-true, not-false}
+use Rattle.layout_text.specs.Walk.{numberGiven, answerGiven}
+use mathlib.Core.Bool.{and-false}
+use borrow.Author.Needs.{needs}
+use Rattle.layout_text.proofs.answer.Statement.{statement}
+use Rattle.layout_text.proofs.answer.Tie as tie
+
+refused-requires : tie.Need-refused-requires
+refused-requires c κs = search needs
+
+returns : tie.Need-returns
+unfolding answerGiven numberGiven
+returns c = c .refused .ensures ∙ rw (not-true (c .before .before .before .args .j .lawful) (c .before .if1 .taken)) refl
+
+refused-requires-2 : tie.Need-refused-requires-2
+refused-requires-2 c κs = search needs
+
+returns-2 : tie.Need-returns-2
+unfolding answerGiven numberGiven
+returns-2 c = c .refused2 .ensures ∙ rw (not-false (c .before .before .before .before .before .args .j .lawful) (c .before .before .before .if1 .left), lt-leb _ _ (c .before .if2 .taken)) refl
+
+refused-requires-3 : tie.Need-refused-requires-3
+refused-requires-3 c κs = search needs
+
+returns-3 : tie.Need-returns-3
+unfolding answerGiven numberGiven
+returns-3 c = c .refused3 .ensures ∙ rw (not-false (c .before .before .before .before .before .before .before .args .j .lawful) (c .before .before .before .before .before .if1 .left), le-leb _ _ (c .before .before .before .if2 .left), lt-leb _ _ (c .before .if3 .taken)) refl
+
+refused-requires-4 : tie.Need-refused-requires-4
+refused-requires-4 c κs = search needs
+
+returns-4 : tie.Need-returns-4
+unfolding answerGiven numberGiven
+returns-4 c = c .refused4 .ensures ∙ rw (not-false (c .before .before .before .before .before .before .before .before .before .args .j .lawful) (c .before .before .before .before .before .before .before .if1 .left), le-leb _ _ (c .before .before .before .before .before .if2 .left), le-leb _ _ (c .before .before .before .if3 .left), not-true (c .before .before .before .before .before .before .before .before .before .args .j .fine) (c .before .if4 .taken)) refl
+
+refused-requires-5 : tie.Need-refused-requires-5
+refused-requires-5 c κs = search needs
+
+returns-5 : tie.Need-returns-5
+unfolding answerGiven numberGiven
+returns-5 c = c .refused5 .ensures ∙ rw (not-false (c .before .before .before .before .before .before .before .before .before .before .args .j .lawful) (c .before .before .before .before .before .before .before .before .if1 .left), le-leb _ _ (c .before .before .before .before .before .before .if2 .left), le-leb _ _ (c .before .before .before .before .if3 .left), not-false (c .before .before .before .before .before .before .before .before .before .before .args .j .fine) (c .before .before .if4 .left), not-true (c .before .before .before .before .before .before .before .before .before .before .args .nests) (c .before .if5 .taken)) refl
+
+mul-if6 : tie.Need-mul-if6
+mul-if6 c = search needs
+
+refused-requires-6 : tie.Need-refused-requires-6
+refused-requires-6 c κs = search needs
+
+returns-6 : tie.Need-returns-6
+unfolding answerGiven numberGiven
+returns-6 c = c .refused6 .ensures ∙ rw (not-false (c .before .before .before .before .before .before .before .before .before .before .before .before .args .j .lawful) (c .before .before .before .before .before .before .before .before .before .before .if1 .left), le-leb _ _ (c .before .before .before .before .before .before .before .before .if2 .left), le-leb _ _ (c .before .before .before .before .before .before .if3 .left), not-false (c .before .before .before .before .before .before .before .before .before .before .before .before .args .j .fine) (c .before .before .before .before .if4 .left), not-false (c .before .before .before .before .before .before .before .before .before .before .before .before .args .nests) (c .before .before .before .if5 .left), lt-leb _ _ (c .before .if6 .taken)) refl
+
+refused-requires-7 : tie.Need-refused-requires-7
+refused-requires-7 c κs = search needs
+
+returns-7 : tie.Need-returns-7
+unfolding answerGiven numberGiven
+returns-7 c = c .refused7 .ensures ∙ rw (not-false (c .before .before .before .before .before .before .before .before .before .before .before .before .before .before .args .j .lawful) (c .before .before .before .before .before .before .before .before .before .before .before .before .if1 .left), le-leb _ _ (c .before .before .before .before .before .before .before .before .before .before .if2 .left), le-leb _ _ (c .before .before .before .before .before .before .before .before .if3 .left), not-false (c .before .before .before .before .before .before .before .before .before .before .before .before .before .before .args .j .fine) (c .before .before .before .before .before .before .if4 .left), not-false (c .before .before .before .before .before .before .before .before .before .before .before .before .before .before .args .nests) (c .before .before .before .before .before .if5 .left), le-leb _ _ (c .before .before .before .if6 .left), lt-leb _ _ (c .before .if7 .taken)) refl
+
+mul-t6 : tie.Need-mul-t6
+mul-t6 c = search needs
+
+returns-8 : tie.Need-returns-8
+unfolding answerGiven numberGiven
+returns-8 c = rw (not-false (c .before .before .before .before .before .before .before .before .before .before .before .before .before .before .args .j .lawful) (c .before .before .before .before .before .before .before .before .before .before .before .before .if1 .left), le-leb _ _ (c .before .before .before .before .before .before .before .before .before .before .if2 .left), le-leb _ _ (c .before .before .before .before .before .before .before .before .if3 .left), not-false (c .before .before .before .before .before .before .before .before .before .before .before .before .before .before .args .j .fine) (c .before .before .before .before .before .before .if4 .left), not-false (c .before .before .before .before .before .before .before .before .before .before .before .before .before .before .args .nests) (c .before .before .before .before .before .if5 .left), le-leb _ _ (c .before .before .before .if6 .left), le-leb _ _ (c .before .if7 .left)) refl
+
+pub answer-spec : {M : Type 1} → statement M
+answer-spec =
+    tie.close
+    (tie.spec
+    refused-requires
+    returns
+    refused-requires-2
+    returns-2
+    refused-requires-3
+    returns-3
+    refused-requires-4
+    returns-4
+    refused-requires-5
+    returns-5
+    mul-if6
+    refused-requires-6
+    returns-6
+    refused-requires-7
+    returns-7
+    mul-t6
+    returns-8)

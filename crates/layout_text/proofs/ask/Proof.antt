@@ -1,0 +1,50 @@
+use mathlib.Core.Path.{_≡_, refl, sym, ap, _∙_, subst}
+use mathlib.Core.Bool.{Bool, true, false}
+use mathlib.Core.Logic.{⊎-elim}
+use mathlib.Core.List.{List, [], _∷_, _++_, map, append-nil, append-assoc}
+use Prim.Native.Nat.{ℕ, zero, suc, _+_, _-_, _*_, _≤_, _<_}
+use native.Mathlib.Omega.{arith}
+use native.Mathlib.Numerals.{add-one}
+use borrow.Author.Tests.{lt-ltb, le-ltb, le-leb, lt-leb, eq-eqb, ne-eqb, eqb-true, eqb-false, ltb-true, ltb-false, leb-true, leb-false}
+use lib.Dec.{eqb, leb, ltb}
+use lib.ListN.{length, take, drop, getD, set, replicate, length-set, length-append, length-take, length-drop, length-replicate, length-map}
+use Rattle.layout_text.proofs.Answers.{answer-is, number-given, text-small}
+use borrow.Author.Needs.{needs}
+use Rattle.layout_text.proofs.ask.Statement.{statement}
+use Rattle.layout_text.proofs.ask.Tie as tie
+
+judge-requires : tie.Need-judge-requires
+judge-requires c κs = search needs
+
+at-most-requires : tie.Need-at-most-requires
+at-most-requires c κs = search needs
+
+nested-requires : tie.Need-nested-requires
+nested-requires c κs = search needs
+
+answer-requires : tie.Need-answer-requires
+answer-requires c κs = search needs
+
+same-length : tie.Need-same-length
+same-length c = search needs
+
+same-length-2 : tie.Need-same-length-2
+same-length-2 c = search needs
+
+returns : tie.Need-returns
+returns c = (
+  c .answer .ensures ∙ answer-is (c .before .before .before .before .before .before .before .before .before .before .before .before .before .before .before .args .text .now) (c .before .before .before .before .before .before .before .before .before .judge .result) _ _ (c .before .before .before .before .before .before .before .before .before .judge .ensures) (c .before .before .at-most .result) (c .before .before .at-most .ensures) (c .before .nested .result) (c .before .nested .ensures) (c .before .before .before .before .before .before .before .before .before .before .before .before .before .before .before .args .words) (c .before .before .before .before .before .before .before .before .before .before .before .before .before .before .before .args .masks),
+  λ z. text-small (c .before .before .before .before .before .before .before .before .before .before .before .before .before .before .before .args .text .now) (c .before .before .before .before .before .before .before .before .before .judge .result) _ _ (c .before .before .before .before .before .before .before .before .before .judge .ensures) (c .before .before .at-most .result) (c .before .before .at-most .ensures) (c .before .nested .result) (c .before .nested .ensures) (c .before .before .before .before .before .before .before .before .before .before .before .before .before .before .before .args .words) (c .before .before .before .before .before .before .before .before .before .before .before .before .before .before .before .args .masks) (number-given (c .before .before .before .before .before .before .before .before .before .judge .result) (c .before .nested .result) (c .before .before .before .before .before .before .before .before .before .before .before .before .before .before .before .args .words) (c .before .before .before .before .before .before .before .before .before .before .before .before .before .before .before .args .masks) (c .answer .result) (c .answer .ensures) z),
+)
+
+pub ask-spec : {M : Type 1} → statement M
+ask-spec =
+    tie.close
+    (tie.spec
+    judge-requires
+    at-most-requires
+    nested-requires
+    answer-requires
+    same-length
+    same-length-2
+    returns)

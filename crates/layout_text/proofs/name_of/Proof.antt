@@ -1,0 +1,47 @@
+use mathlib.Core.Path.{_≡_, refl, sym, ap, _∙_, subst}
+use mathlib.Core.Bool.{Bool, true, false}
+use mathlib.Core.Logic.{⊎-elim}
+use mathlib.Core.List.{List, [], _∷_, _++_, map, append-nil, append-assoc}
+use Prim.Native.Nat.{ℕ, zero, suc, _+_, _-_, _*_, _≤_, _<_}
+use native.Mathlib.Omega.{arith}
+use native.Mathlib.Numerals.{add-one}
+use borrow.Author.Tests.{lt-ltb, le-ltb, le-leb, lt-leb, eq-eqb, ne-eqb, eqb-true, eqb-false, ltb-true, ltb-false, leb-true, leb-false}
+use lib.Dec.{eqb, leb, ltb}
+use lib.ListN.{length, take, drop, getD, set, replicate, length-set, length-append, length-take, length-drop, length-replicate, length-map}
+use Rattle.layout_text.proofs.Spellings.{spelled-not, spelled-there, names-last}
+use borrow.Author.Needs.{needs}
+use Rattle.layout_text.proofs.name_of.Statement.{statement}
+use Rattle.layout_text.proofs.name_of.Tie as tie
+
+questions-requires : tie.Need-questions-requires
+questions-requires c κs = search needs
+
+sub-result : tie.Need-sub-result
+sub-result c = search needs
+
+part-result-start : tie.Need-part-result-start
+part-result-start c = search needs
+
+part-result-end : tie.Need-part-result-end
+part-result-end c = search needs
+
+returns : tie.Need-returns
+returns c = (spelled-not (c .before .before .before .before .before .args .text .now) (c .before .before .before .before .before .args .number) (c .before .before .before .questions .result) (c .before .before .before .questions .ensures .0) (c .before .if1 .taken), (0, (refl, refl)))
+
+spelled-by-table-requires : tie.Need-spelled-by-table-requires
+spelled-by-table-requires c κs = names-last (c .before .before .before .before .before .args .text .now) (c .before .before .before .questions .result) (c .before .before .before .questions .ensures .0) (c .before .if1 .left) (c .before .before .before .questions .ensures .1 (c .before .if1 .left))
+
+returns-2 : tie.Need-returns-2
+returns-2 c = (c .spelled-by-table .ensures .0 ∙ spelled-there (c .before .before .before .before .before .before .args .text .now) (c .before .before .before .before .before .before .args .number) (c .before .before .before .before .questions .result) (c .before .before .before .before .questions .ensures .0) (c .before .before .if1 .left), c .spelled-by-table .ensures .1)
+
+pub name-of-spec : {M : Type 1} → statement M
+name-of-spec =
+    tie.close
+    (tie.spec
+    questions-requires
+    sub-result
+    part-result-start
+    part-result-end
+    returns
+    spelled-by-table-requires
+    returns-2)

@@ -1,0 +1,44 @@
+use mathlib.Core.Path.{_≡_, refl, sym, ap, _∙_, subst}
+use mathlib.Core.Bool.{Bool, true, false}
+use mathlib.Core.Logic.{⊎-elim}
+use mathlib.Core.List.{List, [], _∷_, _++_, map, append-nil, append-assoc}
+use Prim.Native.Nat.{ℕ, zero, suc, _+_, _-_, _*_, _≤_, _<_}
+use native.Mathlib.Omega.{arith}
+use native.Mathlib.Numerals.{add-one}
+use borrow.Author.Tests.{lt-ltb, le-ltb, le-leb, lt-leb, eq-eqb, ne-eqb, eqb-true, eqb-false, ltb-true, ltb-false, leb-true, leb-false}
+use lib.Dec.{eqb, leb, ltb}
+use lib.ListN.{length, take, drop, getD, set, replicate, length-set, length-append, length-take, length-drop, length-replicate, length-map}
+use Rattle.layout_text.specs.Walk.{numberWith}
+use Rattle.lines.specs.declared.Parsed.{Parsed}
+use borrow.Author.Needs.{needs}
+use Rattle.layout_text.proofs.number_in.Statement.{statement}
+use Rattle.layout_text.proofs.number_in.Tie as tie
+
+sub-number-of : tie.Need-sub-number-of
+sub-number-of c = search needs
+
+part-number-of-start : tie.Need-part-number-of-start
+part-number-of-start c = search needs
+
+part-number-of-end : tie.Need-part-number-of-end
+part-number-of-end c = search needs
+
+number-of-requires : tie.Need-number-of-requires
+number-of-requires c κs = search needs
+
+number-with-requires : tie.Need-number-with-requires
+number-with-requires c κs = search needs
+
+returns : tie.Need-returns
+returns c = c .number-with .ensures ∙ ap (λ (m : Parsed). numberWith m (c .before .before .before .before .args .part .next)) (c .before .number-of .ensures)
+
+pub number-in-spec : {M : Type 1} → statement M
+number-in-spec =
+    tie.close
+    (tie.spec
+    sub-number-of
+    part-number-of-start
+    part-number-of-end
+    number-of-requires
+    number-with-requires
+    returns)

@@ -1,0 +1,59 @@
+use mathlib.Core.Path.{_≡_, refl, sym, ap, _∙_, subst}
+use mathlib.Core.Bool.{Bool, true, false}
+use mathlib.Core.Logic.{⊎-elim}
+use mathlib.Core.List.{List, [], _∷_, _++_, map, append-nil, append-assoc}
+use Prim.Native.Nat.{ℕ, zero, suc, _+_, _-_, _*_, _≤_, _<_}
+use native.Mathlib.Omega.{arith}
+use native.Mathlib.Numerals.{add-one}
+use borrow.Author.Tests.{lt-ltb, le-ltb, le-leb, lt-leb, eq-eqb, ne-eqb, eqb-true, eqb-false, ltb-true, ltb-false, leb-true, leb-false}
+use lib.Dec.{eqb, leb, ltb}
+use lib.ListN.{length, take, drop, getD, set, replicate, length-set, length-append, length-take, length-drop, length-replicate, length-map}
+use Rattle.layout_text.proofs.Answers.{refused-all, can-store, stored-all}
+use borrow.Author.Needs.{needs}
+use Rattle.layout_text.proofs.read_layout.Statement.{statement}
+use Rattle.layout_text.proofs.read_layout.Tie as tie
+
+zero-words-requires : tie.Need-zero-words-requires
+zero-words-requires c κs = search needs
+
+fill-requires : tie.Need-fill-requires
+fill-requires c κs = search needs
+
+questions-requires : tie.Need-questions-requires
+questions-requires c κs = search needs
+
+same-length : tie.Need-same-length
+same-length c = search needs
+
+same-length-2 : tie.Need-same-length-2
+same-length-2 c = search needs
+
+returns : tie.Need-returns
+returns c = refused-all (c .before .before .before .before .before .before .before .before .before .before .before .before .before .before .args .text .now) (c .before .before .before .before .before .before .before .before .before .before .before .before .before .before .args .words .now) (c .before .before .before .before .before .before .before .before .before .before .before .before .before .before .args .masks .now) _ _ (c .before .before .before .before .before .before .before .before .before .zero-words .ensures) (c .before .before .before .before .before .fill .ensures) (c .before .before .questions .result) (c .before .before .questions .ensures .0) (c .if1 .taken)
+
+store-all-requires : tie.Need-store-all-requires
+store-all-requires c κs = can-store (c .before .before .before .before .before .before .before .before .before .before .before .before .before .before .before .before .before .args .text .now) (c .before .before .before .before .before .before .before .before .before .before .before .before .before .before .before .before .before .args .words .now) (c .before .before .before .before .before .before .before .before .before .before .before .before .before .before .before .before .before .args .masks .now) _ _ (c .before .before .before .before .before .before .before .before .before .before .before .before .zero-words .ensures) (c .before .before .before .before .before .before .before .before .fill .ensures) (c .before .before .before .before .before .questions .result) (c .before .before .before .before .before .questions .ensures .0) (c .before .before .before .if1 .left) (c .before .before .before .before .before .questions .ensures .1 (c .before .before .before .if1 .left))
+
+same-length-3 : tie.Need-same-length-3
+same-length-3 c = search needs
+
+same-length-4 : tie.Need-same-length-4
+same-length-4 c = search needs
+
+returns-2 : tie.Need-returns-2
+returns-2 c = stored-all (c .before .before .before .before .before .before .before .before .before .before .before .before .before .before .before .before .before .before .before .before .before .before .args .text .now) (c .before .before .before .before .before .before .before .before .before .before .before .before .before .before .before .before .before .before .before .before .before .before .args .words .now) (c .before .before .before .before .before .before .before .before .before .before .before .before .before .before .before .before .before .before .before .before .before .before .args .masks .now) _ _ (c .before .before .before .before .before .before .before .before .before .before .before .before .before .before .before .before .before .zero-words .ensures) (c .before .before .before .before .before .before .before .before .before .before .before .before .before .fill .ensures) (c .before .before .before .before .before .before .before .before .before .before .questions .result) (c .before .before .before .before .before .before .before .before .before .before .questions .ensures .0) (c .before .before .before .before .before .before .before .before .if1 .left) _ _ (c .before .before .before .before .store-all .ensures .0) (c .before .before .before .before .store-all .ensures .1)
+
+pub read-layout-spec : {M : Type 1} → statement M
+read-layout-spec =
+    tie.close
+    (tie.spec
+    zero-words-requires
+    fill-requires
+    questions-requires
+    same-length
+    same-length-2
+    returns
+    store-all-requires
+    same-length-3
+    same-length-4
+    returns-2)

@@ -1,0 +1,64 @@
+use mathlib.Core.Path.{_≡_, refl, sym, ap, _∙_, subst}
+use mathlib.Core.Bool.{Bool, true, false}
+use mathlib.Core.Logic.{⊎-elim}
+use mathlib.Core.List.{List, [], _∷_, _++_, map, append-nil, append-assoc}
+use Prim.Native.Nat.{ℕ, zero, suc, _+_, _-_, _*_, _≤_, _<_}
+use native.Mathlib.Omega.{arith}
+use native.Mathlib.Numerals.{add-one}
+use borrow.Author.Tests.{lt-ltb, le-ltb, le-leb, lt-leb, eq-eqb, ne-eqb, eqb-true, eqb-false, ltb-true, ltb-false, leb-true, leb-false}
+use lib.Dec.{eqb, leb, ltb}
+use lib.ListN.{length, take, drop, getD, set, replicate, length-set, length-append, length-take, length-drop, length-replicate, length-map}
+use borrow.Author.Needs.{needs}
+use borrow.Author.Fill.{fill-none, fill-more}
+use Rattle.lists.proofs.Lists.{fill-end}
+use Rattle.layout_text.proofs.zero_words.Statement.{statement}
+use Rattle.layout_text.proofs.zero_words.Tie as tie
+
+abbrev Inv-loop : tie.InvT-loop
+Inv-loop s₀ i₀ s i = (i ≤ length s₀) × ((s ≡ replicate i 0 ++ drop i s₀) × (length s ≡ length s₀))
+
+abbrev μ-loop : tie.MeasureT-loop
+μ-loop s₀ i₀ s i = length s₀ - i
+
+loop-holds : tie.Need-loop-holds Inv-loop μ-loop
+loop-holds c = (omega arith, (refl, refl))
+
+mul-s : tie.Need-mul-s Inv-loop μ-loop
+mul-s c = search needs
+
+slice-write-s : tie.Need-slice-write-s Inv-loop μ-loop
+slice-write-s c = search needs
+
+add-i : tie.Need-add-i Inv-loop μ-loop
+add-i c = search needs
+
+loop-less : tie.Need-loop-less Inv-loop μ-loop
+loop-less c = search needs
+
+loop-again : tie.Need-loop-again Inv-loop μ-loop
+loop-again c =
+    let h : c .before .loop .i < length (c .before .before .args .s .now) = omega arith in
+    (omega arith, (rw (c .before .loop .inv .1 .0) (fill-more (c .before .loop .i) 0 (c .before .before .args .s .now) h), simp length-set (c .before .loop .inv .1 .1)))
+
+same-length : tie.Need-same-length Inv-loop μ-loop
+same-length c = c .before .loop .inv .1 .1
+
+returns : tie.Need-returns Inv-loop μ-loop
+returns c =
+    let e : c .before .loop .i ≡ length (c .before .before .args .s .now) = omega arith in
+    c .before .loop .inv .1 .0 ∙ fill-end (c .before .before .args .s .now) 0 (c .before .loop .i) e
+
+pub zero-words-spec : {M : Type 1} → statement M
+zero-words-spec =
+    tie.close
+    (tie.spec
+    Inv-loop
+    μ-loop
+    loop-holds
+    mul-s
+    slice-write-s
+    add-i
+    loop-less
+    loop-again
+    same-length
+    returns)

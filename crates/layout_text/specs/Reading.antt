@@ -1,0 +1,147 @@
+-- What a lawful text says: its entries' words and its masks; and what a reader of it answers.
+use mathlib.Core.Bool.{Bool, true, false, _&&_, _||_, not, cond}
+use mathlib.Core.List.{List, [], _∷_, _++_}
+use Prim.Native.Nat.{ℕ, zero, suc, _+_, _-_, _*_, _/_, _%_}
+use lib.Dec.{eqb, leb}
+use lib.ListN.{length, drop, getD, replicate}
+use Rattle.layout.specs.declared.Entry.{Entry}
+use Rattle.layout.specs.Layout.{absent, allBelow, wordsOk, entriesOk, spansOk}
+use Rattle.lines.specs.Lines.{numberOf}
+use Rattle.lines.specs.Names.{distinct, numberIn}
+use Rattle.layout_text.specs.declared.LayoutRead.{LayoutRead}
+use Rattle.layout_text.specs.Form.{linesOf, nameWord, offsetWord, widthWord, kindWord, occursWord, dependingWord, spanWord, pWord, qWord, rWord, maskWord, pageWord, isNone, worth, countOf, lineIn, kindSaid, lawful}
+
+-- ---- the values of the k-th entry
+
+-- a number, and an empty value: absent
+abbrev pub numberSaid : List ℕ → List ℕ → ℕ
+numberSaid word line = worth (numberOf (drop (length word) line))
+
+abbrev pub orAbsent : List ℕ → ℕ → ℕ
+orAbsent s n = cond (isNone s) absent n
+
+abbrev pub nameSaid : List (List ℕ) → ℕ → List ℕ
+nameSaid l k = drop (length nameWord) (lineIn l k 0)
+
+abbrev pub occursSaid : List (List ℕ) → ℕ → List ℕ
+occursSaid l k = drop (length occursWord) (lineIn l k 4)
+
+abbrev pub dependingSaid : List (List ℕ) → ℕ → List ℕ
+dependingSaid l k = drop (length dependingWord) (lineIn l k 5)
+
+abbrev pub widthSaid : List (List ℕ) → ℕ → ℕ
+widthSaid l k = numberSaid widthWord (lineIn l k 2)
+
+abbrev pub rSaid : List (List ℕ) → ℕ → ℕ
+rSaid l k = numberSaid rWord (lineIn l k 9)
+
+abbrev pub maskSaid : List (List ℕ) → ℕ → List ℕ
+maskSaid l k = drop (length maskWord) (lineIn l k 10)
+
+-- ---- names: "Name numbers follow first sight, from 0." Both `name=` and `depending=` lines are sights, in the order of the text.
+
+abbrev pub namesIn : List (List ℕ) → ℕ → List (List ℕ)
+namesIn l k = nameSaid l k ∷ cond (isNone (dependingSaid l k)) [] (dependingSaid l k ∷ [])
+
+-- the names in the first k entries, and in all
+unfoldable pub namesBelow : List (List ℕ) → ℕ → List (List ℕ)
+namesBelow l zero = []
+namesBelow l (suc k) = namesBelow l k ++ namesIn l k
+
+abbrev pub namesOf : List (List ℕ) → List (List ℕ)
+namesOf l = namesBelow l (countOf l)
+
+-- ---- masks: "packed in entry order"
+
+unfoldable pub masksBelow : List (List ℕ) → ℕ → List ℕ
+masksBelow l zero = []
+masksBelow l (suc k) = masksBelow l k ++ maskSaid l k
+
+abbrev pub masksOf : List (List ℕ) → List ℕ
+masksOf l = masksBelow l (countOf l)
+
+-- ---- words
+
+-- "r of a Decimal is scale + 32 × precision"
+abbrev pub scaleOf : ℕ → ℕ → ℕ
+scaleOf kind r = cond (eqb kind 7) (r % 32) r
+
+abbrev pub precisionOf : ℕ → ℕ → ℕ
+precisionOf kind r = cond (eqb kind 7) (r / 32) 0
+
+-- an Edited's mask starts at n; "unused words are 0"
+abbrev pub maskWordOf : ℕ → ℕ → ℕ
+maskWordOf kind n = cond (eqb kind 8) n 0
+
+-- the k-th entry
+unfoldable pub entrySaid : List (List ℕ) → ℕ → Entry
+entrySaid l k = record {
+  name = numberIn (namesOf l) (nameSaid l k);
+  offset = numberSaid offsetWord (lineIn l k 1);
+  width = widthSaid l k;
+  kind = kindSaid l k;
+  occurs = orAbsent (occursSaid l k) (numberSaid occursWord (lineIn l k 4));
+  depending = orAbsent (dependingSaid l k) (numberIn (namesOf l) (dependingSaid l k));
+  span = numberSaid spanWord (lineIn l k 6);
+  p = numberSaid pWord (lineIn l k 7);
+  q = numberSaid qWord (lineIn l k 8);
+  r = scaleOf (kindSaid l k) (rSaid l k);
+  s = precisionOf (kindSaid l k) (rSaid l k);
+  mask = maskWordOf (kindSaid l k) (length (masksBelow l k));
+}
+
+-- "name .., offset, width, kind, occurs, depending .., span .., p, q, r, s, mask"
+unfoldable pub twelve : Entry → List ℕ
+twelve e =
+    e .name ∷ e .offset ∷ e .width ∷ e .kind ∷ e .occurs ∷ e .depending
+    ∷ e .span ∷ e .p ∷ e .q ∷ e .r ∷ e .s ∷ e .mask ∷ []
+
+unfoldable pub wordsBelow : List (List ℕ) → ℕ → List ℕ
+wordsBelow l zero = []
+wordsBelow l (suc k) = wordsBelow l k ++ twelve (entrySaid l k)
+
+abbrev pub wordsOf : List (List ℕ) → List ℕ
+wordsOf l = wordsBelow l (countOf l)
+
+abbrev pub pageOf : List (List ℕ) → ℕ
+pageOf l = numberSaid pageWord (getD l 0 [])
+
+-- ---- the questions
+
+-- "(2 unless width long)"
+abbrev pub maskLong : List (List ℕ) → ℕ → Bool
+maskLong l k = not (eqb (kindSaid l k) 8) || eqb (length (maskSaid l k)) (widthSaid l k)
+
+-- "Layout text lawful? Else 17." Then 1, 2 and 3 of the words that it says; 0 if it passes.
+unfoldable pub textChecked : List ℕ → ℕ
+textChecked text =
+    let l = linesOf text in
+    cond (lawful text)
+    (cond (wordsOk (wordsOf l) (pageOf l))
+    (cond (entriesOk (wordsOf l) (length (masksOf l)) && allBelow (maskLong l) (countOf l))
+    (cond (spansOk (wordsOf l)) 0 3) 2) 1) 17
+
+-- "Place for words and masks of a layout text .. ? Else 16": asked last, of buffers of these sizes
+unfoldable pub refusal : List ℕ → ℕ → ℕ → ℕ
+refusal text words masks =
+    let l = linesOf text in
+    cond (eqb (textChecked text) 0)
+    (cond (leb (length (wordsOf l)) words && leb (length (masksOf l)) masks) 0 16)
+    (textChecked text)
+
+-- ---- the answers. "A call that refuses returns its number and length 0; all output buffers hold zeros. After success unused output is zero."
+
+unfoldable pub readOf : List ℕ → ℕ → ℕ → LayoutRead
+readOf text words masks =
+    let l = linesOf text in
+    cond (eqb (refusal text words masks) 0)
+    (record { number = 0; page = pageOf l; words = length (wordsOf l); masks = length (masksOf l) })
+    (record { number = refusal text words masks; page = 0; words = 0; masks = 0 })
+
+-- a buffer of so many cells: what is accepted, then zeros
+abbrev pub buffer : ℕ → List ℕ → ℕ → List ℕ
+buffer number used size = cond (eqb number 0) (used ++ replicate (size - length used) 0) (replicate size 0)
+
+-- the first spelling of the name with a number; nothing where the text is refused by 17, 1, 2 or 3, or where no name has the number
+unfoldable pub spelling : List ℕ → ℕ → List ℕ
+spelling text number = cond (eqb (textChecked text) 0) (getD (distinct (namesOf (linesOf text))) number []) []

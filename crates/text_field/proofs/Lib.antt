@@ -1,0 +1,4 @@
+pub mod Questions
+pub mod Parts
+pub mod Scratch
+pub mod Alike

@@ -1,0 +1,38 @@
+use mathlib.Core.Path.{_≡_, refl, sym, ap, _∙_, subst}
+use mathlib.Core.Bool.{Bool, true, false}
+use mathlib.Core.Logic.{⊎-elim}
+use mathlib.Core.List.{List, [], _∷_, _++_, map, append-nil, append-assoc}
+use Prim.Native.Nat.{ℕ, zero, suc, _+_, _-_, _*_, _≤_, _<_}
+use native.Mathlib.Omega.{arith}
+use native.Mathlib.Numerals.{add-one}
+use borrow.Author.Tests.{lt-ltb, le-ltb, le-leb, lt-leb, eq-eqb, ne-eqb, eqb-true, eqb-false, ltb-true, ltb-false, leb-true, leb-false}
+use lib.Dec.{eqb, leb, ltb}
+use lib.ListN.{length, take, drop, getD, set, replicate, length-set, length-append, length-take, length-drop, length-replicate, length-map}
+use borrow.Author.Tests.{not-true, not-false}
+use Rattle.layout.specs.Layout.{entryOk}
+use Rattle.text_field.specs.Single.{textEntry}
+use borrow.Author.Needs.{needs}
+use Rattle.text_field.proofs.is_text.Statement.{statement}
+use Rattle.text_field.proofs.is_text.Tie as tie
+
+entry-ok-requires : tie.Need-entry-ok-requires
+entry-ok-requires c κs = search needs
+
+returns : tie.Need-returns
+unfolding textEntry
+returns c = simp (sym (c .before .entry-ok .ensures) ∙ not-true _ (c .if1 .taken))
+
+returns-2 : tie.Need-returns-2
+unfolding textEntry
+returns-2 c = simp (sym (c .before .before .before .entry-ok .ensures) ∙ not-false _ (c .before .before .if1 .left), ne-eqb _ _ (c .if2 .taken))
+
+returns-3 : tie.Need-returns-3
+unfolding textEntry
+returns-3 c = simp (sym (c .before .before .before .before .before .entry-ok .ensures) ∙ not-false _ (c .before .before .before .before .if1 .left), eq-eqb _ _ (c .before .before .if2 .left), ne-eqb _ _ (c .if3 .taken))
+
+returns-4 : tie.Need-returns-4
+unfolding textEntry
+returns-4 c = simp (sym (c .before .before .before .before .before .before .entry-ok .ensures) ∙ not-false _ (c .before .before .before .before .before .if1 .left), eq-eqb _ _ (c .before .before .before .if2 .left), eq-eqb _ _ (c .before .if3 .left))
+
+pub is-text-spec : {M : Type 1} → statement M
+is-text-spec = tie.close (tie.spec entry-ok-requires returns returns-2 returns-3 returns-4)

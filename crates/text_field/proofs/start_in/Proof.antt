@@ -1,0 +1,66 @@
+use mathlib.Core.Path.{_≡_, refl, sym, ap, _∙_, subst}
+use mathlib.Core.Bool.{Bool, true, false}
+use mathlib.Core.Logic.{⊎-elim}
+use mathlib.Core.List.{List, [], _∷_, _++_, map, append-nil, append-assoc}
+use Prim.Native.Nat.{ℕ, zero, suc, _+_, _-_, _*_, _≤_, _<_}
+use native.Mathlib.Omega.{arith}
+use native.Mathlib.Numerals.{add-one}
+use borrow.Author.Tests.{lt-ltb, le-ltb, le-leb, lt-leb, eq-eqb, ne-eqb, eqb-true, eqb-false, ltb-true, ltb-false, leb-true, leb-false}
+use lib.Dec.{eqb, leb, ltb}
+use lib.ListN.{length, take, drop, getD, set, replicate, length-set, length-append, length-take, length-drop, length-replicate, length-map}
+use borrow.Author.Tests.{not-true, not-false}
+use Rattle.text_field.proofs.Parts.{part-start, unpadded, unmoved, padded-start, within}
+use borrow.Author.Needs.{needs}
+use Rattle.text_field.proofs.start_in.Statement.{statement}
+use Rattle.text_field.proofs.start_in.Tie as tie
+
+flag-requires : tie.Need-flag-requires
+flag-requires c κs = search needs
+
+returns : tie.Need-returns
+returns c =
+    let a = c .before .before .before .args in
+    unpadded (a .e) (a .at) (c .before .flag .result) (c .before .flag .ensures) (not-true _ (c .if1 .taken)) _
+
+flag-requires-2 : tie.Need-flag-requires-2
+flag-requires-2 c κs = search needs
+
+returns-2 : tie.Need-returns-2
+returns-2 c =
+    let a = c .before .before .before .before .before .args in
+    unmoved (a .e) (a .at) (c .before .flag2 .result) (c .before .flag2 .ensures) (not-true _ (c .if2 .taken)) _
+
+field-requires : tie.Need-field-requires
+field-requires c κs = c .before .before .before .before .before .pre .0
+
+low-byte-requires : tie.Need-low-byte-requires
+low-byte-requires c κs = search needs
+
+pad-start-requires : tie.Need-pad-start-requires
+pad-start-requires c κs = search needs
+
+add-result : tie.Need-add-result
+add-result c =
+    let a = c .before .before .before .before .before .before .before .before .args in
+    let k : a .at + c .pad-start .result ≤ length (a .s .now) = within (a .at) (a .e .width) (c .pad-start .result) (a .s .now) (c .before .before .field .result .now) (c .before .before .before .before .before .before .before .before .pre .0) (c .before .before .field .ensures .0) (c .pad-start .ensures .0) in
+    omega (arith, k)
+
+returns-3 : tie.Need-returns-3
+returns-3 c =
+    let a = c .before .before .before .before .before .before .before .before .args in
+    padded-start (a .e) (a .at) (c .before .before .before .before .before .before .flag .result) (c .before .before .before .before .before .before .flag .ensures) (not-false _ (c .before .before .before .before .before .if1 .left)) (c .before .before .before .before .flag2 .result) (c .before .before .before .before .flag2 .ensures) (not-false _ (c .before .before .before .if2 .left)) (c .before .low-byte .result) (c .before .low-byte .ensures) (c .before .before .before .before .before .before .before .before .pre .1)
+    (c .pad-start .result) (c .before .before .field .result .now) _ (c .before .before .field .ensures .0) (c .pad-start .ensures .0) (c .pad-start .ensures .1)
+
+pub start-in-spec : {M : Type 1} → statement M
+start-in-spec =
+    tie.close
+    (tie.spec
+    flag-requires
+    returns
+    flag-requires-2
+    returns-2
+    field-requires
+    low-byte-requires
+    pad-start-requires
+    add-result
+    returns-3)

@@ -1,0 +1,66 @@
+use mathlib.Core.Path.{_≡_, refl, sym, ap, _∙_, subst}
+use mathlib.Core.Bool.{Bool, true, false}
+use mathlib.Core.Logic.{⊎-elim}
+use mathlib.Core.List.{List, [], _∷_, _++_, map, append-nil, append-assoc}
+use Prim.Native.Nat.{ℕ, zero, suc, _+_, _-_, _*_, _≤_, _<_}
+use native.Mathlib.Omega.{arith}
+use native.Mathlib.Numerals.{add-one}
+use borrow.Author.Tests.{lt-ltb, le-ltb, le-leb, lt-leb, eq-eqb, ne-eqb, eqb-true, eqb-false, ltb-true, ltb-false, leb-true, leb-false}
+use lib.Dec.{eqb, leb, ltb}
+use lib.ListN.{length, take, drop, getD, set, replicate, length-set, length-append, length-take, length-drop, length-replicate, length-map}
+use Rattle.text_field.proofs.Parts.{text-scratch, place-scratch, text-record, place-record}
+use Rattle.text_field.proofs.Questions.{scratch-lawful, record-lawful}
+use borrow.Author.Needs.{needs}
+use Rattle.text_field.proofs.text_field.Statement.{statement}
+use Rattle.text_field.proofs.text_field.Tie as tie
+
+asked-requires : tie.Need-asked-requires
+asked-requires c κs = search needs
+
+load-requires : tie.Need-load-requires
+load-requires c κs = search needs
+
+text-in-requires : tie.Need-text-in-requires
+text-in-requires c κs =
+    let a = c .before .before .before .before .before .before .args in
+    λ z. scratch-lawful (a .layout .now) (a .page) (length (a .«record» .now)) (length (a .scratch .now)) (c .before .load .result) (c .before .load .ensures) (c .if1 .taken) (sym (c .before .before .asked .ensures) ∙ z)
+
+returns : tie.Need-returns
+returns c =
+    let a = c .before .before .before .before .before .before .before .args in (
+      c .text-in .ensures .0 ∙ text-scratch (a .layout .now) (a .page) (a .«record») (a .scratch) (c .before .before .load .result) (c .before .before .load .ensures) (c .before .before .before .asked .result) (c .before .before .before .asked .ensures) (c .before .if1 .taken),
+      (
+        c .text-in .ensures .1 ∙ place-scratch (a .layout .now) (a .page) (a .«record») (a .scratch) (c .before .before .load .result) (c .before .before .load .ensures) (c .before .before .before .asked .result) (c .before .before .before .asked .ensures) (c .before .if1 .taken),
+        c .before .before .before .asked .ensures,
+      ),
+    )
+
+cast-text-in : tie.Need-cast-text-in
+cast-text-in c = search needs
+
+text-in-requires-2 : tie.Need-text-in-requires-2
+text-in-requires-2 c κs =
+    let a = c .before .before .before .before .before .before .before .args in
+    λ z. record-lawful (a .layout .now) (a .page) (length (a .«record» .now)) (length (a .scratch .now)) (c .before .before .load .result) (c .before .before .load .ensures) (sym (c .before .before .before .asked .ensures) ∙ z)
+
+returns-2 : tie.Need-returns-2
+returns-2 c =
+    let a = c .before .before .before .before .before .before .before .before .args in (
+      c .text-in2 .ensures .0 ∙ text-record (a .layout .now) (a .page) (a .«record») (a .scratch) (c .before .before .before .load .result) (c .before .before .before .load .ensures) (c .before .before .before .before .asked .result) (c .before .before .before .before .asked .ensures) (c .before .before .if1 .left),
+      (
+        c .text-in2 .ensures .1 ∙ place-record (a .layout .now) (a .page) (a .«record») (a .scratch) (c .before .before .before .load .result) (c .before .before .before .load .ensures) (c .before .before .before .before .asked .result) (c .before .before .before .before .asked .ensures) (c .before .before .if1 .left),
+        c .before .before .before .before .asked .ensures,
+      ),
+    )
+
+pub text-field-spec : {M : Type 1} → statement M
+text-field-spec =
+    tie.close
+    (tie.spec
+    asked-requires
+    load-requires
+    text-in-requires
+    returns
+    cast-text-in
+    text-in-requires-2
+    returns-2)

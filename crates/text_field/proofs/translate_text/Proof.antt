@@ -1,0 +1,73 @@
+use mathlib.Core.Path.{_≡_, refl, sym, ap, _∙_, subst}
+use mathlib.Core.Bool.{Bool, true, false}
+use mathlib.Core.Logic.{⊎-elim}
+use mathlib.Core.List.{List, [], _∷_, _++_, map, append-nil, append-assoc}
+use Prim.Native.Nat.{ℕ, zero, suc, _+_, _-_, _*_, _≤_, _<_}
+use native.Mathlib.Omega.{arith}
+use native.Mathlib.Numerals.{add-one}
+use borrow.Author.Tests.{lt-ltb, le-ltb, le-leb, lt-leb, eq-eqb, ne-eqb, eqb-true, eqb-false, ltb-true, ltb-false, leb-true, leb-false}
+use lib.Dec.{eqb, leb, ltb}
+use lib.ListN.{length, take, drop, getD, set, replicate, length-set, length-append, length-take, length-drop, length-replicate, length-map}
+use Rattle.text_field.proofs.Scratch.{refused-answer, refused-scratch, translated-inside, translated-answer, translated-scratch}
+use borrow.Author.Needs.{needs}
+use Rattle.text_field.proofs.translate_text.Statement.{statement}
+use Rattle.text_field.proofs.translate_text.Tie as tie
+
+asked-requires : tie.Need-asked-requires
+asked-requires c κs = search needs
+
+fill-requires : tie.Need-fill-requires
+fill-requires c κs = search needs
+
+same-length : tie.Need-same-length
+same-length c = search needs
+
+returns : tie.Need-returns
+returns c =
+    let a = c .before .before .before .before .before .before .before .before .before .args in (
+      refused-answer (a .layout .now) (a .«record» .now) (a .page) (length (a .scratch .now)) (c .before .before .before .before .before .asked .result) (c .before .before .before .before .before .asked .ensures) (c .if1 .taken),
+      c .before .before .before .fill .ensures ∙ refused-scratch (a .layout .now) (a .«record» .now) (a .page) (length (a .scratch .now)) (c .before .before .before .before .before .asked .result) (c .before .before .before .before .before .asked .ensures) (c .if1 .taken),
+    )
+
+load-requires : tie.Need-load-requires
+load-requires c κs = search needs
+
+cast-field : tie.Need-cast-field
+cast-field c = search needs
+
+field-requires : tie.Need-field-requires
+field-requires c κs =
+    let a = c .before .before .before .before .before .before .before .before .before .before .before .args in
+    translated-inside (a .layout .now) (a .«record» .now) (a .page) (length (a .scratch .now)) (c .before .before .before .before .before .before .before .asked .result) (c .before .before .before .before .before .before .before .asked .ensures) (c .before .before .if1 .left) (c .before .load .result) (c .before .load .ensures)
+
+decode-slice-requires : tie.Need-decode-slice-requires
+decode-slice-requires c κs = search needs
+
+cast-t9 : tie.Need-cast-t9
+cast-t9 c = search needs
+
+same-length-2 : tie.Need-same-length-2
+same-length-2 c = search needs
+
+returns-2 : tie.Need-returns-2
+returns-2 c =
+    let a = c .before .before .before .before .before .before .before .before .before .before .before .before .before .before .before .before .before .args in (
+      translated-answer (a .layout .now) (a .«record» .now) (a .page) (length (a .scratch .now)) (c .before .before .before .before .before .before .before .before .before .before .before .before .before .asked .result) (c .before .before .before .before .before .before .before .before .before .before .before .before .before .asked .ensures) (c .before .before .before .before .before .before .before .before .if1 .left) (c .before .before .before .before .before .before .before .load .result) (c .before .before .before .before .before .before .before .load .ensures),
+      c .before .before .before .decode-slice .ensures ∙ translated-scratch (a .layout .now) (a .«record» .now) (a .page) (length (a .scratch .now)) (c .before .before .before .before .before .before .before .before .before .before .before .before .before .asked .result) (c .before .before .before .before .before .before .before .before .before .before .before .before .before .asked .ensures) (c .before .before .before .before .before .before .before .before .if1 .left) (c .before .before .before .before .before .before .before .load .result) (c .before .before .before .before .before .before .before .load .ensures) (c .before .before .before .before .before .field .result .now) (c .before .before .before .before .before .field .ensures .0) _ (c .before .before .before .before .before .before .before .before .before .before .before .fill .ensures),
+    )
+
+pub translate-text-spec : {M : Type 1} → statement M
+translate-text-spec =
+    tie.close
+    (tie.spec
+    asked-requires
+    fill-requires
+    same-length
+    returns
+    load-requires
+    cast-field
+    field-requires
+    decode-slice-requires
+    cast-t9
+    same-length-2
+    returns-2)

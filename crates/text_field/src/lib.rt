@@ -1,0 +1,176 @@
+// One Text field on its own, by its layout entry: its bytes translated to scratch, and its text as a part of the record or of the scratch.
+
+use layout::Entry;
+ghost use mathlib.Core.Path.{_≡_};
+ghost use mathlib.Core.Bool.{Bool, true, false, cond};
+ghost use mathlib.Core.List.{[]};
+ghost use Prim.Native.Nat.{_+_, _≤_};
+ghost use lib.Dec.{eqb};
+ghost use lib.ListN.{length, take, drop};
+ghost use denote.Ref.{ptr};
+ghost use Rattle.text.specs.Text.{cut, cutFrom, placeIn};
+ghost use Rattle.decode_scalar.specs.Decode.{flag};
+ghost use Rattle.text_field.specs.Single.{entryOf, textEntry, roomOf, askedOf, textAsks, translatedOf, scratchOf, fieldText, startOf, placeOf};
+
+// What translate_text answers: 0 or the number it refuses by, and how many bytes it translated.
+pub struct Translated {
+    pub number: u32,
+    pub length: usize,
+}
+
+// Whether an entry is an unrepeated Text with lawful words.
+fn is_text(e: Entry) -> bool
+    ensures { λ r. ⌜ r ≡ textEntry e ⌝ }
+{
+    if !layout::entry_ok(e, 0) {
+        return false;
+    }
+    if e.kind != 0 {
+        return false;
+    }
+    if e.occurs != 4294967295 {
+        return false;
+    }
+    e.depending == 4294967295
+}
+
+// The scratch bytes that a call needs.
+fn room_for(e: Entry, page: u32, translating: bool) -> usize
+    ensures { λ r. ⌜ r ≡ roomOf translating page e ⌝ }
+{
+    if translating {
+        return e.width as usize;
+    }
+    if page == 1 {
+        return e.width as usize;
+    }
+    0
+}
+
+// The number of the first question that fails, or 0.
+fn asked(layout: &[u32], page: u32, size: usize, scratch: usize, translating: bool) -> u32
+    ensures { λ r. ⌜ r ≡ askedOf translating (now (layout .entry)) page size scratch ⌝ }
+{
+    if layout.len() != 12 {
+        return 1;
+    }
+    if 1 < page {
+        return 1;
+    }
+    let e = layout::load(layout, 0);
+    if !is_text(e) {
+        return 2;
+    }
+    if 65536 < size {
+        return 4;
+    }
+    let end = e.offset as u64 + e.width as u64;
+    if (size as u64) < end {
+        return 7;
+    }
+    if scratch < room_for(e, page, translating) {
+        return 16;
+    }
+    0
+}
+
+// A field's bytes.
+fn field(e: Entry, at: usize, s: &[u8]) -> &[u8]
+    requires { ⌜ at + e .width ≤ length (now s) ⌝ }
+    ensures { λ r. ⌜ now r ≡ take (e .width) (drop at (now (s .entry))) ⌝ }
+    ensures { λ r. ⌜ ptr r ≡ placeIn (s .entry) at ⌝ }
+{
+    let end = at + e.width as usize;
+    &s[at..end]
+}
+
+// Puts the field's bytes, as read from the page, to the front of the scratch and zeros behind them; zeros alone where it refuses.
+pub fn translate_text(layout: &[u32], page: u32, record: &[u8], scratch: &mut [u8]) -> Translated
+    ensures { λ r. ⌜ r ≡ translatedOf (now (layout .entry)) page (now («record» .entry)) (length (now (scratch .entry))) ⌝ }
+    ensures { λ _. ⌜ now (scratch .exit) ≡ scratchOf (now (layout .entry)) page (now («record» .entry)) (length (now (scratch .entry))) ⌝ }
+{
+    let number = asked(layout, page, record.len(), scratch.len(), true);
+    lists::fill(scratch, 0);
+    if number != 0 {
+        return Translated {
+            number: number,
+            length: 0,
+        };
+    }
+    let e = layout::load(layout, 0);
+    let part = field(e, e.offset as usize, record);
+    ebcdic::decode_slice(part, page, scratch);
+    Translated {
+        number: 0,
+        length: e.width as usize,
+    }
+}
+
+// The text of the field at a place of a slice, as a part of it; the empty part at its front where the field is refused.
+fn text_in(e: Entry, number: u32, at: usize, s: &[u8]) -> &[u8]
+    requires { ⌜ (number ≡ 0 → (at + e .width ≤ length (now s)) × (e .r ≤ 255)) ⌝ }
+    ensures { λ r. ⌜ now r ≡ cond (eqb number 0) (cut (flag (e .p)) (flag (e .q)) (e .r) (take (e .width) (drop at (now (s .entry))))) [] ⌝ }
+    ensures { λ r. ⌜ ptr r ≡ placeIn (s .entry) (cond (eqb number 0) (at + cutFrom (flag (e .p)) (flag (e .q)) (e .r) (take (e .width) (drop at (now (s .entry))))) 0) ⌝ }
+{
+    if number != 0 {
+        return &s[0..0];
+    }
+    let part = field(e, at, s);
+    let right = decode_scalar::flag(e.p);
+    let trim = decode_scalar::flag(e.q);
+    let pad = decode_scalar::low_byte(e.r);
+    text::trimmed(part, 0, right, trim, pad)
+}
+
+// The text of the field: a part of the record on page 0, and on page 1 of the scratch that translate_text filled. The number is 0, or the one it refuses by.
+pub fn text_field<'a>(
+    layout: &[u32],
+    page: u32,
+    record: &'a [u8],
+    scratch: &'a [u8],
+    number: &mut u32,
+) -> &'a [u8]
+    ensures { λ r. ⌜ now r ≡ fieldText (now (layout .entry)) page (now («record» .entry)) (now (scratch .entry)) ⌝ }
+    ensures { λ r. ⌜ ptr r ≡ placeOf (now (layout .entry)) page («record» .entry) (scratch .entry) ⌝ }
+    ensures { λ _. ⌜ now (number .exit) ≡ textAsks (now (layout .entry)) page (now («record» .entry)) (now (scratch .entry)) ⌝ }
+{
+    let n = asked(layout, page, record.len(), scratch.len(), false);
+    *number = n;
+    let e = layout::load(layout, 0);
+    if page == 1 {
+        return text_in(e, n, 0, scratch);
+    } else {
+        return text_in(e, n, e.offset as usize, record);
+    }
+}
+
+// Where the text of the field at a place of a slice starts.
+fn start_in(e: Entry, at: usize, s: &[u8]) -> usize
+    requires { ⌜ (at + e .width ≤ length (now s)) × (e .r ≤ 255) ⌝ }
+    ensures { λ r. ⌜ r ≡ at + cutFrom (flag (e .p)) (flag (e .q)) (e .r) (take (e .width) (drop at (now (s .entry)))) ⌝ }
+{
+    if !decode_scalar::flag(e.q) {
+        return at;
+    }
+    if !decode_scalar::flag(e.p) {
+        return at;
+    }
+    let part = field(e, at, s);
+    let pad = decode_scalar::low_byte(e.r);
+    at + text::pad_start(part, pad)
+}
+
+// Where the text that text_field hands out starts in the record, on page 1 in the scratch; 0 where it refuses.
+pub fn text_start(layout: &[u32], page: u32, record: &[u8], scratch: &[u8]) -> usize
+    ensures { λ r. ⌜ r ≡ startOf (now (layout .entry)) page (now («record» .entry)) (now (scratch .entry)) ⌝ }
+{
+    if asked(layout, page, record.len(), scratch.len(), false) != 0 {
+        return 0;
+    }
+    let e = layout::load(layout, 0);
+    if page == 1 {
+        return start_in(e, 0, scratch);
+    } else {
+        return start_in(e, e.offset as usize, record);
+    }
+}

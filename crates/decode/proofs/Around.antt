@@ -1,6 +1,6 @@
 -- A List around its elements, a Struct around its members, and the ways of one element.
 use mathlib.Core.Path.{_≡_, refl, sym, ap, ap₂, _∙_}
-use mathlib.Core.Bool.{Bool, true, false, cond}
+use mathlib.Core.Bool.{Bool, true, false, _||_, cond}
 use mathlib.Core.List.{List, [], _∷_, _++_}
 use Prim.Native.Nat.{ℕ, _+_, _-_, _/_, _<_, _≤_}
 use native.Mathlib.Omega.{arith}
@@ -10,31 +10,31 @@ use lib.ListN.{length, take, drop, length-drop}
 use lib.Seq.{length-take-le, drop-at}
 use borrow.Author.Tests.{eq-eqb, ne-eqb}
 use Rattle.layout.specs.declared.Entry.{Entry}
-use Rattle.walks.specs.Walk.{Codec, Many, never, times, howMany}
+use Rattle.spans.specs.Tree.{Tree}
+use Rattle.walks.specs.Walk.{single, Codec, Many, never, times, howMany}
 use Rattle.walks.specs.Reading.{Outcome, refused, read, Reader, wrap, inside, one}
 use Rattle.decode_leaf.specs.declared.Out.{Out}
 use Rattle.decode_leaf.specs.declared.Count.{Count}
 use Rattle.decode_leaf.specs.Counts.{heldIn}
-use Rattle.decode_leaf.specs.Capped.{elements, table}
-use Rattle.decode_leaf.specs.Machine.{Held, state, kept, leafAt, headOf, headed, Listed, Counted, Fine, Met}
+use Rattle.decode_leaf.specs.Capped.{field, seq}
+use Rattle.decode_leaf.specs.Machine.{Held, state, kept, leafAt, bare, headOf, headed, Listed, Counted, Fine, Met}
 use Rattle.decode_leaf.proofs.Meets.{refuse, fine, out}
-use Rattle.decode.proofs.Steps.{inside-room, inside-small, table-is}
+use Rattle.decode.proofs.Steps.{inside-room, turns, counts-to, field-is, field-refused, Capped, seq-most, one-most}
 use Rattle.decode.proofs.Tail.{lent, back}
-use Rattle.decode.proofs.Turns.{Written, tail, returned, returned-same, room-left, ElementsInv, elements-done, wrap-is, wrap-drop}
+use Rattle.decode.proofs.Turns.{Written, tail, returned, returned-same, room-left, TurnsInv, turns-done, wrap-is, wrap-drop}
 
--- ---- a table
+-- ---- an entry's elements
 
-module _ {F : ℕ → Reader Held} {i₀ t₀ : List ℕ} {c₀ : List ℤ} {n at told head : ℕ} {items text : List ℕ} {counts : List ℤ} {k used members place taken told₁ : ℕ}
-    (e : Entry) (v : ElementsInv F i₀ t₀ c₀ n at told head items text counts k used members place taken told₁) (h : n ≤ k) (p : head ≡ headOf e) (g : head ≤ length i₀) where
+module _ {once : Bool} {F : ℕ → Reader Held} {i₀ t₀ : List ℕ} {c₀ : List ℤ} {n at told head : ℕ} {items text : List ℕ} {counts : List ℤ} {k used members place taken told₁ : ℕ}
+    (e : Entry) (v : TurnsInv once F i₀ t₀ c₀ n at told head items text counts k used members place taken told₁) (h : n ≤ k) (p : head ≡ headOf e) where
   abbrev Read-all : Outcome Held
   Read-all = read (drop head (take used items)) members taken (state counts told₁ text)
 
+  abbrev Turned : Outcome Held
+  Turned = turns once (F (length t₀)) n at (length i₀ - head) (state c₀ told t₀)
+
   used-in : used ≤ length items
   used-in = omega (arith, v .written .within, v .written .same)
-
-  table-read : table e (F (length t₀)) (times n) at (length i₀) (state c₀ told t₀) ≡ cond (eqb (e .kind) 6) Read-all (wrap (e .name) 6 Read-all)
-  table-read = table-is e (F (length t₀)) n at (length i₀) (state c₀ told t₀) head p g
-      ∙ ap (λ o. cond (eqb (e .kind) 6) o (wrap (e .name) 6 o)) (elements-done v h)
 
   words-is : (b : Bool) → head ≡ cond b 0 4 → cond b Read-all (wrap (e .name) 6 Read-all)
       ≡ read (take used (cond b items (e .name ∷ 6 ∷ members ∷ (used / 4) ∷ drop 4 items))) (cond b members 1) taken (state counts told₁ text)
@@ -49,21 +49,24 @@ module _ {F : ℕ → Reader Held} {i₀ t₀ : List ℕ} {c₀ : List ℤ} {n a
   few-is true z = omega (arith, v .few)
   few-is false z = omega (arith, v .few)
 
-  pub listed-met : {o : Outcome Held} {r : Out} {after : List ℕ} → o ≡ table e (F (length t₀)) (times n) at (length i₀) (state c₀ told t₀) → Listed e used members taken told₁ r items after → Met o r after text counts
+  pub listed-met : {o : Outcome Held} {r : Out} {after : List ℕ} → o ≡ cond (bare e) Turned (wrap (e .name) 6 Turned) → Listed e used members taken told₁ r items after → Met o r after text counts
   listed-met {o} {r} {after} q w = fine (record {
-    is = q ∙ table-read ∙ words-is (eqb (e .kind) 6) p ∙ rw (w .used, w .counted, w .taken, w .told, w .is) refl;
-    within = rw (w .used, w .is) (length-is (eqb (e .kind) 6) p);
+    is = q ∙ ap (λ x. cond (bare e) x (wrap (e .name) 6 x)) (turns-done v h) ∙ words-is (bare e) p ∙ rw (w .used, w .counted, w .taken, w .told, w .is) refl;
+    within = rw (w .used, w .is) (length-is (bare e) p);
     told = rw (w .told) (v .fits);
-    few = rw (w .used, w .counted) (few-is (eqb (e .kind) 6) p);
+    few = rw (w .used, w .counted) (few-is (bare e) p);
   }) (w .fine)
+
+pub head-is : (e : Entry) (once : Bool) (head : ℕ) → once ≡ single e → head ≡ cond (once || eqb (e .kind) 6) 0 4 → head ≡ headOf e
+head-is e once head o p = p ∙ ap (λ b. cond {A = ℕ} (b || eqb (e .kind) 6) 0 4) o
 
 -- how many elements, on the run alone
 pub counted-is : (l : List ℕ) (page room : ℕ) (deps : Bool) (e : Entry) (counts : List ℤ) (told : ℕ) (text : List ℕ)
-    → howMany (kept l page room deps .held) e (state counts told text) ≡ howMany (λ name run. heldIn l name run) e counts
+    → counts-to (kept l page room deps) e (state counts told text) ≡ cond (single e) (times 1) (howMany (λ name run. heldIn l name run) e counts)
 unfolding howMany
 counted-is l page room deps e counts told text = refl
 
--- ---- a group
+-- ---- one element
 
 module _ (k : Codec Held) (r : List ℕ) (e : Entry) (inner : Reader Held) (name : ℕ) (once : Bool) (at room : ℕ) (s : Held) where
   pub one-leaf : (e .kind ≡ 9 → ⊥) → one k r e inner name once at room s ≡ leafAt k r e name once at room s
@@ -73,6 +76,32 @@ module _ (k : Codec Held) (r : List ℕ) (e : Entry) (inner : Reader Held) (name
   pub one-group : e .kind ≡ 9 → one k r e inner name once at room s ≡ inside name 7 inner at room s
   unfolding one
   one-group p = rw (eq-eqb (e .kind) 9 p) refl
+
+module _ (k : Codec Held) (r : List ℕ) (e : Entry) (inner : Reader Held) (once : Bool) (at room : ℕ) (s : Held) (n : e .kind ≡ 9 → ⊥) where
+  pub leaf-once : once ≡ true → one k r e inner (cond once (e .name) 65536) once at room s ≡ leafAt k r e (e .name) true at room s
+  leaf-once q = rw q (one-leaf k r e inner (e .name) true at room s n)
+
+  pub leaf-element : once ≡ false → one k r e inner (cond once (e .name) 65536) once at room s ≡ leafAt k r e 65536 false at room s
+  leaf-element q = rw q (one-leaf k r e inner 65536 false at room s n)
+
+-- an element of a walk takes at most 2^63 bytes
+pub element-most : (k : Codec Held) (r : List ℕ) (e : Entry) (t : Tree Entry) (name : ℕ) (once : Bool) (at room : ℕ) (s : Held) → e .width < 4294967296
+    → Capped (one k r e (λ b n s. seq k r t b 0 n s) name once at room s)
+element-most k r e t name once at room s h = one-most k r e (λ b n s. seq k r t b 0 n s) name once at room s (omega arith) (λ b n s. seq-most k r t b 0 n s)
+
+module _ (k : Codec Held) (r : List ℕ) (e : Entry) (t : Tree Entry) (at room : ℕ) (s : Held) (head : ℕ) (p : head ≡ headOf e) (n : ℕ) (z : counts-to k e s ≡ times n)
+    (once : Bool) (o : once ≡ single e) (h : head ≤ room) (w : e .width < 4294967296) where
+  abbrev Members : Reader Held
+  Members b n s = seq k r t b 0 n s
+
+  abbrev Turning : Outcome Held
+  Turning = turns once (one k r e Members (cond once (e .name) 65536) once) n at (room - head) s
+
+  pub entry-is : field k r e Members at room s ≡ cond (bare e) Turning (wrap (e .name) 6 Turning)
+  entry-is = field-is k r e Members at room s head p n z once o h (element-most k r e t (cond once (e .name) 65536) once at room s w)
+
+  pub entry-refused : (m : ℕ) → Turning ≡ refused m → field k r e Members at room s ≡ refused m
+  entry-refused m q = field-refused k r e Members at room s head p n z once o h (element-most k r e t (cond once (e .name) 65536) once at room s w) m q
 
 module _ (i : List ℕ) (h : 4 ≤ length i) (x : List ℕ) (same : length x ≡ length (tail i 4)) where
   whole-written : Written i i 4
@@ -94,10 +123,11 @@ module _ (i : List ℕ) (h : 4 ≤ length i) (x : List ℕ) (same : length x ≡
     pub inside-stops : (n : ℕ) → inner at (length (tail i 4)) s ≡ refused n → inside name 7 inner at (length i) s ≡ refused n
     inside-stops n e = inside-is ∙ ap (wrap name 7) e
 
-    pub inside-done : {o : Outcome Held} {r : Out} {after text : List ℕ} {run : List ℤ} → Fine (inner at (length (tail i 4)) s) r x text run
-        → after ≡ name ∷ 7 ∷ r .members ∷ ((r .used + 4) / 4) ∷ drop 4 (returned i 4 x) → o ≡ inside name 7 inner at (length i) s
+    pub inside-done : {o : Outcome Held} {r : Out} {after text : List ℕ} {run : List ℤ} {name′ : ℕ} → name′ ≡ name → Fine (inner at (length (tail i 4)) s) r x text run
+        → after ≡ name′ ∷ 7 ∷ r .members ∷ ((r .used + 4) / 4) ∷ drop 4 (returned i 4 x) → o ≡ inside name 7 inner at (length i) s
         → Met o (out (r .used + 4) 1 (r .taken) (r .told)) after text run
-    inside-done {o} {r} {after} {text} {run} f p q =
+    inside-done {o} {r} {after} {text} {run} {name′} named f p′ q =
+        let p : after ≡ name ∷ 7 ∷ r .members ∷ ((r .used + 4) / 4) ∷ drop 4 (returned i 4 x) = p′ ∙ ap (λ y. y ∷ 7 ∷ r .members ∷ ((r .used + 4) / 4) ∷ drop 4 (returned i 4 x)) named in
         let u : r .used + 4 - 4 ≡ r .used = omega arith in
         let z : take (r .used + 4 - 4) (drop 4 (returned i 4 x)) ≡ take (r .used) x = ap₂ take u behind-header in
         fine (record {

@@ -1,20 +1,31 @@
 -- The laws by which a turn of a loop goes on in the definition.
-use mathlib.Core.Path.{_≡_, refl, sym, ap, ap₂, _∙_}
-use mathlib.Core.Bool.{Bool, true, false, cond}
+use mathlib.Core.Path.{_≡_, refl, sym, ap, ap₂, _∙_, subst}
+use mathlib.Core.Bool.{Bool, true, false, _||_, _&&_, not, cond}
 use mathlib.Core.List.{List, [], _∷_, _++_, append-nil, append-assoc}
 use Prim.Native.Nat.{ℕ, zero, suc, _+_, _-_, _/_, _≤_, _<_, max}
 use native.Mathlib.Omega.{arith}
 use lib.Dec.{eqb, leb}
-use lib.ListN.{length}
+use lib.ListN.{length, take, drop}
 use borrow.Author.Tests.{eq-eqb, ne-eqb, le-leb, lt-leb}
 use Rattle.layout.specs.declared.Entry.{Entry}
-use Rattle.layout.specs.Layout.{entryAt, spanOf, part, reservedWidth}
-use Rattle.spans.specs.Tree.{endOf}
+use Rattle.layout.specs.Layout.{entryAt, spanOf, part, reservedWidth, isGroup}
+use Rattle.spans.specs.Tree.{Tree, none, node, endOf}
 use Rattle.spans.proofs.Tree.{tree-none, tree-at}
-use Rattle.walks.specs.Walk.{single, isPad, Many, never, times, Codec, howMany}
-use Rattle.walks.specs.Reading.{Outcome, refused, read, Reader, next, wrap, inside, one, follow}
+use Rattle.walks.specs.Walk.{single, isPad, Many, never, times, Leaf, bad, leaf, Codec, howMany}
+use Rattle.walks.specs.Reading.{Outcome, refused, read, Reader, next, wrap, inside, placed, scalar, pad, one, follow}
 use Rattle.decode_leaf.specs.Capped.{sat, behind, elements, table, field, seq}
-use Rattle.decode_leaf.specs.Machine.{headOf}
+use Rattle.decode_leaf.specs.Machine.{bare, headOf}
+
+abbrev number : Many → ℕ
+number (never n) = n
+number (times n) = n
+
+same-times : {a b : ℕ} → times a ≡ times b → a ≡ b
+same-times p = ap number p
+
+abbrev is-never : Many → Type 0
+is-never (never n) = Unit {0}
+is-never (times n) = ⊥
 
 module _ {S : Type 0} where
   -- ---- one part behind another
@@ -44,20 +55,52 @@ module _ {S : Type 0} where
   behind-capped ws m t (refused n) = refl
   behind-capped ws m t (read vs p u s) = read-same s refl (omega arith) (omega arith)
 
-  next-capped : (f : Reader S) (n at room : ℕ) (o : Outcome S)
-      → next o (λ ws m t s. cond (eqb t 0) (refused 10) (behind ws m t (elements f n (sat (at + t)) (room - length ws) s)))
-      ≡ behind [] 0 0 (next o (λ ws m t s. cond (eqb t 0) (refused 10) (behind ws m t (elements f n (sat (at + t)) (room - length ws) s))))
-  next-capped f n at room (refused m) = refl
-  next-capped f n at room (read ws m t s) = go (eqb t 0)
-    where
-      go : (b : Bool) → cond b (refused 10) (behind ws m t (elements f n (sat (at + t)) (room - length ws) s)) ≡ behind [] 0 0 (cond b (refused 10) (behind ws m t (elements f n (sat (at + t)) (room - length ws) s)))
-      go true = refl
-      go false = behind-capped ws m t (elements f n (sat (at + t)) (room - length ws) s)
+  -- the elements as the loop reads them: that an element took no byte is asked only in a table
+  unfoldable pub turns : Bool → Reader S → ℕ → Reader S
+  turns once f zero at room s = read [] 0 0 s
+  turns once f (suc n) at room s =
+      next (f at room s) (λ ws m t s′. cond (not once && eqb t 0) (refused 10) (behind ws m t (turns once f n (sat (at + t)) (room - length ws) s′)))
 
-  pub behind-none : (f : Reader S) (n at room : ℕ) (s : S) → elements f n at room s ≡ behind [] 0 0 (elements f n at room s)
-  unfolding elements
-  behind-none f zero at room s = refl
-  behind-none f (suc n) at room s = next-capped f n at room (f at room s)
+  next-capped : (once : Bool) (f : Reader S) (n at room : ℕ) (o : Outcome S)
+      → next o (λ ws m t s. cond (not once && eqb t 0) (refused 10) (behind ws m t (turns once f n (sat (at + t)) (room - length ws) s)))
+      ≡ behind [] 0 0 (next o (λ ws m t s. cond (not once && eqb t 0) (refused 10) (behind ws m t (turns once f n (sat (at + t)) (room - length ws) s))))
+  next-capped once f n at room (refused m) = refl
+  next-capped once f n at room (read ws m t s) = go (not once && eqb t 0)
+    where
+      go : (b : Bool) → cond b (refused 10) (behind ws m t (turns once f n (sat (at + t)) (room - length ws) s)) ≡ behind [] 0 0 (cond b (refused 10) (behind ws m t (turns once f n (sat (at + t)) (room - length ws) s)))
+      go true = refl
+      go false = behind-capped ws m t (turns once f n (sat (at + t)) (room - length ws) s)
+
+  pub behind-none : (once : Bool) (f : Reader S) (n at room : ℕ) (s : S) → turns once f n at room s ≡ behind [] 0 0 (turns once f n at room s)
+  unfolding turns
+  behind-none once f zero at room s = refl
+  behind-none once f (suc n) at room s = next-capped once f n at room (f at room s)
+
+  -- in a table the turns are its elements
+  next-same : (f g : Reader S) (at room : ℕ) (o : Outcome S) → ((at′ room′ : ℕ) (s : S) → f at′ room′ s ≡ g at′ room′ s)
+      → next o (λ ws m t s. cond (eqb t 0) (refused 10) (behind ws m t (f (sat (at + t)) (room - length ws) s)))
+      ≡ next o (λ ws m t s. cond (eqb t 0) (refused 10) (behind ws m t (g (sat (at + t)) (room - length ws) s)))
+  next-same f g at room (refused m) h = refl
+  next-same f g at room (read ws m t s) h = ap (λ x. cond (eqb t 0) (refused 10) (behind ws m t x)) (h (sat (at + t)) (room - length ws) s)
+
+  pub turns-table : (f : Reader S) (n at room : ℕ) (s : S) → turns false f n at room s ≡ elements f n at room s
+  unfolding turns elements
+  turns-table f zero at room s = refl
+  turns-table f (suc n) at room s = next-same (turns false f n) (elements f n) at room (f at room s) (λ at′ room′ s′. turns-table f n at′ room′ s′)
+
+  -- an outcome whose bytes are at most 2^63
+  abbrev pub Capped : Outcome S → Type 0
+  Capped (refused n) = Unit {0}
+  Capped (read ws m t s) = t ≤ 9223372036854775808
+
+  -- a single entry's one turn is the entry itself
+  pub turns-once : (f : Reader S) (at room : ℕ) (s : S) → Capped (f at room s) → turns true f 1 at room s ≡ f at room s
+  unfolding turns
+  turns-once f at room s h = go (f at room s) h
+    where
+      go : (o : Outcome S) → Capped o → next o (λ ws m t s. behind ws m t (read [] 0 0 s)) ≡ o
+      go (refused n) h = refl
+      go (read ws m t s) h = behind-end ws m t s h
 
   -- ---- the turns of a sequence
 
@@ -79,44 +122,31 @@ module _ {S : Type 0} where
       unfolding seq
       seq-read ws m t s′ f = rw (tree-at (entryAt l) spanOf i hi e en h p q, f) refl
 
-  -- ---- the turns of a table
+  -- ---- the turns of an entry
 
-  module _ (f : Reader S) (n k place room : ℕ) (s : S) where
-    pub elements-end : n ≤ k → elements f (n - k) place room s ≡ read [] 0 0 s
-    unfolding elements
-    elements-end h = let z : n - k ≡ 0 = omega arith in rw z refl
+  module _ (once : Bool) (f : Reader S) (n k place room : ℕ) (s : S) where
+    pub turns-end : n ≤ k → turns once f (n - k) place room s ≡ read [] 0 0 s
+    unfolding turns
+    turns-end h = let z : n - k ≡ 0 = omega arith in rw z refl
 
     module _ (h : k < n) where
       left : n - k ≡ suc (n - (k + 1))
       left = omega arith
 
-      pub elements-refused : (m : ℕ) → f place room s ≡ refused m → elements f (n - k) place room s ≡ refused m
-      unfolding elements
-      elements-refused m e = rw (left, e) refl
+      pub turns-refused : (m : ℕ) → f place room s ≡ refused m → turns once f (n - k) place room s ≡ refused m
+      unfolding turns
+      turns-refused m e = rw (left, e) refl
 
-      module _ (ws : List ℕ) (m t : ℕ) (s′ : S) (e : f place room s ≡ read ws m t s′) where
-        pub elements-empty : t ≡ 0 → elements f (n - k) place room s ≡ refused 10
-        unfolding elements
-        elements-empty z = rw (left, e, eq-eqb t 0 z) refl
+      module _ (ws : List ℕ) (m t : ℕ) (s′ : S) (e : f place room s ≡ read ws m t s′) (b : Bool) (p : b ≡ (not once && eqb t 0)) where
+        pub turns-empty : b ≡ true → turns once f (n - k) place room s ≡ refused 10
+        unfolding turns
+        turns-empty z = rw (left, e, sym p ∙ z) refl
 
-        pub elements-read : (t ≡ 0 → ⊥) → elements f (n - k) place room s ≡ behind ws m t (elements f (n - (k + 1)) (sat (place + t)) (room - length ws) s′)
-        unfolding elements
-        elements-read z = rw (left, e, ne-eqb t 0 z) refl
+        pub turns-read : b ≡ false → turns once f (n - k) place room s ≡ behind ws m t (turns once f (n - (k + 1)) (sat (place + t)) (room - length ws) s′)
+        unfolding turns
+        turns-read z = rw (left, e, sym p ∙ z) refl
 
-  -- ---- the ways of a field
-
-  module _ (k : Codec S) (r : List ℕ) (e : Entry) (inner : Reader S) (at room : ℕ) (s : S) (b : Bool) (p : b ≡ single e) where
-    pub field-once : b ≡ true → field k r e inner at room s ≡ one k r e inner (e .name) true at room s
-    unfolding field
-    field-once q = rw (sym p ∙ q) refl
-
-    pub field-never : b ≡ false → (n : ℕ) → howMany (k .held) e s ≡ never n → field k r e inner at room s ≡ refused n
-    unfolding field
-    field-never q n z = rw (sym p ∙ q, z) refl
-
-    pub field-times : b ≡ false → (n : ℕ) → howMany (k .held) e s ≡ times n → field k r e inner at room s ≡ table e (one k r e inner 65536 false) (times n) at room s
-    unfolding field
-    field-times q n z = rw (sym p ∙ q, z) refl
+  -- ---- Lists and Structs
 
   pub inside-room : (name tag : ℕ) (inner : Reader S) (at room : ℕ) (s : S) → 4 ≤ room → inside name tag inner at room s ≡ wrap name tag (inner at (room - 4) s)
   unfolding inside
@@ -126,30 +156,115 @@ module _ {S : Type 0} where
   unfolding inside
   inside-small name tag inner at room s h = rw (lt-leb 4 room h) refl
 
-  -- a table's own item asks for its words before its elements
-  module _ (e : Entry) (f : Reader S) (n at room : ℕ) (s : S) (head : ℕ) (p : head ≡ headOf e) where
-    abbrev Elements : Outcome S
-    Elements = elements f n at (room - head) s
+  -- ---- the ways of a field: once is whether the entry is single
 
-    pub table-small : room < head → table e f (times n) at room s ≡ refused 16
-    unfolding isPad
-    table-small h = go (eqb (e .kind) 6) p
-      where
-        go : (b : Bool) → head ≡ cond b 0 4 → cond b (elements f n at room s) (inside (e .name) 6 (elements f n) at room s) ≡ refused 16
-        go true q = absurd (omega arith)
-        go false q = inside-small (e .name) 6 (elements f n) at room s (omega arith)
+  abbrev pub counts-to : Codec S → Entry → S → Many
+  counts-to k e s = cond (single e) (times 1) (howMany (k .held) e s)
 
-    pub table-is : head ≤ room → table e f (times n) at room s ≡ cond (eqb (e .kind) 6) Elements (wrap (e .name) 6 Elements)
-    unfolding isPad
-    table-is h = go (eqb (e .kind) 6) p
-      where
-        go : (b : Bool) → head ≡ cond b 0 4 → cond b (elements f n at room s) (inside (e .name) 6 (elements f n) at room s) ≡ cond b Elements (wrap (e .name) 6 Elements)
-        go true q = let z : room ≡ room - head = omega arith in ap (λ x. elements f n at x s) z
-        go false q = inside-room (e .name) 6 (elements f n) at room s (omega arith) ∙ (let z : room - 4 ≡ room - head = omega arith in ap (λ x. wrap (e .name) 6 (elements f n at x s)) z)
+  module _ (k : Codec S) (r : List ℕ) (e : Entry) (inner : Reader S) (at room : ℕ) (s : S) where
+    abbrev pub Element : Bool → Reader S
+    Element once = one k r e inner (cond once (e .name) 65536) once
 
-    pub table-refused : head ≤ room → (m : ℕ) → Elements ≡ refused m → table e f (times n) at room s ≡ refused m
-    table-refused h m q = table-is h ∙ rw q (go (eqb (e .kind) 6))
+    abbrev Field : Outcome S
+    Field = field k r e inner at room s
+
+    abbrev Ways : Bool → Many → Outcome S
+    Ways b m = cond b (one k r e inner (e .name) true at room s) (table e (one k r e inner 65536 false) m at room s)
+
+    ways : Field ≡ Ways (single e) (howMany (k .held) e s)
+    unfolding field
+    ways = refl
+
+    pub field-never : (n : ℕ) → counts-to k e s ≡ never n → Field ≡ refused n
+    field-never n z = ways ∙ go (single e) z
       where
-        go : (b : Bool) → cond {A = Outcome S} b (refused m) (refused m) ≡ refused m
-        go true = refl
-        go false = refl
+        go : (b : Bool) → cond b (times 1) (howMany (k .held) e s) ≡ never n → Ways b (howMany (k .held) e s) ≡ refused n
+        go true q = absurd (subst is-never (sym q) tt)
+        go false q = ap (λ m. table e (one k r e inner 65536 false) m at room s) q
+
+    module _ (head : ℕ) (p : head ≡ headOf e) (n : ℕ) (z : counts-to k e s ≡ times n) where
+      abbrev Table : Reader S → Outcome S
+      Table f = cond (eqb (e .kind) 6) (elements f n at room s) (inside (e .name) 6 (elements f n) at room s)
+
+      table-ways : table e (one k r e inner 65536 false) (times n) at room s ≡ Table (one k r e inner 65536 false)
+      unfolding isPad
+      table-ways = refl
+
+      pub field-small : room < head → Field ≡ refused 16
+      field-small h = ways ∙ go (single e) (eqb (e .kind) 6) refl z p
+        where
+          small : (c : Bool) → head ≡ cond c 0 4 → cond c (elements (one k r e inner 65536 false) n at room s) (inside (e .name) 6 (elements (one k r e inner 65536 false) n) at room s) ≡ refused 16
+          small true q = absurd (omega arith)
+          small false q = inside-small (e .name) 6 (elements (one k r e inner 65536 false) n) at room s (omega arith)
+
+          go : (b c : Bool) → eqb (e .kind) 6 ≡ c → cond b (times 1) (howMany (k .held) e s) ≡ times n → head ≡ cond (b || c) 0 4 → Ways b (howMany (k .held) e s) ≡ refused 16
+          go true c w q y = absurd (omega arith)
+          go false c w q y = ap (λ m. table e (one k r e inner 65536 false) m at room s) q ∙ table-ways ∙ rw w (small c y)
+
+      -- what the turns read, with a table's own item around it
+      abbrev pub All : Bool → Outcome S
+      All once = turns once (Element once) n at (room - head) s
+
+      pub field-is : (once : Bool) → once ≡ single e → head ≤ room → Capped (Element once at room s) → Field ≡ cond (bare e) (All once) (wrap (e .name) 6 (All once))
+      field-is once o h g = ways ∙ go once (eqb (e .kind) 6) refl (sym o) z p g
+        where
+          lists : (c : Bool) → head ≡ cond c 0 4 → cond c (elements (one k r e inner 65536 false) n at room s) (inside (e .name) 6 (elements (one k r e inner 65536 false) n) at room s) ≡ cond c (All false) (wrap (e .name) 6 (All false))
+          lists true q = let y : room ≡ room - head = omega arith in ap (λ x. elements (one k r e inner 65536 false) n at x s) y ∙ sym (turns-table (Element false) n at (room - head) s)
+          lists false q = inside-room (e .name) 6 (elements (one k r e inner 65536 false) n) at room s (omega arith)
+              ∙ (let y : room - 4 ≡ room - head = omega arith in ap (λ x. wrap (e .name) 6 (elements (one k r e inner 65536 false) n at x s)) y)
+              ∙ ap (wrap (e .name) 6) (sym (turns-table (Element false) n at (room - head) s))
+
+          alone : n ≡ 1 → head ≡ 0 → Capped (Element true at room s) → one k r e inner (e .name) true at room s ≡ All true
+          alone u v g = let y : room ≡ room - head = omega arith in sym (turns-once (Element true) at room s g) ∙ ap₂ (λ a x. turns true (Element true) a at x s) (sym u) y
+
+          go : (once c : Bool) → eqb (e .kind) 6 ≡ c → single e ≡ once → cond (single e) (times 1) (howMany (k .held) e s) ≡ times n → head ≡ cond (single e || eqb (e .kind) 6) 0 4 → Capped (Element once at room s)
+              → Ways (single e) (howMany (k .held) e s) ≡ cond (single e || eqb (e .kind) 6) (All once) (wrap (e .name) 6 (All once))
+          go true c w o q y g = rw o (alone (sym (same-times (sym (ap (λ b. cond b (times 1) (howMany (k .held) e s)) o) ∙ q))) (y ∙ ap (λ b. cond {A = ℕ} (b || eqb (e .kind) 6) 0 4) o) g)
+          go false c w o q y g = rw (o, w) (ap (λ m. table e (one k r e inner 65536 false) m at room s) (sym (ap (λ b. cond b (times 1) (howMany (k .held) e s)) o) ∙ q) ∙ table-ways ∙ rw w (lists c (y ∙ ap₂ (λ b c. cond {A = ℕ} (b || c) 0 4) o w)))
+
+      pub field-refused : (once : Bool) → once ≡ single e → head ≤ room → Capped (Element once at room s) → (m : ℕ) → All once ≡ refused m → Field ≡ refused m
+      field-refused once o h g m q = field-is once o h g ∙ rw q (go (bare e))
+        where
+          go : (b : Bool) → cond {A = Outcome S} b (refused m) (refused m) ≡ refused m
+          go true = refl
+          go false = refl
+
+  -- ---- the bytes of one element are at most 2^63
+
+  follow-most : (ws : List ℕ) (m t : ℕ) (o : Outcome S) → t ≤ 9223372036854775808 → Capped o → Capped (follow ws m t o)
+  follow-most ws m t (refused n) h g = tt
+  follow-most ws m t (read ws′ m′ far s) h g = omega arith
+
+  next-most : (o : Outcome S) (f : List ℕ → ℕ → ℕ → S → Outcome S) → ((ws : List ℕ) (m t : ℕ) (s : S) → Capped (f ws m t s)) → Capped (next o f)
+  next-most (refused n) f h = tt
+  next-most (read ws m t s) f h = h ws m t s
+
+  pub seq-most : (k : Codec S) (r : List ℕ) (t : Tree Entry) (base shift room : ℕ) (s : S) → Capped (seq k r t base shift room s)
+  unfolding seq
+  seq-most k r none base shift room s = omega arith
+  seq-most k r (node e members rest) base shift room s = next-most (field k r e (λ base′ room′ s′. seq k r members base′ 0 room′ s′) (sat (base + sat (e .offset + shift))) room s)
+      (λ ws m t s′. follow ws m (sat (sat (e .offset + shift) + t)) (seq k r rest base (sat (shift + (t - reservedWidth e))) (room - length ws) s′))
+      (λ ws m t s′. follow-most ws m (sat (sat (e .offset + shift) + t)) (seq k r rest base (sat (shift + (t - reservedWidth e))) (room - length ws) s′) (omega arith) (seq-most k r rest base (sat (shift + (t - reservedWidth e))) (room - length ws) s′))
+
+  cond-most : (b : Bool) (o p : Outcome S) → Capped o → Capped p → Capped (cond b o p)
+  cond-most true o p g h = g
+  cond-most false o p g h = h
+
+  wrap-most : (name tag : ℕ) (o : Outcome S) → Capped o → Capped (wrap name tag o)
+  wrap-most name tag (refused n) g = tt
+  wrap-most name tag (read ws m t s) g = g
+
+  placed-most : (name : ℕ) (once : Bool) (width room : ℕ) (v : Leaf S) → width ≤ 9223372036854775808 → Capped (placed name once width room v)
+  placed-most name once width room (bad n) h = tt
+  placed-most name once width room (leaf tag a b s) h =
+      cond-most (once || leb 1 width) (cond (leb 4 room) (read (name ∷ tag ∷ a ∷ b ∷ []) 1 width s) (refused 16)) (refused 10) (cond-most (leb 4 room) (read (name ∷ tag ∷ a ∷ b ∷ []) 1 width s) (refused 16) h tt) tt
+
+  pub one-most : (k : Codec S) (r : List ℕ) (e : Entry) (inner : Reader S) (name : ℕ) (once : Bool) (at room : ℕ) (s : S) → e .width ≤ 9223372036854775808
+      → ((b n : ℕ) (s : S) → Capped (inner b n s)) → Capped (one k r e inner name once at room s)
+  unfolding one inside pad scalar
+  one-most k r e inner name once at room s h g =
+      cond-most (isGroup e) (inside name 7 inner at room s) (cond (isPad e) (pad r e at room s) (scalar k r e name once at room s))
+      (cond-most (leb 4 room) (wrap name 7 (inner at (room - 4) s)) (refused 16) (wrap-most name 7 (inner at (room - 4) s) (g at (room - 4) s)) tt)
+      (cond-most (isPad e) (pad r e at room s) (scalar k r e name once at room s)
+      (cond-most (leb (at + e .width) (length r)) (read [] 0 (e .width) s) (refused 7) h tt)
+      (cond-most (leb (at + e .width) (length r)) (placed name once (e .width) room (k .dec e once (take (e .width) (drop at r)) s)) (refused 7) (placed-most name once (e .width) room (k .dec e once (take (e .width) (drop at r)) s) h) tt))

@@ -1,6 +1,6 @@
 -- The invariants of the two loops, and what a turn makes of them; the items of Lists and Structs around what was read.
 use mathlib.Core.Path.{_≡_, refl, sym, ap, ap₂, _∙_}
-use mathlib.Core.Bool.{Bool, true, false, cond}
+use mathlib.Core.Bool.{Bool, true, false, _&&_, not}
 use mathlib.Core.List.{List, [], _∷_, _++_, append-nil}
 use Prim.Native.Nat.{ℕ, zero, suc, _+_, _-_, _*_, _/_, _<_, _≤_, max}
 use native.Mathlib.Omega.{arith}
@@ -15,10 +15,10 @@ use Rattle.spans.specs.Tree.{endOf}
 use Rattle.walks.specs.Walk.{Codec, Many, never, times, howMany}
 use Rattle.walks.specs.Reading.{Outcome, refused, read, Reader, wrap, inside, one, follow}
 use Rattle.decode_leaf.specs.declared.Out.{Out}
-use Rattle.decode_leaf.specs.Capped.{sat, behind, elements, table, field, seq}
+use Rattle.decode_leaf.specs.Capped.{sat, behind, field, seq}
 use Rattle.decode_leaf.specs.Machine.{Held, state, headOf, headed, Listed, Fine, Met}
 use Rattle.decode_leaf.proofs.Meets.{refuse, fine, out}
-use Rattle.decode.proofs.Steps.{follow-none, follow-end, follow-follow, behind-none, behind-end, behind-behind, seq-end, seq-refused, seq-read, elements-end, elements-refused, elements-empty, elements-read, inside-room, inside-small, table-is, table-refused}
+use Rattle.decode.proofs.Steps.{follow-none, follow-end, follow-follow, behind-none, behind-end, behind-behind, seq-end, seq-refused, seq-read, turns, turns-end, turns-refused, turns-empty, turns-read}
 use Rattle.decode.proofs.Tail.{lent, back, back-length, back-take}
 
 -- ---- a tail lent and come back
@@ -135,11 +135,11 @@ module _ {K : ℕ → Codec Held} {r l i₀ t₀ : List ℕ} {c₀ : List ℤ} {
             past = omega (arith, v .past, h);
           }
 
--- ---- the loop of a table, whose elements stand behind `head` words
+-- ---- the loop of an entry, whose elements stand behind `head` words
 
-pub record ElementsInv (F : ℕ → Reader Held) (i₀ t₀ : List ℕ) (c₀ : List ℤ) (n at told head : ℕ) (items text : List ℕ) (counts : List ℤ) (k used members place taken told₁ : ℕ) : Type 0 where
-  pub whole : elements (F (length t₀)) n at (length i₀ - head) (state c₀ told t₀)
-      ≡ behind (drop head (take used items)) members taken (elements (F (length t₀)) (n - k) place (length i₀ - used) (state counts told₁ text))
+pub record TurnsInv (once : Bool) (F : ℕ → Reader Held) (i₀ t₀ : List ℕ) (c₀ : List ℤ) (n at told head : ℕ) (items text : List ℕ) (counts : List ℤ) (k used members place taken told₁ : ℕ) : Type 0 where
+  pub whole : turns once (F (length t₀)) n at (length i₀ - head) (state c₀ told t₀)
+      ≡ behind (drop head (take used items)) members taken (turns once (F (length t₀)) (n - k) place (length i₀ - used) (state counts told₁ text))
   pub written : Written i₀ items used
   pub texts : length text ≡ length t₀
   pub kept : length counts ≡ length c₀
@@ -150,11 +150,11 @@ pub record ElementsInv (F : ℕ → Reader Held) (i₀ t₀ : List ℕ) (c₀ : 
 drop-take : (n : ℕ) (xs : List ℕ) → drop n (take n xs) ≡ []
 drop-take n xs = drop-of-length-le (take n xs) {i = n} (omega (arith, length-take n xs))
 
-pub elements-starts : (F : ℕ → Reader Held) (i₀ t₀ : List ℕ) (c₀ : List ℤ) (n at told head : ℕ) → told ≤ length t₀ → head ≤ length i₀
-    → ElementsInv F i₀ t₀ c₀ n at told head i₀ t₀ c₀ 0 head 0 at 0 told
-elements-starts F i₀ t₀ c₀ n at told head h g = record {
-  whole = (let z : n ≡ n - 0 = omega arith in behind-none (F (length t₀)) n at (length i₀ - head) (state c₀ told t₀)
-      ∙ ap₂ (λ ws m. behind ws 0 0 (elements (F (length t₀)) m at (length i₀ - head) (state c₀ told t₀))) (sym (drop-take head i₀)) z);
+pub turns-starts : (once : Bool) (F : ℕ → Reader Held) (i₀ t₀ : List ℕ) (c₀ : List ℤ) (n at told head : ℕ) → told ≤ length t₀ → head ≤ length i₀
+    → TurnsInv once F i₀ t₀ c₀ n at told head i₀ t₀ c₀ 0 head 0 at 0 told
+turns-starts once F i₀ t₀ c₀ n at told head h g = record {
+  whole = (let z : n ≡ n - 0 = omega arith in behind-none once (F (length t₀)) n at (length i₀ - head) (state c₀ told t₀)
+      ∙ ap₂ (λ ws m. behind ws 0 0 (turns once (F (length t₀)) m at (length i₀ - head) (state c₀ told t₀))) (sym (drop-take head i₀)) z);
   written = record { within = g; same = refl };
   texts = refl;
   kept = refl;
@@ -163,13 +163,13 @@ elements-starts F i₀ t₀ c₀ n at told head h g = record {
   capped = omega arith;
 }
 
-module _ {F : ℕ → Reader Held} {i₀ t₀ : List ℕ} {c₀ : List ℤ} {n at told head : ℕ} {items text : List ℕ} {counts : List ℤ} {k used members place taken told₁ : ℕ}
-    (v : ElementsInv F i₀ t₀ c₀ n at told head items text counts k used members place taken told₁) where
-  abbrev Elements-whole : Outcome Held
-  Elements-whole = elements (F (length t₀)) n at (length i₀ - head) (state c₀ told t₀)
+module _ {once : Bool} {F : ℕ → Reader Held} {i₀ t₀ : List ℕ} {c₀ : List ℤ} {n at told head : ℕ} {items text : List ℕ} {counts : List ℤ} {k used members place taken told₁ : ℕ}
+    (v : TurnsInv once F i₀ t₀ c₀ n at told head items text counts k used members place taken told₁) where
+  abbrev Turns-whole : Outcome Held
+  Turns-whole = turns once (F (length t₀)) n at (length i₀ - head) (state c₀ told t₀)
 
-  pub elements-done : n ≤ k → Elements-whole ≡ read (drop head (take used items)) members taken (state counts told₁ text)
-  elements-done h = v .whole ∙ ap (behind (drop head (take used items)) members taken) (elements-end (F (length t₀)) n k place (length i₀ - used) (state counts told₁ text) h)
+  pub turns-done : n ≤ k → Turns-whole ≡ read (drop head (take used items)) members taken (state counts told₁ text)
+  turns-done h = v .whole ∙ ap (behind (drop head (take used items)) members taken) (turns-end once (F (length t₀)) n k place (length i₀ - used) (state counts told₁ text) h)
       ∙ behind-end (drop head (take used items)) members taken (state counts told₁ text) (v .capped)
 
   module _ (h : k < n) (ys : List ℕ) (same : length ys ≡ length (tail items used)) where
@@ -179,13 +179,13 @@ module _ {F : ℕ → Reader Held} {i₀ t₀ : List ℕ} {c₀ : List ℤ} {n a
     element-is : Element ≡ F (length t₀) place (length i₀ - used) (state counts told₁ text)
     element-is = ap₂ (λ m x. F m place x (state counts told₁ text)) (v .texts) (room-left (v .written) ys same)
 
-    pub elements-stop : (m : ℕ) → Element ≡ refused m → Elements-whole ≡ refused m
-    elements-stop m e = v .whole ∙ ap (behind (drop head (take used items)) members taken) (elements-refused (F (length t₀)) n k place (length i₀ - used) (state counts told₁ text) h m (sym element-is ∙ e))
+    pub turns-stop : (m : ℕ) → Element ≡ refused m → Turns-whole ≡ refused m
+    turns-stop m e = v .whole ∙ ap (behind (drop head (take used items)) members taken) (turns-refused once (F (length t₀)) n k place (length i₀ - used) (state counts told₁ text) h m (sym element-is ∙ e))
 
-    module _ (o : Out) (text′ : List ℕ) (counts′ : List ℤ) (f : Fine Element o ys text′ counts′) where
-      pub elements-nothing : o .taken ≡ 0 → Elements-whole ≡ refused 10
-      elements-nothing z = v .whole ∙ ap (behind (drop head (take used items)) members taken)
-          (elements-empty (F (length t₀)) n k place (length i₀ - used) (state counts told₁ text) h (take (o .used) ys) (o .members) (o .taken) (state counts′ (o .told) text′) (sym element-is ∙ f .is) z)
+    module _ (o : Out) (text′ : List ℕ) (counts′ : List ℤ) (f : Fine Element o ys text′ counts′) (b : Bool) (p : b ≡ (not once && eqb (o .taken) 0)) where
+      pub turns-nothing : b ≡ true → Turns-whole ≡ refused 10
+      turns-nothing z = v .whole ∙ ap (behind (drop head (take used items)) members taken)
+          (turns-empty once (F (length t₀)) n k place (length i₀ - used) (state counts told₁ text) h (take (o .used) ys) (o .members) (o .taken) (state counts′ (o .told) text′) (sym element-is ∙ f .is) b p z)
 
       head-in : head ≤ length (take used items)
       head-in = omega (arith, length-take-le used items (omega (arith, v .written .within, v .written .same)), v .few)
@@ -193,19 +193,19 @@ module _ {F : ℕ → Reader Held} {i₀ t₀ : List ℕ} {c₀ : List ℤ} {n a
       words : drop head (take used items) ++ take (o .used) ys ≡ drop head (take (used + o .used) (returned items used ys))
       words = sym (drop-append-le head (take used items) (take (o .used) ys) head-in) ∙ ap (drop head) (sym (returned-take (v .written) ys same (o .used)))
 
-      pub elements-go : (place′ taken′ : ℕ) → length text′ ≡ length text → length counts′ ≡ length counts → (o .taken ≡ 0 → ⊥)
+      pub turns-go : (place′ taken′ : ℕ) → length text′ ≡ length text → length counts′ ≡ length counts → b ≡ false
           → place′ ≡ sat (place + o .taken) → taken′ ≡ sat (taken + o .taken)
-          → ElementsInv F i₀ t₀ c₀ n at told head (returned items used ys) text′ counts′ (k + 1) (used + o .used) (members + o .members) place′ taken′ (o .told)
-      elements-go place′ taken′ ht hc z r1 r2 =
+          → TurnsInv once F i₀ t₀ c₀ n at told head (returned items used ys) text′ counts′ (k + 1) (used + o .used) (members + o .members) place′ taken′ (o .told)
+      turns-go place′ taken′ ht hc z r1 r2 =
           let y : length i₀ - used - length (take (o .used) ys) ≡ length i₀ - (used + o .used) = omega (arith, length-take-le (o .used) ys (f .within)) in
           record {
             whole = v .whole
                 ∙ ap (behind (drop head (take used items)) members taken)
-                (elements-read (F (length t₀)) n k place (length i₀ - used) (state counts told₁ text) h (take (o .used) ys) (o .members) (o .taken) (state counts′ (o .told) text′) (sym element-is ∙ f .is) z)
+                (turns-read once (F (length t₀)) n k place (length i₀ - used) (state counts told₁ text) h (take (o .used) ys) (o .members) (o .taken) (state counts′ (o .told) text′) (sym element-is ∙ f .is) b p z)
                 ∙ behind-behind (drop head (take used items)) (take (o .used) ys) members (o .members) taken (o .taken)
-                (elements (F (length t₀)) (n - (k + 1)) (sat (place + o .taken)) (length i₀ - used - length (take (o .used) ys)) (state counts′ (o .told) text′))
-                ∙ ap₂ (λ ws x. behind ws (members + o .members) x (elements (F (length t₀)) (n - (k + 1)) (sat (place + o .taken)) (length i₀ - used - length (take (o .used) ys)) (state counts′ (o .told) text′))) words (sym r2)
-                ∙ ap₂ (λ x w. behind (drop head (take (used + o .used) (returned items used ys))) (members + o .members) taken′ (elements (F (length t₀)) (n - (k + 1)) x w (state counts′ (o .told) text′))) (sym r1) y;
+                (turns once (F (length t₀)) (n - (k + 1)) (sat (place + o .taken)) (length i₀ - used - length (take (o .used) ys)) (state counts′ (o .told) text′))
+                ∙ ap₂ (λ ws x. behind ws (members + o .members) x (turns once (F (length t₀)) (n - (k + 1)) (sat (place + o .taken)) (length i₀ - used - length (take (o .used) ys)) (state counts′ (o .told) text′))) words (sym r2)
+                ∙ ap₂ (λ x w. behind (drop head (take (used + o .used) (returned items used ys))) (members + o .members) taken′ (turns once (F (length t₀)) (n - (k + 1)) x w (state counts′ (o .told) text′))) (sym r1) y;
             written = returned-written (v .written) ys same (o .used) (f .within);
             texts = ht ∙ v .texts;
             kept = hc ∙ v .kept;

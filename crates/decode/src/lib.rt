@@ -4,8 +4,9 @@ use decode_leaf::clear_counts;
 use decode_leaf::clear_items;
 use decode_leaf::clear_text;
 use decode_leaf::decode_leaf;
+use decode_leaf::element_count;
+use decode_leaf::element_name;
 use decode_leaf::head_words;
-use decode_leaf::how_many;
 use decode_leaf::is_single;
 use decode_leaf::larger;
 use decode_leaf::less;
@@ -13,6 +14,7 @@ use decode_leaf::listed;
 use decode_leaf::put_header;
 use decode_leaf::refusal;
 use decode_leaf::sat_add;
+use decode_leaf::took_none;
 use layout::Entry;
 use layout::check_layout;
 use layout::has_depending_on;
@@ -21,7 +23,7 @@ use layout::record_length;
 use layout::reserved_width;
 use spans::end_of;
 ghost use mathlib.Core.Path.{_≡_};
-ghost use mathlib.Core.Bool.{Bool, true, false};
+ghost use mathlib.Core.Bool.{Bool, true, false, cond};
 ghost use mathlib.Core.List.{List, []};
 ghost use Prim.Native.Nat.{ℕ, _+_, _≤_};
 ghost use lib.IntN.{pos};
@@ -102,7 +104,8 @@ fn decode_seq(
     }
 }
 
-// An entry whose members are the entries lo up to hi: one element, or the elements of a table.
+// An entry whose members are the entries lo up to hi: one element, or the elements of a table. One call of decode_one serves both,
+// so that the frame stays small.
 fn decode_field(
     layout: &[u32],
     record: &[u8],
@@ -120,29 +123,12 @@ fn decode_field(
     requires { ⌜ told ≤ length (now text) ⌝ }
     ensures { λ r. ⌜ Met (field (kept (now (layout .entry)) page (length (now (text .entry))) deps) (now («record» .entry)) e (λ b n s. seq (kept (now (layout .entry)) page (length (now (text .entry))) deps) (now («record» .entry)) (part (now (layout .entry)) lo hi) b 0 n s) at (length (now (items .entry))) (state (now (counts .entry)) told (now (text .entry)))) r (now (items .exit)) (now (text .exit)) (now (counts .exit)) ⌝ }
 {
-    if is_single(e) {
-        return decode_one(
-            layout,
-            record,
-            items,
-            text,
-            counts,
-            page,
-            deps,
-            e,
-            lo,
-            hi,
-            at,
-            told,
-            e.name as u64,
-            true,
-        );
-    }
-    let c = how_many(layout, counts, e);
+    let once = is_single(e);
+    let c = element_count(layout, counts, e);
     if c.refused != 0 {
         return refusal(c.refused);
     }
-    let head = head_words(e);
+    let head = head_words(once, e.kind == 6);
     if items.len() < head {
         return refusal(16);
     }
@@ -167,13 +153,12 @@ fn decode_field(
             hi,
             place,
             behind,
-            65536,
-            false,
+            once,
         );
         if o.refused != 0 {
             return refusal(o.refused);
         }
-        if o.taken == 0 {
+        if took_none(once, o.taken) {
             return refusal(10);
         }
         place = sat_add(place, o.taken);
@@ -200,13 +185,28 @@ fn decode_one(
     hi: usize,
     at: u64,
     told: usize,
-    name: u64,
     once: bool,
 ) -> Out
     requires { ⌜ told ≤ length (now text) ⌝ }
-    ensures { λ r. ⌜ Met (one (kept (now (layout .entry)) page (length (now (text .entry))) deps) (now («record» .entry)) e (λ b n s. seq (kept (now (layout .entry)) page (length (now (text .entry))) deps) (now («record» .entry)) (part (now (layout .entry)) lo hi) b 0 n s) name once at (length (now (items .entry))) (state (now (counts .entry)) told (now (text .entry)))) r (now (items .exit)) (now (text .exit)) (now (counts .exit)) ⌝ }
+    ensures { λ r. ⌜ Met (one (kept (now (layout .entry)) page (length (now (text .entry))) deps) (now («record» .entry)) e (λ b n s. seq (kept (now (layout .entry)) page (length (now (text .entry))) deps) (now («record» .entry)) (part (now (layout .entry)) lo hi) b 0 n s) (cond once (e .name) 65536) once at (length (now (items .entry))) (state (now (counts .entry)) told (now (text .entry)))) r (now (items .exit)) (now (text .exit)) (now (counts .exit)) ⌝ }
 {
     if e.kind != 9 {
+        if once {
+            return decode_leaf(
+                layout,
+                record,
+                items,
+                text,
+                counts,
+                page,
+                deps,
+                e,
+                at,
+                told,
+                e.name as u64,
+                true,
+            );
+        }
         return decode_leaf(
             layout,
             record,
@@ -218,8 +218,8 @@ fn decode_one(
             e,
             at,
             told,
-            name,
-            once,
+            65536,
+            false,
         );
     }
     if items.len() < 4 {
@@ -242,6 +242,7 @@ fn decode_one(
         return refusal(o.refused);
     }
     let used = o.used + 4;
+    let name = element_name(e, once);
     put_header(items, name, 7, o.members, (used / 4) as u64);
     Out {
         refused: 0,

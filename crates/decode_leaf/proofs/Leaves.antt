@@ -11,11 +11,12 @@ use borrow.Author.Tests.{lt-ltb, le-ltb, le-leb, lt-leb, eq-eqb, ne-eqb, eqb-tru
 use Rattle.layout.specs.declared.Entry.{Entry}
 use Rattle.decode_scalar.specs.declared.Decoded.{Decoded}
 use Rattle.decode_scalar.specs.Decode.{says, answerOf, textAfter}
-use Rattle.walks.specs.Walk.{single}
+use Rattle.walks.specs.Walk.{single, Many, never, times}
 use Rattle.decode_leaf.specs.declared.Out.{Out}
+use Rattle.decode_leaf.specs.declared.Count.{Count}
 use Rattle.value.specs.declared.Scalar.{Scalar}
 use Rattle.value.specs.declared.Scalar.the-variants.{Null, Text, Int, Decimal, Float as FloatV, FloatBits, Bool as BoolV}
-use Rattle.decode_leaf.specs.Machine.{headOf, headed, Listed, isText, movedIn, toldIn, sizeIn}
+use Rattle.decode_leaf.specs.Machine.{bare, headOf, headed, Listed, Counted, isText, movedIn, toldIn, sizeIn}
 
 pub put4 : (xs : List ℕ) (a b c d : ℕ) → 4 ≤ length xs → set (set (set (set xs 0 a) 1 b) 2 c) 3 d ≡ a ∷ b ∷ c ∷ d ∷ drop 4 xs
 put4 [] a b c d h = absurd (omega arith)
@@ -55,20 +56,32 @@ single-word e p = rw (eq-eqb (e .occurs) 4294967295 p) (go (eqb (e .depending) 4
     go true = refl
     go false = refl
 
+pub none-took : (once : Bool) (taken : ℕ) → once ≡ false → eqb taken 0 ≡ (not once && eqb taken 0)
+none-took once taken e = rw e refl
+
+pub once-took : (once : Bool) (taken : ℕ) → once ≡ true → false ≡ (not once && eqb taken 0)
+once-took once taken e = rw e refl
+
+pub counted-once : (once : Bool) (m : Many) → once ≡ true → Counted (cond once (times 1) m) (record { refused = 0; n = 1 })
+counted-once once m q = record { fine = λ _. rw q refl; refuses = λ n. absurd (n refl) }
+
+pub counted-table : (once : Bool) (m : Many) (r : Count) → once ≡ false → Counted m r → Counted (cond once (times 1) m) r
+counted-table once m r q c = rw q c
+
 -- ---- a table's own item
 
 module _ (e : Entry) (head : ℕ) (h : head ≡ headOf e) where
-  no-head : head ≡ 0 → eqb (e .kind) 6 ≡ true
-  no-head z = go (eqb (e .kind) 6) refl
+  no-head : head ≡ 0 → bare e ≡ true
+  no-head z = go (bare e) refl
     where
-      go : (b : Bool) → eqb (e .kind) 6 ≡ b → eqb (e .kind) 6 ≡ true
+      go : (b : Bool) → bare e ≡ b → bare e ≡ true
       go true q = q
       go false q = absurd (omega (arith, h ∙ ap (λ x. cond {A = ℕ} x 0 4) q))
 
-  pub has-head : (head ≡ 0 → ⊥) → (eqb (e .kind) 6 ≡ false) × (head ≡ 4)
-  has-head n = go (eqb (e .kind) 6) refl
+  pub has-head : (head ≡ 0 → ⊥) → (bare e ≡ false) × (head ≡ 4)
+  has-head n = go (bare e) refl
     where
-      go : (b : Bool) → eqb (e .kind) 6 ≡ b → (eqb (e .kind) 6 ≡ false) × (head ≡ 4)
+      go : (b : Bool) → bare e ≡ b → (bare e ≡ false) × (head ≡ 4)
       go true q = absurd (n (h ∙ ap (λ x. cond {A = ℕ} x 0 4) q))
       go false q = (q, h ∙ ap (λ x. cond {A = ℕ} x 0 4) q)
 

@@ -11,7 +11,7 @@ use Rattle.value.specs.declared.Scalar.{Scalar}
 use Rattle.value.specs.declared.Scalar.the-variants.{Null, Text, Int, Decimal, Float as FloatV, FloatBits, Bool as BoolV}
 use Rattle.value.specs.Scalar.{tagOf, firstOf, secondOf}
 use Rattle.decode_scalar.specs.Decode.{Says, refused, value, text, says}
-use Rattle.walks.specs.Walk.{isPad, Many, never, times, unfit, Leaf, bad, leaf, Codec}
+use Rattle.walks.specs.Walk.{single, isPad, Many, never, times, unfit, Leaf, bad, leaf, Codec}
 use Rattle.walks.specs.Reading as R
 use Rattle.walks.specs.Reading.{Outcome, Reader, read, scalar, pad}
 use Rattle.decode_leaf.specs.declared.Out.{Out}
@@ -51,9 +51,13 @@ module _ (l : List ℕ) (page room : ℕ) (deps : Bool) where
 abbrev pub leafAt : Codec Held → List ℕ → Entry → ℕ → Bool → Reader Held
 leafAt k r e name once at room s = cond (isPad e) (pad r e at room s) (scalar k r e name once at room s)
 
+-- a single entry and a table of Pads have no List's item
+abbrev pub bare : Entry → Bool
+bare e = single e || eqb (e .kind) 6
+
 -- the words of a table's own item
 abbrev pub headOf : Entry → ℕ
-headOf e = cond (eqb (e .kind) 6) 0 4
+headOf e = cond (bare e) 0 4
 
 -- ---- a scalar as its item holds it
 
@@ -100,15 +104,15 @@ pub record Placed (o : Held → Outcome Held) (noted : List ℤ) (behind width :
   pub fine : r .refused ≡ 0 → Item o behind width r items × (run ≡ noted)
   pub refuses : (r .refused ≡ 0 → ⊥) → (s : Held) → o s ≡ R.refused (r .refused)
 
--- a table's own item around the elements behind it; a table of Pads has none
+-- a table's own item around the elements behind it
 abbrev pub headed : Entry → ℕ → ℕ → List ℕ → List ℕ
-headed e used members items = cond (eqb (e .kind) 6) items (e .name ∷ 6 ∷ members ∷ (used / 4) ∷ drop 4 items)
+headed e used members items = cond (bare e) items (e .name ∷ 6 ∷ members ∷ (used / 4) ∷ drop 4 items)
 
 pub record Listed (e : Entry) (end members width behind : ℕ) (r : Out) (before items : List ℕ) : Type 0 where
   pub is : items ≡ headed e end members before
   pub fine : r .refused ≡ 0
   pub used : r .used ≡ end
-  pub counted : r .members ≡ cond (eqb (e .kind) 6) members 1
+  pub counted : r .members ≡ cond (bare e) members 1
   pub taken : r .taken ≡ width
   pub told : r .told ≡ behind
 

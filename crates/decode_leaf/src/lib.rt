@@ -3,13 +3,13 @@ use decode_scalar::Decoded;
 use layout::Entry;
 use value::Scalar;
 ghost use mathlib.Core.Path.{_≡_};
-ghost use mathlib.Core.Bool.{Bool, true, false, _||_, _&&_, not};
+ghost use mathlib.Core.Bool.{Bool, true, false, _||_, _&&_, not, cond};
 ghost use mathlib.Core.List.{List, [], _∷_, _++_};
 ghost use Prim.Native.Nat.{ℕ, _+_, _-_, _*_, _/_, _≤_, _<_, min, max};
 ghost use lib.IntN.{ℤ, pos};
 ghost use lib.Dec.{eqb, leb, ltb};
 ghost use lib.ListN.{length, take, drop, getD, set, replicate};
-ghost use Rattle.walks.specs.Walk.{single, isPad, howMany};
+ghost use Rattle.walks.specs.Walk.{single, isPad, times, howMany};
 ghost use Rattle.walks.specs.Reading.{placed, scalar};
 ghost use Rattle.decode_scalar.specs.Decode.{says, answerOf, textAfter};
 ghost use Rattle.decode_leaf.specs.Counts.{natOf, first, statusOf, heldIn, noteIn, setIn};
@@ -243,11 +243,44 @@ pub fn is_single(e: Entry) -> bool
     e.depending == 4294967295
 }
 
-// The words of a table's own item: a table of Pads has none.
-pub fn head_words(e: Entry) -> usize
-    ensures { λ r. ⌜ r ≡ headOf e ⌝ }
+// How many elements an entry has: one where it is no table.
+pub fn element_count(layout: &[u32], counts: &[i64], e: Entry) -> Count
+    ensures { λ r. ⌜ Counted (cond (single e) (times 1) (howMany (λ name run. heldIn (now (layout .entry)) name run) e (now (counts .entry)))) r ⌝ }
 {
-    if e.kind == 6 { 0 } else { 4 }
+    if is_single(e) {
+        return Count { refused: 0, n: 1 };
+    }
+    how_many(layout, counts, e)
+}
+
+// The name of an element's item: 65,536 in a table.
+pub fn element_name(e: Entry, once: bool) -> u64
+    ensures { λ r. ⌜ r ≡ cond once (e .name) 65536 ⌝ }
+{
+    if once {
+        return e.name as u64;
+    }
+    65536
+}
+
+// Whether an element of a table took no byte.
+pub fn took_none(once: bool, taken: u64) -> bool
+    ensures { λ r. ⌜ r ≡ (not once && eqb taken 0) ⌝ }
+{
+    if once {
+        return false;
+    }
+    taken == 0
+}
+
+// The words of a table's own item: a single entry and a table of Pads have none.
+pub fn head_words(once: bool, pads: bool) -> usize
+    ensures { λ r. ⌜ r ≡ cond (once || pads) 0 4 ⌝ }
+{
+    if once {
+        return 0;
+    }
+    if pads { 0 } else { 4 }
 }
 
 // The item of a List or Struct at the front, around the members behind it.
@@ -261,7 +294,7 @@ pub fn put_header(items: &mut [u64], name: u64, tag: u64, members: u64, span: u6
     items[3] = span;
 }
 
-// A table's own item around its elements, which stand behind it and end at `used`.
+// A table's own item around its elements, which stand behind it and end at `used`; what has no own item stays as it is.
 pub fn listed(
     items: &mut [u64],
     e: Entry,

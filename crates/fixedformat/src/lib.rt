@@ -8,7 +8,7 @@ ghost use Rattle.layout_text.specs.Form.{linesOf};
 ghost use Rattle.layout_text.specs.Reading.{readOf, refusal, buffer, wordsOf, masksOf};
 ghost use Rattle.text_field.specs.declared.Translated.{Translated};
 ghost use Rattle.text_field.specs.Single.{translatedOf, scratchOf, textAsks, fieldText, startOf};
-ghost use Rattle.walks.specs.Records.{decodeRecord, numberOf, itemsOf, textsOf, filled};
+ghost use Rattle.walks.specs.Records.{decodeRecord, numberOf, itemsOf, textsOf, filled, encodeRecord, refusalOf, bytesOf};
 
 // Reads a layout's text form.
 #[no_mangle]
@@ -65,6 +65,28 @@ pub extern "C" fn ff_decode_record(
     let r = decode::decode_record(layout, masks, page, record, items, text, counts);
     *item_words_used = r.items as u64;
     *text_used = r.text as u64;
+    r.number
+}
+
+// Writes a record by a layout.
+#[no_mangle]
+pub extern "C" fn ff_encode_record(
+    layout: &[u32],
+    masks: &[u8],
+    page: u32,
+    items: &[u64],
+    text: &[u8],
+    record: &mut [u8],
+    counts: &mut [i64],
+    record_length: &mut u64,
+) -> u32
+    ensures { λ r. ⌜ r ≡ refusalOf (encodeRecord (now (layout .entry)) (now (masks .entry)) page (now (items .entry)) (now (text .entry)) (length (now («record» .entry))) (length (now (counts .entry)))) ⌝ }
+    ensures { λ _. ⌜ now («record_length» .exit) ≡ length (bytesOf (encodeRecord (now (layout .entry)) (now (masks .entry)) page (now (items .entry)) (now (text .entry)) (length (now («record» .entry))) (length (now (counts .entry))))) ⌝ }
+    ensures { λ _. ⌜ now («record» .exit) ≡ filled (length (now («record» .entry))) (bytesOf (encodeRecord (now (layout .entry)) (now (masks .entry)) page (now (items .entry)) (now (text .entry)) (length (now («record» .entry))) (length (now (counts .entry))))) ⌝ }
+    ensures { λ _. ⌜ now (counts .exit) ≡ replicate (length (now (counts .entry))) (pos 0) ⌝ }
+{
+    let r = encode::encode_record(layout, masks, page, items, text, record, counts);
+    *record_length = r.length as u64;
     r.number
 }
 

@@ -219,7 +219,7 @@ fn is_list(tag: u64) -> bool
 }
 
 // How many items the sequence lo..hi has at its own level.
-fn members(items: &[u64], lo: usize, hi: usize) -> u64
+pub fn members(items: &[u64], lo: usize, hi: usize) -> u64
     ensures { λ r. ⌜ r ≡ count (values (now (items .entry)) lo hi) ⌝ }
 {
     let mut i = lo;

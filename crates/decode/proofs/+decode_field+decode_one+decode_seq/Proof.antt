@@ -11,8 +11,9 @@ use Rattle.decode.proofs.decode_seq.Reads as decode-seq
 use Rattle.decode.proofs.decode_seq.Kinds as decode-seq-kinds
 use Rattle.decode.proofs.+decode_field+decode_one+decode_seq.Lts-decode_seq as decode-seq-lts
 use Rattle.decode_leaf.proofs.decode_leaf.Reads as decode-leaf-reads
+use Rattle.decode_leaf.proofs.element_count.Reads as element-count-reads
+use Rattle.decode_leaf.proofs.element_name.Reads as element-name-reads
 use Rattle.decode_leaf.proofs.head_words.Reads as head-words-reads
-use Rattle.decode_leaf.proofs.how_many.Reads as how-many-reads
 use Rattle.decode_leaf.proofs.is_single.Reads as is-single-reads
 use Rattle.decode_leaf.proofs.larger.Reads as larger-reads
 use Rattle.decode_leaf.proofs.less.Reads as less-reads
@@ -20,14 +21,15 @@ use Rattle.decode_leaf.proofs.listed.Reads as listed-reads
 use Rattle.decode_leaf.proofs.put_header.Reads as put-header-reads
 use Rattle.decode_leaf.proofs.refusal.Reads as refusal-reads
 use Rattle.decode_leaf.proofs.sat_add.Reads as sat-add-reads
+use Rattle.decode_leaf.proofs.took_none.Reads as took-none-reads
 use Rattle.layout.proofs.load.Reads as load-reads
 use Rattle.layout.proofs.reserved_width.Reads as reserved-width-reads
 use Rattle.spans.proofs.end_of.Reads as end-of-reads
 use Rattle.decode.proofs.+decode_field+decode_one+decode_seq.{statement}
 use Rattle.decode.proofs.+decode_field+decode_one+decode_seq.Tie.{close}
 use Rattle.decode.proofs.+decode_field+decode_one+decode_seq.Proof.Common.{μ-decode-field, μ-decode-one, μ-decode-seq, decode-field-at, decode-field-below, decode-one-at, decode-one-below, decode-seq-at, decode-seq-below}
-use Rattle.decode.proofs.+decode_field+decode_one+decode_seq.Proof.Field.{decode-field-claims, decode-field-Inv-loop, decode-field-μ-loop, decode-field-is-single-requires, decode-field-cast-decode-one, decode-field-decode-one-requires, decode-field-same-length, decode-field-same-length-2, decode-field-same-length-3, decode-field-returns, decode-field-how-many-requires, decode-field-refusal-requires, decode-field-same-length-4, decode-field-returns-2, decode-field-head-words-requires, decode-field-refusal-requires-2, decode-field-same-length-5, decode-field-returns-3, decode-field-loop-holds, decode-field-mul-decode-one, decode-field-sub-decode-one, decode-field-part-decode-one-start, decode-field-part-decode-one-end, decode-field-decode-one-requires-2, decode-field-refusal-requires-3, decode-field-same-length-6, decode-field-same-length-7, decode-field-same-length-8, decode-field-returns-4, decode-field-refusal-requires-4, decode-field-same-length-9, decode-field-same-length-10, decode-field-same-length-11, decode-field-returns-5, decode-field-sat-add-requires, decode-field-sat-add-requires-2, decode-field-add-used, decode-field-add-members, decode-field-add-k, decode-field-loop-less, decode-field-loop-again, decode-field-listed-requires, decode-field-same-length-12, decode-field-same-length-13, decode-field-same-length-14, decode-field-returns-6}
-use Rattle.decode.proofs.+decode_field+decode_one+decode_seq.Proof.One.{decode-one-claims, decode-one-decode-leaf-requires, decode-one-same-length, decode-one-same-length-2, decode-one-same-length-3, decode-one-returns, decode-one-refusal-requires, decode-one-returns-2, decode-one-sub-decode-seq, decode-one-part-decode-seq-start, decode-one-part-decode-seq-end, decode-one-decode-seq-requires, decode-one-refusal-requires-2, decode-one-same-length-4, decode-one-same-length-5, decode-one-same-length-6, decode-one-returns-3, decode-one-add-used, decode-one-put-header-requires, decode-one-same-length-7, decode-one-same-length-8, decode-one-same-length-9, decode-one-returns-4}
+use Rattle.decode.proofs.+decode_field+decode_one+decode_seq.Proof.Field.{decode-field-claims, decode-field-Inv-loop, decode-field-μ-loop, decode-field-is-single-requires, decode-field-element-count-requires, decode-field-refusal-requires, decode-field-same-length, decode-field-returns, decode-field-head-words-requires, decode-field-refusal-requires-2, decode-field-same-length-2, decode-field-returns-2, decode-field-loop-holds, decode-field-mul-decode-one, decode-field-sub-decode-one, decode-field-part-decode-one-start, decode-field-part-decode-one-end, decode-field-decode-one-requires, decode-field-refusal-requires-3, decode-field-same-length-3, decode-field-same-length-4, decode-field-same-length-5, decode-field-returns-3, decode-field-took-none-requires, decode-field-refusal-requires-4, decode-field-same-length-6, decode-field-same-length-7, decode-field-same-length-8, decode-field-returns-4, decode-field-sat-add-requires, decode-field-sat-add-requires-2, decode-field-add-used, decode-field-add-members, decode-field-add-k, decode-field-loop-less, decode-field-loop-again, decode-field-listed-requires, decode-field-same-length-9, decode-field-same-length-10, decode-field-same-length-11, decode-field-returns-5}
+use Rattle.decode.proofs.+decode_field+decode_one+decode_seq.Proof.One.{decode-one-claims, decode-one-cast-decode-leaf, decode-one-decode-leaf-requires, decode-one-same-length, decode-one-same-length-2, decode-one-same-length-3, decode-one-returns, decode-one-decode-leaf-requires-2, decode-one-same-length-4, decode-one-same-length-5, decode-one-same-length-6, decode-one-returns-2, decode-one-refusal-requires, decode-one-returns-3, decode-one-sub-decode-seq, decode-one-part-decode-seq-start, decode-one-part-decode-seq-end, decode-one-decode-seq-requires, decode-one-refusal-requires-2, decode-one-same-length-7, decode-one-same-length-8, decode-one-same-length-9, decode-one-returns-4, decode-one-add-used, decode-one-element-name-requires, decode-one-put-header-requires, decode-one-same-length-10, decode-one-same-length-11, decode-one-same-length-12, decode-one-returns-5}
 use Rattle.decode.proofs.+decode_field+decode_one+decode_seq.Proof.Seq.{decode-seq-claims, decode-seq-Inv-loop, decode-seq-μ-loop, decode-seq-loop-holds, decode-seq-load-requires, decode-seq-cast-end-of, decode-seq-end-of-requires, decode-seq-cast-sat-add, decode-seq-sat-add-requires, decode-seq-sat-add-requires-2, decode-seq-mul-decode-field, decode-seq-sub-decode-field, decode-seq-part-decode-field-start, decode-seq-part-decode-field-end, decode-seq-add-decode-field, decode-seq-decode-field-requires, decode-seq-refusal-requires, decode-seq-same-length, decode-seq-same-length-2, decode-seq-same-length-3, decode-seq-returns, decode-seq-reserved-width-requires, decode-seq-less-requires, decode-seq-sat-add-requires-3, decode-seq-sat-add-requires-4, decode-seq-larger-requires, decode-seq-add-used, decode-seq-add-members, decode-seq-loop-less, decode-seq-loop-again, decode-seq-same-length-4, decode-seq-same-length-5, decode-seq-same-length-6, decode-seq-returns-2}
 mod Common
 mod Field
@@ -42,36 +44,31 @@ pub +decode-field+decode-one+decode-seq-spec : {M : Type 1} → statement M
     decode-field-Inv-loop
     decode-field-μ-loop
     (decode-field-is-single-requires t)
-    (decode-field-cast-decode-one t)
-    (decode-field-decode-one-requires t)
-    (decode-field-same-length t)
-    (decode-field-same-length-2 t)
-    (decode-field-same-length-3 t)
-    (decode-field-returns t)
-    (decode-field-how-many-requires t)
+    (decode-field-element-count-requires t)
     (decode-field-refusal-requires t)
-    (decode-field-same-length-4 t)
-    (decode-field-returns-2 t)
+    (decode-field-same-length t)
+    (decode-field-returns t)
     (decode-field-head-words-requires t)
     (decode-field-refusal-requires-2 t)
-    (decode-field-same-length-5 t)
-    (decode-field-returns-3 t)
+    (decode-field-same-length-2 t)
+    (decode-field-returns-2 t)
     (decode-field-loop-holds t)
     (decode-field-mul-decode-one t)
     (decode-field-sub-decode-one t)
     (decode-field-part-decode-one-start t)
     (decode-field-part-decode-one-end t)
-    (decode-field-decode-one-requires-2 t)
+    (decode-field-decode-one-requires t)
     (decode-field-refusal-requires-3 t)
+    (decode-field-same-length-3 t)
+    (decode-field-same-length-4 t)
+    (decode-field-same-length-5 t)
+    (decode-field-returns-3 t)
+    (decode-field-took-none-requires t)
+    (decode-field-refusal-requires-4 t)
     (decode-field-same-length-6 t)
     (decode-field-same-length-7 t)
     (decode-field-same-length-8 t)
     (decode-field-returns-4 t)
-    (decode-field-refusal-requires-4 t)
-    (decode-field-same-length-9 t)
-    (decode-field-same-length-10 t)
-    (decode-field-same-length-11 t)
-    (decode-field-returns-5 t)
     (decode-field-sat-add-requires t)
     (decode-field-sat-add-requires-2 t)
     (decode-field-add-used t)
@@ -80,35 +77,42 @@ pub +decode-field+decode-one+decode-seq-spec : {M : Type 1} → statement M
     (decode-field-loop-less t)
     (decode-field-loop-again t)
     (decode-field-listed-requires t)
-    (decode-field-same-length-12 t)
-    (decode-field-same-length-13 t)
-    (decode-field-same-length-14 t)
-    (decode-field-returns-6 t))
+    (decode-field-same-length-9 t)
+    (decode-field-same-length-10 t)
+    (decode-field-same-length-11 t)
+    (decode-field-returns-5 t))
     (λ t. decode-one-lts.spec (decode-one-claims t)
     (decode-one-at t)
     decode-one.Post
+    (decode-one-cast-decode-leaf t)
     (decode-one-decode-leaf-requires t)
     (decode-one-same-length t)
     (decode-one-same-length-2 t)
     (decode-one-same-length-3 t)
     (decode-one-returns t)
-    (decode-one-refusal-requires t)
+    (decode-one-decode-leaf-requires-2 t)
+    (decode-one-same-length-4 t)
+    (decode-one-same-length-5 t)
+    (decode-one-same-length-6 t)
     (decode-one-returns-2 t)
+    (decode-one-refusal-requires t)
+    (decode-one-returns-3 t)
     (decode-one-sub-decode-seq t)
     (decode-one-part-decode-seq-start t)
     (decode-one-part-decode-seq-end t)
     (decode-one-decode-seq-requires t)
     (decode-one-refusal-requires-2 t)
-    (decode-one-same-length-4 t)
-    (decode-one-same-length-5 t)
-    (decode-one-same-length-6 t)
-    (decode-one-returns-3 t)
-    (decode-one-add-used t)
-    (decode-one-put-header-requires t)
     (decode-one-same-length-7 t)
     (decode-one-same-length-8 t)
     (decode-one-same-length-9 t)
-    (decode-one-returns-4 t))
+    (decode-one-returns-4 t)
+    (decode-one-add-used t)
+    (decode-one-element-name-requires t)
+    (decode-one-put-header-requires t)
+    (decode-one-same-length-10 t)
+    (decode-one-same-length-11 t)
+    (decode-one-same-length-12 t)
+    (decode-one-returns-5 t))
     λ t. decode-seq-lts.spec (decode-seq-claims t)
     (decode-seq-at t)
     decode-seq.Post

@@ -9,8 +9,9 @@ use Rattle.decode.proofs.decode_seq.Reads as decode-seq
 use Rattle.decode.proofs.decode_seq.Kinds as decode-seq-kinds
 use Rattle.decode.proofs.+decode_field+decode_one+decode_seq.Lts-decode_seq as decode-seq-lts
 use Rattle.decode_leaf.proofs.decode_leaf.Reads as decode-leaf-reads
+use Rattle.decode_leaf.proofs.element_count.Reads as element-count-reads
+use Rattle.decode_leaf.proofs.element_name.Reads as element-name-reads
 use Rattle.decode_leaf.proofs.head_words.Reads as head-words-reads
-use Rattle.decode_leaf.proofs.how_many.Reads as how-many-reads
 use Rattle.decode_leaf.proofs.is_single.Reads as is-single-reads
 use Rattle.decode_leaf.proofs.larger.Reads as larger-reads
 use Rattle.decode_leaf.proofs.less.Reads as less-reads
@@ -18,6 +19,7 @@ use Rattle.decode_leaf.proofs.listed.Reads as listed-reads
 use Rattle.decode_leaf.proofs.put_header.Reads as put-header-reads
 use Rattle.decode_leaf.proofs.refusal.Reads as refusal-reads
 use Rattle.decode_leaf.proofs.sat_add.Reads as sat-add-reads
+use Rattle.decode_leaf.proofs.took_none.Reads as took-none-reads
 use Rattle.layout.proofs.load.Reads as load-reads
 use Rattle.layout.proofs.reserved_width.Reads as reserved-width-reads
 use Rattle.spans.proofs.end_of.Reads as end-of-reads

@@ -9,14 +9,17 @@ use borrow.Author.Tests.{lt-ltb, le-ltb, le-leb, lt-leb, eq-eqb, ne-eqb, eqb-tru
 use lib.Dec.{eqb, leb, ltb}
 use lib.ListN.{length, take, drop, getD, set, replicate, length-set, length-append, length-take, length-drop, length-replicate, length-map}
 use borrow.Author.Needs.{needs}
-use Rattle.decode_leaf.proofs.head_words.Statement.{statement}
-use Rattle.decode_leaf.proofs.head_words.Tie as tie
+use Rattle.encode_leaf.proofs.settles.Statement.{statement}
+use Rattle.encode_leaf.proofs.settles.Tie as tie
 
 returns : tie.Need-returns
-returns c = rw (eq-eqb _ _ (c .if1 .taken)) refl
+returns c = simp (lt-leb _ _ (c .if1 .taken))
 
 returns-2 : tie.Need-returns-2
-returns-2 c = rw (ne-eqb _ _ (c .if1 .left)) refl
+returns-2 c = simp (le-leb _ _ (c .before .if1 .left), eq-eqb _ _ (c .if2 .taken))
 
-pub head-words-spec : {M : Type 1} → statement M
-head-words-spec = tie.close (tie.spec returns returns-2)
+returns-3 : tie.Need-returns-3
+returns-3 c = simp (le-leb _ _ (c .before .if1 .left), ne-eqb _ _ (c .if2 .left))
+
+pub settles-spec : {M : Type 1} → statement M
+settles-spec = tie.close (tie.spec returns returns-2 returns-3)

@@ -1,0 +1,29 @@
+use mathlib.Core.Path.{_≡_, refl, sym, ap, _∙_, subst}
+use mathlib.Core.Bool.{Bool, true, false}
+use mathlib.Core.Logic.{⊎-elim}
+use mathlib.Core.List.{List, [], _∷_, _++_, map, append-nil, append-assoc}
+use Prim.Native.Nat.{ℕ, zero, suc, _+_, _-_, _*_, _≤_, _<_}
+use native.Mathlib.Omega.{arith}
+use native.Mathlib.Numerals.{add-one}
+use borrow.Author.Tests.{lt-ltb, le-ltb, le-leb, lt-leb, eq-eqb, ne-eqb, eqb-true, eqb-false, ltb-true, ltb-false, leb-true, leb-false}
+use lib.Dec.{eqb, leb, ltb}
+use lib.ListN.{length, take, drop, getD, set, replicate, length-set, length-append, length-take, length-drop, length-replicate, length-map}
+use Rattle.decode_leaf.proofs.Leaves.{counted-once, counted-table}
+use borrow.Author.Needs.{needs}
+use Rattle.decode_leaf.proofs.element_count.Statement.{statement}
+use Rattle.decode_leaf.proofs.element_count.Tie as tie
+
+is-single-requires : tie.Need-is-single-requires
+is-single-requires c κs = search needs
+
+returns : tie.Need-returns
+returns c = counted-once _ _ (sym (c .before .is-single .ensures) ∙ c .if1 .taken)
+
+how-many-requires : tie.Need-how-many-requires
+how-many-requires c κs = search needs
+
+returns-2 : tie.Need-returns-2
+returns-2 c = counted-table _ _ _ (sym (c .before .before .is-single .ensures) ∙ c .before .if1 .left) (c .how-many .ensures)
+
+pub element-count-spec : {M : Type 1} → statement M
+element-count-spec = tie.close (tie.spec is-single-requires returns how-many-requires returns-2)

@@ -1,0 +1,103 @@
+use Prim.Native.Nat.{ℕ}
+use Rattle.encode.proofs.encode_field.Reads as encode-field
+use Rattle.encode.proofs.encode_seq.Reads as encode-seq
+use Rattle.encode.proofs.+encode_field+encode_one+encode_seq.Lts-encode_seq as encode-seq-lts
+use Rattle.encode_leaf.proofs.larger.Reads as larger-reads
+use Rattle.encode_leaf.proofs.less.Reads as less-reads
+use Rattle.encode_leaf.proofs.refusal.Reads as refusal-reads
+use Rattle.encode_leaf.proofs.sat_add.Reads as sat-add-reads
+use Rattle.items.proofs.find.Reads as find-reads
+use Rattle.layout.proofs.load.Reads as load-reads
+use Rattle.layout.proofs.reserved_width.Reads as reserved-width-reads
+use Rattle.spans.proofs.end_of.Reads as end-of-reads
+use Rattle.encode.proofs.+encode_field+encode_one+encode_seq.Proof.Common.{encode-field-below, encode-seq-at}
+use mathlib.Core.Path.{_≡_, refl, sym, ap, _∙_}
+use mathlib.Core.Bool.{Bool, true, false}
+use Prim.Native.Nat.{_+_, _-_, _*_, _≤_}
+use native.Mathlib.Omega.{arith}
+use borrow.Author.Needs.{needs}
+use borrow.Author.Tests.{not-true, not-false}
+use lib.ListN.{length}
+use Rattle.encode_leaf.proofs.Meets.{refuse, fine, same-as}
+use Rattle.encode.proofs.Turns.{SeqInv, seq-starts, seq-stops, seq-goes, seq-done}
+
+abbrev pub encode-seq-claims : ℕ → encode-seq-lts.Claims
+encode-seq-claims t = (load-reads.Asked, load-reads.Learnt, end-of-reads.Asked, end-of-reads.Learnt, sat-add-reads.Asked, sat-add-reads.Learnt, find-reads.Asked, find-reads.Learnt, encode-field-below t, encode-field.Post, refusal-reads.Asked, refusal-reads.Learnt, reserved-width-reads.Asked, reserved-width-reads.Learnt, less-reads.Asked, less-reads.Learnt, larger-reads.Asked, larger-reads.Learnt)
+
+abbrev pub encode-seq-Inv-loop : encode-seq-lts.InvT-loop
+encode-seq-Inv-loop layout masks items text rec₀ page lo hi from to base i₀ shift₀ taken₀ past₀ rec i shift taken past = SeqInv masks text page layout items rec₀ lo hi from to base rec i shift taken past
+
+abbrev pub encode-seq-μ-loop : encode-seq-lts.MeasureT-loop
+encode-seq-μ-loop layout masks items text rec₀ page lo hi from to base i₀ shift₀ taken₀ past₀ rec i shift taken past = hi - i
+
+pub encode-seq-loop-holds : (t : ℕ) → encode-seq-lts.Need-loop-holds (encode-seq-claims t) (encode-seq-at t) encode-seq.Post encode-seq-Inv-loop encode-seq-μ-loop
+encode-seq-loop-holds t c = seq-starts _ _ _ _ _ _ _ _ _ _ _
+
+pub encode-seq-load-requires : (t : ℕ) → encode-seq-lts.Need-load-requires (encode-seq-claims t) (encode-seq-at t) encode-seq.Post encode-seq-Inv-loop encode-seq-μ-loop
+encode-seq-load-requires t c κs = search needs
+
+pub encode-seq-cast-end-of : (t : ℕ) → encode-seq-lts.Need-cast-end-of (encode-seq-claims t) (encode-seq-at t) encode-seq.Post encode-seq-Inv-loop encode-seq-μ-loop
+encode-seq-cast-end-of t c = search needs
+
+pub encode-seq-end-of-requires : (t : ℕ) → encode-seq-lts.Need-end-of-requires (encode-seq-claims t) (encode-seq-at t) encode-seq.Post encode-seq-Inv-loop encode-seq-μ-loop
+encode-seq-end-of-requires t c κs = search needs
+
+pub encode-seq-cast-sat-add : (t : ℕ) → encode-seq-lts.Need-cast-sat-add (encode-seq-claims t) (encode-seq-at t) encode-seq.Post encode-seq-Inv-loop encode-seq-μ-loop
+encode-seq-cast-sat-add t c = search needs
+
+pub encode-seq-sat-add-requires : (t : ℕ) → encode-seq-lts.Need-sat-add-requires (encode-seq-claims t) (encode-seq-at t) encode-seq.Post encode-seq-Inv-loop encode-seq-μ-loop
+encode-seq-sat-add-requires t c κs = search needs
+
+pub encode-seq-sat-add-requires-2 : (t : ℕ) → encode-seq-lts.Need-sat-add-requires-2 (encode-seq-claims t) (encode-seq-at t) encode-seq.Post encode-seq-Inv-loop encode-seq-μ-loop
+encode-seq-sat-add-requires-2 t c κs = search needs
+
+pub encode-seq-cast-find : (t : ℕ) → encode-seq-lts.Need-cast-find (encode-seq-claims t) (encode-seq-at t) encode-seq.Post encode-seq-Inv-loop encode-seq-μ-loop
+encode-seq-cast-find t c = search needs
+
+pub encode-seq-find-requires : (t : ℕ) → encode-seq-lts.Need-find-requires (encode-seq-claims t) (encode-seq-at t) encode-seq.Post encode-seq-Inv-loop encode-seq-μ-loop
+encode-seq-find-requires t c κs = search needs
+
+pub encode-seq-add-encode-field : (t : ℕ) → encode-seq-lts.Need-add-encode-field (encode-seq-claims t) (encode-seq-at t) encode-seq.Post encode-seq-Inv-loop encode-seq-μ-loop
+encode-seq-add-encode-field t c = search needs
+
+pub encode-seq-encode-field-requires : (t : ℕ) → encode-seq-lts.Need-encode-field-requires (encode-seq-claims t) (encode-seq-at t) encode-seq.Post encode-seq-Inv-loop encode-seq-μ-loop
+encode-seq-encode-field-requires t c κs = omega (arith, c .before .before .before .before .before .before .end-of .ensures, c .before .before .before .before .before .before .before .before .before .loop-test .taken, c .before .before .before .before .before .before .before .before .before .before .loop .inv .past-lo, c .before .before .before .before .before .before .before .before .before .before .before .before .before .before .before .before .pre)
+
+pub encode-seq-refusal-requires : (t : ℕ) → encode-seq-lts.Need-refusal-requires (encode-seq-claims t) (encode-seq-at t) encode-seq.Post encode-seq-Inv-loop encode-seq-μ-loop
+encode-seq-refusal-requires t c κs = search needs
+
+pub encode-seq-same-length : (t : ℕ) → encode-seq-lts.Need-same-length (encode-seq-claims t) (encode-seq-at t) encode-seq.Post encode-seq-Inv-loop encode-seq-μ-loop
+encode-seq-same-length t c = c .before .before .before .before .before .encode-field .kept .1 .1 .1 .1 .0 ∙ c .before .before .before .before .before .before .before .before .before .before .before .before .before .before .before .before .loop .inv .same
+
+pub encode-seq-returns : (t : ℕ) → encode-seq-lts.Need-returns (encode-seq-claims t) (encode-seq-at t) encode-seq.Post encode-seq-Inv-loop encode-seq-μ-loop
+encode-seq-returns t c = refuse (c .before .before .before .before .before .encode-field .result .refused) (c .refusal .ensures) (c .before .if1 .taken) (seq-stops (c .before .before .before .before .before .before .before .before .before .before .before .before .before .before .before .before .loop .inv) (c .before .before .before .before .before .before .before .before .before .before .before .before .before .before .load .result) _ _ _ _ (c .before .before .before .before .before .before .before .before .before .before .before .before .before .before .before .loop-test .taken) (c .before .before .before .before .before .before .before .before .before .before .before .before .before .before .load .ensures) (c .before .before .before .before .before .before .before .before .before .before .before .before .end-of .ensures) (c .before .before .before .before .before .before .before .before .before .before .sat-add .ensures) (c .before .before .before .before .before .before .before .before .before .sat-add2 .ensures) (c .before .before .before .before .before .before .before .find .ensures .1) _ (c .before .before .before .before .before .encode-field .ensures .refuses (c .before .if1 .taken)))
+
+pub encode-seq-reserved-width-requires : (t : ℕ) → encode-seq-lts.Need-reserved-width-requires (encode-seq-claims t) (encode-seq-at t) encode-seq.Post encode-seq-Inv-loop encode-seq-μ-loop
+encode-seq-reserved-width-requires t c κs = search needs
+
+pub encode-seq-less-requires : (t : ℕ) → encode-seq-lts.Need-less-requires (encode-seq-claims t) (encode-seq-at t) encode-seq.Post encode-seq-Inv-loop encode-seq-μ-loop
+encode-seq-less-requires t c κs = search needs
+
+pub encode-seq-sat-add-requires-3 : (t : ℕ) → encode-seq-lts.Need-sat-add-requires-3 (encode-seq-claims t) (encode-seq-at t) encode-seq.Post encode-seq-Inv-loop encode-seq-μ-loop
+encode-seq-sat-add-requires-3 t c κs = search needs
+
+pub encode-seq-sat-add-requires-4 : (t : ℕ) → encode-seq-lts.Need-sat-add-requires-4 (encode-seq-claims t) (encode-seq-at t) encode-seq.Post encode-seq-Inv-loop encode-seq-μ-loop
+encode-seq-sat-add-requires-4 t c κs = search needs
+
+pub encode-seq-larger-requires : (t : ℕ) → encode-seq-lts.Need-larger-requires (encode-seq-claims t) (encode-seq-at t) encode-seq.Post encode-seq-Inv-loop encode-seq-μ-loop
+encode-seq-larger-requires t c κs = search needs
+
+pub encode-seq-larger-requires-2 : (t : ℕ) → encode-seq-lts.Need-larger-requires-2 (encode-seq-claims t) (encode-seq-at t) encode-seq.Post encode-seq-Inv-loop encode-seq-μ-loop
+encode-seq-larger-requires-2 t c κs = search needs
+
+pub encode-seq-loop-less : (t : ℕ) → encode-seq-lts.Need-loop-less (encode-seq-claims t) (encode-seq-at t) encode-seq.Post encode-seq-Inv-loop encode-seq-μ-loop
+encode-seq-loop-less t c = omega (arith, c .before .before .before .before .before .before .before .before .before .before .before .before .before .before .before .before .before .end-of .ensures, c .before .before .before .before .before .before .before .before .before .before .before .before .before .before .before .before .before .before .before .before .loop-test .taken)
+
+pub encode-seq-loop-again : (t : ℕ) → encode-seq-lts.Need-loop-again (encode-seq-claims t) (encode-seq-at t) encode-seq.Post encode-seq-Inv-loop encode-seq-μ-loop
+encode-seq-loop-again t c = seq-goes (c .before .before .before .before .before .before .before .before .before .before .before .before .before .before .before .before .before .before .before .before .before .loop .inv) (c .before .before .before .before .before .before .before .before .before .before .before .before .before .before .before .before .before .before .before .load .result) _ _ _ _ (c .before .before .before .before .before .before .before .before .before .before .before .before .before .before .before .before .before .before .before .before .loop-test .taken) (c .before .before .before .before .before .before .before .before .before .before .before .before .before .before .before .before .before .before .before .load .ensures) (c .before .before .before .before .before .before .before .before .before .before .before .before .before .before .before .before .before .end-of .ensures) (c .before .before .before .before .before .before .before .before .before .before .before .before .before .before .before .sat-add .ensures) (c .before .before .before .before .before .before .before .before .before .before .before .before .before .before .sat-add2 .ensures) (c .before .before .before .before .before .before .before .before .before .before .before .before .find .ensures .1) (c .before .before .before .before .before .before .before .before .before .before .encode-field .result) _ _ _ _ _ _ _ (c .before .before .before .before .before .before .before .before .before .before .encode-field .ensures .fine (c .before .before .before .before .before .before .if1 .left)) (c .before .before .before .before .before .before .before .before .before .before .encode-field .kept .1 .1 .1 .1 .0) (c .before .before .before .before .before .reserved-width .ensures) (c .before .before .before .before .less .ensures) (c .before .before .before .sat-add3 .ensures) (c .before .before .sat-add4 .ensures) (c .before .larger .ensures) (c .larger2 .ensures)
+
+pub encode-seq-same-length-2 : (t : ℕ) → encode-seq-lts.Need-same-length-2 (encode-seq-claims t) (encode-seq-at t) encode-seq.Post encode-seq-Inv-loop encode-seq-μ-loop
+encode-seq-same-length-2 t c = c .before .loop .inv .same
+
+pub encode-seq-returns-2 : (t : ℕ) → encode-seq-lts.Need-returns-2 (encode-seq-claims t) (encode-seq-at t) encode-seq.Post encode-seq-Inv-loop encode-seq-μ-loop
+encode-seq-returns-2 t c = fine _ _ (seq-done (c .before .loop .inv) (c .loop-test .left))

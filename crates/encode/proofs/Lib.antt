@@ -1,0 +1,9 @@
+pub mod Steps
+pub mod Turns
+pub mod Asking
+pub mod Spread
+pub mod Alike
+pub mod Joined
+pub mod Fairly
+pub mod Public
+pub mod Locality

@@ -1,0 +1,75 @@
+use mathlib.Core.Path.{_≡_, refl, sym, ap, _∙_, subst}
+use mathlib.Core.Bool.{Bool, true, false}
+use mathlib.Core.Logic.{⊎-elim}
+use mathlib.Core.List.{List, [], _∷_, _++_, map, append-nil, append-assoc}
+use Prim.Native.Nat.{ℕ, zero, suc, _+_, _-_, _*_, _≤_, _<_}
+use native.Mathlib.Omega.{arith}
+use native.Mathlib.Numerals.{add-one}
+use borrow.Author.Tests.{lt-ltb, le-ltb, le-leb, lt-leb, eq-eqb, ne-eqb, eqb-true, eqb-false, ltb-true, ltb-false, leb-true, leb-false}
+use lib.Dec.{eqb, leb, ltb}
+use lib.ListN.{length, take, drop, getD, set, replicate, length-set, length-append, length-take, length-drop, length-replicate, length-map}
+use borrow.Author.Needs.{needs}
+use borrow.Author.Tests.{not-true, not-false}
+use Rattle.layout.specs.Layout.{part}
+use Rattle.items.specs.Items.{values}
+use Rattle.walks.specs.Records.{supplied}
+use Rattle.encode.proofs.Asking.{supplied-end, supplied-not, supplied-go}
+use Rattle.encode.proofs.supplies.Statement.{statement}
+use Rattle.encode.proofs.supplies.Tie as tie
+
+abbrev Inv-loop : tie.InvT-loop
+Inv-loop layout items n to i₀ i = supplied (part layout 0 n) (values items 0 to) ≡ supplied (part layout i n) (values items 0 to)
+
+abbrev μ-loop : tie.MeasureT-loop
+μ-loop layout items n to i₀ i = n - i
+
+loop-holds : tie.Need-loop-holds Inv-loop μ-loop
+loop-holds c = refl
+
+load-requires : tie.Need-load-requires Inv-loop μ-loop
+load-requires c κs = search needs
+
+cast-find : tie.Need-cast-find Inv-loop μ-loop
+cast-find c = search needs
+
+find-requires : tie.Need-find-requires Inv-loop μ-loop
+find-requires c κs = search needs
+
+has-value-requires : tie.Need-has-value-requires Inv-loop μ-loop
+has-value-requires c κs = search needs
+
+returns : tie.Need-returns Inv-loop μ-loop
+returns c = sym (c .before .before .before .before .before .before .loop .inv ∙ supplied-not _ _ _ _ _ _ (c .before .before .before .before .before .loop-test .taken) (c .before .before .before .before .load .result) (c .before .before .before .before .load .ensures) _ (c .before .before .find .ensures .1) _ (c .before .has-value .ensures) (not-true _ (c .if1 .taken)))
+
+cast-end-of : tie.Need-cast-end-of Inv-loop μ-loop
+cast-end-of c = search needs
+
+end-of-requires : tie.Need-end-of-requires Inv-loop μ-loop
+end-of-requires c κs = search needs
+
+loop-less : tie.Need-loop-less Inv-loop μ-loop
+loop-less c = omega (arith, c .end-of .ensures, c .before .before .before .before .before .before .before .loop-test .taken)
+
+loop-again : tie.Need-loop-again Inv-loop μ-loop
+loop-again c = c .before .before .before .before .before .before .before .before .loop .inv ∙ supplied-go _ _ _ _ _ _ (c .before .before .before .before .before .before .before .loop-test .taken) (c .before .before .before .before .before .before .load .result) (c .before .before .before .before .before .before .load .ensures) _ (c .before .before .before .before .find .ensures .1) _ (c .before .before .before .has-value .ensures) (not-false _ (c .before .before .if1 .left)) _ (c .end-of .ensures)
+
+returns-2 : tie.Need-returns-2 Inv-loop μ-loop
+returns-2 c = sym (c .before .loop .inv ∙ supplied-end _ _ _ _ (c .loop-test .left))
+
+pub supplies-spec : {M : Type 1} → statement M
+supplies-spec =
+    tie.close
+    (tie.spec
+    Inv-loop
+    μ-loop
+    loop-holds
+    load-requires
+    cast-find
+    find-requires
+    has-value-requires
+    returns
+    cast-end-of
+    end-of-requires
+    loop-less
+    loop-again
+    returns-2)

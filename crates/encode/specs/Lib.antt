@@ -1,0 +1,3 @@
+-- The questions that the writer asks before its walk; and which bytes of the record a field changes.
+pub mod Asked
+pub mod Local

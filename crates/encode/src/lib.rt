@@ -1,0 +1,292 @@
+// The record writer: a sequence writes fields, a field writes elements, a group element writes a sequence.
+use encode_leaf::Out;
+use encode_leaf::clear;
+use encode_leaf::encode_leaf;
+use encode_leaf::is_single;
+use encode_leaf::larger;
+use encode_leaf::less;
+use encode_leaf::refusal;
+use encode_leaf::room_of;
+use encode_leaf::sat_add;
+use encode_leaf::sat_mul;
+use encode_leaf::settles;
+use encode_leaf::table_length;
+use encode_leaf::takes;
+use items::after;
+use items::check_items;
+use items::fetch;
+use items::find;
+use items::item_end;
+use layout::Entry;
+use layout::check_layout;
+use layout::load;
+use layout::record_length;
+use layout::reserved_width;
+use lists::fill;
+use spans::end_of;
+ghost use mathlib.Core.Path.{_≡_};
+ghost use Prim.Native.Nat.{ℕ, _/_};
+ghost use mathlib.Core.Bool.{_||_};
+ghost use lib.Dec.{eqb, ltb};
+ghost use lib.IntN.{pos};
+ghost use lib.ListN.{length, replicate};
+ghost use Rattle.layout.specs.Layout.{part, entries};
+ghost use Rattle.items.specs.Items.{values};
+ghost use Rattle.walks.specs.Records.{encodeRecord, refusalOf, bytesOf, filled, supplied};
+ghost use Rattle.encode_leaf.specs.Laying.{one, field, start};
+ghost use Rattle.encode_leaf.specs.Machine.{Met, codec, roomIn};
+ghost use Rattle.encode.specs.Asked.{askedOf};
+
+// What writing a record answers: the number that refuses it, or 0 with the record's length.
+pub struct Written {
+    pub number: u32,
+    pub length: usize,
+}
+
+// The entries lo up to hi, one after the other, from a base on, by the items from..to.
+fn encode_seq(
+    layout: &[u32],
+    masks: &[u8],
+    items: &[u64],
+    text: &[u8],
+    rec: &mut [u8],
+    page: u32,
+    lo: usize,
+    hi: usize,
+    from: usize,
+    to: usize,
+    base: u64,
+) -> Out
+    ensures { λ r. ⌜ Met (start (codec (now (masks .entry)) page (now (text .entry))) (roomIn (now (rec .entry))) (part (now (layout .entry)) lo hi) (values (now (items .entry)) from to) base (now (rec .entry))) r (now (rec .exit)) ⌝ }
+{
+    let mut i = lo;
+    let mut shift: u64 = 0;
+    let mut taken: u64 = 0;
+    let mut past: u64 = 0;
+    while i < hi {
+        let e = load(layout, i);
+        let end = end_of(e.span as u64, i, hi);
+        let off = sat_add(e.offset as u64, shift);
+        let at = sat_add(base, off);
+        let j = find(items, e.name as u64, from, to);
+        let o = encode_field(
+            layout,
+            masks,
+            items,
+            text,
+            rec,
+            page,
+            e,
+            i + 1,
+            end,
+            j,
+            to,
+            at,
+        );
+        if o.refused != 0 {
+            return refusal(o.refused);
+        }
+        let grown = less(o.taken, reserved_width(e));
+        shift = sat_add(shift, grown);
+        taken = larger(taken, sat_add(off, o.taken));
+        past = larger(past, o.past);
+        i = end;
+    }
+    Out {
+        refused: 0,
+        past,
+        taken,
+    }
+}
+
+// An entry whose members are the entries lo up to hi, by the first of the items i..to: one element, or the elements of a table.
+fn encode_field(
+    layout: &[u32],
+    masks: &[u8],
+    items: &[u64],
+    text: &[u8],
+    rec: &mut [u8],
+    page: u32,
+    e: Entry,
+    lo: usize,
+    hi: usize,
+    i: usize,
+    to: usize,
+    at: u64,
+) -> Out
+    ensures { λ r. ⌜ Met (field (codec (now (masks .entry)) page (now (text .entry))) (roomIn (now (rec .entry))) e (start (codec (now (masks .entry)) page (now (text .entry))) (roomIn (now (rec .entry))) (part (now (layout .entry)) lo hi)) (values (now (items .entry)) i to) at (now (rec .entry))) r (now (rec .exit)) ⌝ }
+{
+    if is_single(e) {
+        return encode_one(layout, masks, items, text, rec, page, e, lo, hi, i, to, at);
+    }
+    let it = fetch(items, i, to);
+    if !takes(it.tag, 6) {
+        return refusal(13);
+    }
+    let end = item_end(items, i, to);
+    let from = after(i, end);
+    let n = table_length(items, e, from, end);
+    let mut j = from;
+    let mut left = n;
+    let mut taken: u64 = 0;
+    let mut past: u64 = 0;
+    while left > 0 {
+        let p = sat_add(at, taken);
+        let o = encode_one(layout, masks, items, text, rec, page, e, lo, hi, j, end, p);
+        if o.refused != 0 {
+            return refusal(o.refused);
+        }
+        past = larger(past, o.past);
+        if settles(j, end, o.past, o.taken) {
+            return Out {
+                refused: 0,
+                past,
+                taken: sat_add(taken, sat_mul(left, o.taken)),
+            };
+        }
+        taken = sat_add(taken, o.taken);
+        j = item_end(items, j, end);
+        left = left - 1;
+    }
+    Out {
+        refused: 0,
+        past,
+        taken,
+    }
+}
+
+// One element, by the first of the items i..to: a group of the entries lo up to hi, or a scalar or Pad.
+fn encode_one(
+    layout: &[u32],
+    masks: &[u8],
+    items: &[u64],
+    text: &[u8],
+    rec: &mut [u8],
+    page: u32,
+    e: Entry,
+    lo: usize,
+    hi: usize,
+    i: usize,
+    to: usize,
+    at: u64,
+) -> Out
+    ensures { λ r. ⌜ Met (one (codec (now (masks .entry)) page (now (text .entry))) (roomIn (now (rec .entry))) e (start (codec (now (masks .entry)) page (now (text .entry))) (roomIn (now (rec .entry))) (part (now (layout .entry)) lo hi)) (values (now (items .entry)) i to) at (now (rec .entry))) r (now (rec .exit)) ⌝ }
+{
+    let it = fetch(items, i, to);
+    if e.kind != 9 {
+        return encode_leaf(masks, text, rec, page, e, it, at);
+    }
+    if !takes(it.tag, 7) {
+        return refusal(13);
+    }
+    let end = item_end(items, i, to);
+    let from = after(i, end);
+    encode_seq(layout, masks, items, text, rec, page, lo, hi, from, end, at)
+}
+
+// Whether an entry is a Pad, or its name is in the list.
+fn has_value(e: Entry, j: usize, to: usize) -> bool
+    ensures { λ r. ⌜ r ≡ (eqb (e .kind) 6 || ltb j to) ⌝ }
+{
+    if e.kind == 6 {
+        return true;
+    }
+    j < to
+}
+
+// Whether every top-level name but those of Pads is in the list.
+fn supplies(layout: &[u32], items: &[u64]) -> bool
+    ensures { λ r. ⌜ r ≡ supplied (entries (now (layout .entry))) (values (now (items .entry)) 0 (length (now (items .entry)) / 4)) ⌝ }
+{
+    let n = layout.len() / 12;
+    let to = items.len() / 4;
+    let mut i = 0;
+    while i < n {
+        let e = load(layout, i);
+        let j = find(items, e.name as u64, 0, to);
+        if !has_value(e, j, to) {
+            return false;
+        }
+        i = end_of(e.span as u64, i, n);
+    }
+    true
+}
+
+// The questions before the walk: the number of the first that fails, or 0.
+fn asked(
+    layout: &[u32],
+    masks: &[u8],
+    page: u32,
+    items: &[u64],
+    text: &[u8],
+    room: usize,
+    work: usize,
+) -> u32
+    ensures { λ r. ⌜ r ≡ askedOf (now (layout .entry)) (now (masks .entry)) page (now (items .entry)) (now (text .entry)) room work ⌝ }
+{
+    let unlawful = check_layout(layout, masks, page);
+    if unlawful != 0 {
+        return unlawful;
+    }
+    if work < layout.len() / 12 * 2 {
+        return 16;
+    }
+    if !check_items(items, text) {
+        return 11;
+    }
+    if !supplies(layout, items) {
+        return 12;
+    }
+    if room_of(room) < record_length(layout) {
+        return 16;
+    }
+    0
+}
+
+// Writes a record by a layout and a value list: its bytes, and zeros behind them; zeros alone after a refusal.
+pub fn encode_record(
+    layout: &[u32],
+    masks: &[u8],
+    page: u32,
+    items: &[u64],
+    text: &[u8],
+    record: &mut [u8],
+    counts: &mut [i64],
+) -> Written
+    ensures { λ r. ⌜ r .number ≡ refusalOf (encodeRecord (now (layout .entry)) (now (masks .entry)) page (now (items .entry)) (now (text .entry)) (length (now («record» .entry))) (length (now (counts .entry)))) ⌝ }
+    ensures { λ r. ⌜ r .length ≡ length (bytesOf (encodeRecord (now (layout .entry)) (now (masks .entry)) page (now (items .entry)) (now (text .entry)) (length (now («record» .entry))) (length (now (counts .entry))))) ⌝ }
+    ensures { λ _. ⌜ now («record» .exit) ≡ filled (length (now («record» .entry))) (bytesOf (encodeRecord (now (layout .entry)) (now (masks .entry)) page (now (items .entry)) (now (text .entry)) (length (now («record» .entry))) (length (now (counts .entry))))) ⌝ }
+    ensures { λ _. ⌜ now (counts .exit) ≡ replicate (length (now (counts .entry))) (pos 0) ⌝ }
+{
+    let number = asked(layout, masks, page, items, text, record.len(), counts.len());
+    clear(record, counts);
+    if number != 0 {
+        return Written { number, length: 0 };
+    }
+    let o = encode_seq(
+        layout,
+        masks,
+        items,
+        text,
+        record,
+        page,
+        0,
+        layout.len() / 12,
+        0,
+        items.len() / 4,
+        0,
+    );
+    if o.refused != 0 {
+        fill(record, 0);
+        return Written {
+            number: o.refused,
+            length: 0,
+        };
+    }
+    let least = record_length(layout);
+    let length = larger(least, less(o.past, 1));
+    Written {
+        number: 0,
+        length: length as usize,
+    }
+}

@@ -1,0 +1,186 @@
+-- One scalar or Pad, judged and put into its stretch of the record.
+use mathlib.Core.Path.{_≡_, refl, sym, ap, ap₂, _∙_}
+use mathlib.Core.Bool.{Bool, true, false, _&&_, not, cond}
+use mathlib.Core.List.{List, [], _∷_, _++_}
+use Prim.Native.Nat.{ℕ, zero, suc, _+_, _-_, _*_, _/_, _<_, _≤_, min}
+use native.Mathlib.Omega.{arith}
+use native.Mathlib.Numerals.{add-one}
+use native.Mathlib.Decide.{decLt}
+use native.Mathlib.Nat.{le-div-iff-mul-le}
+use lib.Dec.{eqb, leb}
+use lib.ListN.{length, take, drop, length-drop, drop-of-length-le}
+use lib.Seq.{take-all, take-nil}
+use borrow.Author.Tests.{ne-eqb, eq-eqb, lt-leb, le-leb}
+use Rattle.lists.proofs.Part.{in-whole}
+use Rattle.layout.specs.declared.Entry.{Entry}
+use Rattle.items.specs.declared.Item.{Item}
+use Rattle.value.specs.declared.Scalar.{Scalar}
+use Rattle.encode_scalar.specs.Encode.{judgedOf, bytesOf, numberJudged, numberBytes, partAfter}
+use Rattle.encode_scalar.proofs.Parts.{whole}
+use Rattle.walks.specs.Walk.{single, Coded, unfit, bytes}
+use Rattle.walks.specs.Writing.{lay}
+use Rattle.walks.specs.Kinds.{maskOf, textOf, scalarIn, codedOf, enc}
+use Rattle.encode_leaf.specs.Laying.{sat, Laid, refused, laid, coded, leaf}
+use Rattle.encode_leaf.specs.Machine.{codec, roomIn, putting, putWidth, judged, bytesIn}
+use Rattle.encode_leaf.proofs.Widths.{by-kind, wide}
+
+-- ---- products that stop
+
+pub product-fits : (a b : ℕ) → (b ≡ 0 → ⊥) → a ≤ 9223372036854775808 / b → a * b ≤ 9223372036854775808
+product-fits a b h k = le-div-iff-mul-le {k = b} {x = a} {y = 9223372036854775808} (omega arith) .0 k
+
+pub product-stops : (a b : ℕ) → (b ≡ 0 → ⊥) → 9223372036854775808 / b < a → 9223372036854775808 ≡ sat (a * b)
+product-stops a b h k = go (decLt 9223372036854775808 (a * b))
+  where
+    go : Dec (9223372036854775808 < a * b) → 9223372036854775808 ≡ sat (a * b)
+    go (yes l) = omega arith
+    go (no l) =
+        let m : a * b ≤ 9223372036854775808 = omega arith in
+        let n : a ≤ 9223372036854775808 / b = le-div-iff-mul-le {k = b} {x = a} {y = 9223372036854775808} (omega arith) .1 m in
+        absurd (omega (arith, n, k))
+
+-- ---- a part of a list, its ends kept inside
+
+pub clipped : (xs : List ℕ) (a n m k : ℕ) → m ≡ min (length xs) a → k ≡ min (length xs - m) n → take (m + k - m) (drop m xs) ≡ take n (drop a xs)
+clipped xs a n m k p q = go (decLt (length xs) a)
+  where
+    all : a ≤ length xs → length (drop a xs) ≤ k → length (drop a xs) ≤ n → take k (drop a xs) ≡ take n (drop a xs)
+    all h u v = take-all k (drop a xs) u ∙ sym (take-all n (drop a xs) v)
+
+    short : a ≤ length xs → Dec (length xs - a < n) → take k (drop a xs) ≡ take n (drop a xs)
+    short h (yes l) = all h (omega (arith, length-drop a xs)) (omega (arith, length-drop a xs))
+    short h (no l) = let z : k ≡ n = omega arith in ap (λ i. take i (drop a xs)) z
+
+    go : Dec (length xs < a) → take (m + k - m) (drop m xs) ≡ take n (drop a xs)
+    go (yes h) =
+        rw (drop-of-length-le xs {i = m} (omega arith), drop-of-length-le xs {i = a} (omega arith)) (take-nil (m + k - m) ∙ sym (take-nil n))
+    go (no h) =
+        let z : m ≡ a = omega arith in
+        let y : m + k - m ≡ k = omega arith in
+        ap₂ (λ i j. take i (drop j xs)) y z ∙ short (omega arith) (decLt (length xs - a) n)
+
+text-clipped : (text : List ℕ) (it : Item) (b : Bool) → take (cond b (it .b) 0) (drop (it .a) text) ≡ cond b (take (it .b) (drop (it .a) text)) []
+text-clipped text it true = refl
+text-clipped text it false = refl
+
+-- ---- the same at the width that is put
+
+module _ (p q r s : ℕ) (mask : List ℕ) (page w tag : ℕ) (v : Scalar) (t : List ℕ) where
+  other-judged : (kind : ℕ) → 8 < kind → judgedOf kind p q r s mask (putting kind w) tag v t ≡ judgedOf kind p q r s mask w tag v t
+  unfolding judgedOf numberJudged
+  other-judged kind k =
+      rw (
+        ne-eqb kind 0 (λ e. omega arith),
+        ne-eqb kind 1 (λ e. omega arith),
+        ne-eqb kind 2 (λ e. omega arith),
+        ne-eqb kind 3 (λ e. omega arith),
+        ne-eqb kind 4 (λ e. omega arith),
+        ne-eqb kind 5 (λ e. omega arith),
+        ne-eqb kind 6 (λ e. omega arith),
+        ne-eqb kind 7 (λ e. omega arith),
+        ne-eqb kind 8 (λ e. omega arith),
+      ) refl
+
+  other-bytes : (kind : ℕ) → 8 < kind → bytesOf kind p q r mask page (putting kind w) v t ≡ bytesOf kind p q r mask page w v t
+  unfolding bytesOf numberBytes
+  other-bytes kind k =
+      rw (
+        ne-eqb kind 0 (λ e. omega arith),
+        ne-eqb kind 1 (λ e. omega arith),
+        ne-eqb kind 2 (λ e. omega arith),
+        ne-eqb kind 3 (λ e. omega arith),
+        ne-eqb kind 4 (λ e. omega arith),
+        ne-eqb kind 5 (λ e. omega arith),
+        ne-eqb kind 6 (λ e. omega arith),
+        ne-eqb kind 7 (λ e. omega arith),
+        ne-eqb kind 8 (λ e. omega arith),
+      ) refl
+
+  same-judged : (kind : ℕ) → judgedOf kind p q r s mask (putting kind w) tag v t ≡ judgedOf kind p q r s mask w tag v t
+  unfolding judgedOf numberJudged
+  same-judged = by-kind (λ kind. judgedOf kind p q r s mask (putting kind w) tag v t ≡ judgedOf kind p q r s mask w tag v t) refl refl refl refl refl refl refl refl refl other-judged
+
+  same-bytes : (kind : ℕ) → bytesOf kind p q r mask page (putting kind w) v t ≡ bytesOf kind p q r mask page w v t
+  unfolding bytesOf numberBytes
+  same-bytes = by-kind (λ kind. bytesOf kind p q r mask page (putting kind w) v t ≡ bytesOf kind p q r mask page w v t) refl refl refl refl refl refl refl refl refl other-bytes
+
+-- ---- judging, and putting what was judged
+
+pub bytes-long : (masks : List ℕ) (page : ℕ) (text : List ℕ) (e : Entry) (it : Item) → judged masks text e it ≡ 0 → length (bytesIn masks page text e it) ≡ putWidth e
+bytes-long masks page text e it j = wide (e .p) (e .q) (e .r) (e .s) (maskOf masks e) page (e .width) (it .tag) (scalarIn it) (textOf text it) (e .kind) j
+
+module _ (masks text : List ℕ) (e : Entry) (it : Item) (m n a size b : ℕ) (p : m ≡ min (length masks) (e .mask)) (q : n ≡ min (length masks - m) (e .width))
+    (u : a ≡ min (length text) (it .a)) (z : size ≡ cond (eqb (it .tag) 1) (it .b) 0) (v : b ≡ min (length text - a) size) where
+  mask-is : take (m + n - m) (drop m masks) ≡ maskOf masks e
+  mask-is = clipped masks (e .mask) (e .width) m n p q
+
+  text-is : take (a + b - a) (drop a text) ≡ textOf text it
+  text-is = clipped text (it .a) size a b u v ∙ ap (λ i. take i (drop (it .a) text)) z ∙ text-clipped text it (eqb (it .tag) 1)
+
+  pub judge-is : (r : ℕ) → r ≡ judgedOf (e .kind) (e .p) (e .q) (e .r) (e .s) (take (m + n - m) (drop m masks)) (e .width) (it .tag) (scalarIn it) (take (a + b - a) (drop a text)) → r ≡ judged masks text e it
+  judge-is r h = h ∙ ap₂ (λ x y. judgedOf (e .kind) (e .p) (e .q) (e .r) (e .s) x (e .width) (it .tag) (scalarIn it) y) mask-is text-is
+
+  pub put-is : (page : ℕ) (part last : List ℕ) → judged masks text e it ≡ 0 → length part ≡ putWidth e
+      → last ≡ partAfter (judgedOf (e .kind) (e .p) (e .q) (e .r) (e .s) (take (m + n - m) (drop m masks)) (length part) (it .tag) (scalarIn it) (take (a + b - a) (drop a text)))
+      (bytesOf (e .kind) (e .p) (e .q) (e .r) (take (m + n - m) (drop m masks)) page (length part) (scalarIn it) (take (a + b - a) (drop a text))) part
+      → last ≡ bytesIn masks page text e it
+  put-is page part last j l h =
+      h ∙ ap₂ (λ x y. partAfter x y part)
+      (ap₂ (λ x y. judgedOf (e .kind) (e .p) (e .q) (e .r) (e .s) x (length part) (it .tag) (scalarIn it) y) mask-is text-is
+      ∙ ap (λ w. judgedOf (e .kind) (e .p) (e .q) (e .r) (e .s) (maskOf masks e) w (it .tag) (scalarIn it) (textOf text it)) l
+      ∙ same-judged (e .p) (e .q) (e .r) (e .s) (maskOf masks e) page (e .width) (it .tag) (scalarIn it) (textOf text it) (e .kind) ∙ j)
+      (ap₂ (λ x y. bytesOf (e .kind) (e .p) (e .q) (e .r) x page (length part) (scalarIn it) y) mask-is text-is
+      ∙ ap (λ w. bytesOf (e .kind) (e .p) (e .q) (e .r) (maskOf masks e) page w (scalarIn it) (textOf text it)) l
+      ∙ same-bytes (e .p) (e .q) (e .r) (e .s) (maskOf masks e) page (e .width) (it .tag) (scalarIn it) (textOf text it) (e .kind))
+      ∙ sym (whole (bytesIn masks page text e it) part (bytes-long masks page text e it j ∙ sym l))
+
+-- ---- the whole leaf
+
+module _ (masks text : List ℕ) (page : ℕ) (e : Entry) (it : Item) (at : ℕ) (b : List ℕ) (room n : ℕ) (j : n ≡ judged masks text e it) where
+  pub leaf-unfit : (n ≡ 0 → ⊥) → leaf (codec masks page text) room e it at b ≡ refused n
+  unfolding leaf enc
+  leaf-unfit h = rw (← j, ne-eqb n 0 h) refl
+
+  module _ (z : n ≡ 0) where
+    fits : judged masks text e it ≡ 0
+    fits = sym j ∙ z
+
+    leaf-coded : leaf (codec masks page text) room e it at b ≡ coded room (e .width) at b (bytes (bytesIn masks page text e it))
+    unfolding leaf enc
+    leaf-coded = rw fits refl
+
+    module _ (width r : ℕ) (w : width ≡ putWidth e) (q : r ≡ room) (t : Bool) (p : t ≡ leb (at + width) r) where
+      long : length (bytesIn masks page text e it) ≡ width
+      long = bytes-long masks page text e it fits ∙ sym w
+
+      test : (x : Bool) → t ≡ x → leb (at + length (bytesIn masks page text e it)) room ≡ x
+      test x f = ap₂ (λ i k. leb (at + i) k) long (sym q) ∙ sym p ∙ f
+
+      pub leaf-out : t ≡ false → leaf (codec masks page text) room e it at b ≡ refused 16
+      leaf-out f = leaf-coded ∙ rw (test false f) refl
+
+      pub leaf-put : t ≡ true → (ys : List ℕ) → ys ≡ bytesIn masks page text e it
+          → leaf (codec masks page text) room e it at b ≡ laid (take at b ++ (ys ++ drop (at + width - at) (drop at b))) (at + width + 1) (e .width)
+      leaf-put f ys y =
+          leaf-coded ∙ rw (test true f) (ap₂ (λ c k. laid c k (e .width)) same (ap (λ i. suc (at + i)) long ∙ sym (add-one (at + width))))
+        where
+          same : lay b at (bytesIn masks page text e it) ≡ take at b ++ (ys ++ drop (at + width - at) (drop at b))
+          same = ap (λ i. take at b ++ (bytesIn masks page text e it ++ drop (at + i) b)) long
+              ∙ sym (in-whole at width b (bytesIn masks page text e it)) ∙ ap (λ l. take at b ++ (l ++ drop (at + width - at) (drop at b))) (sym y)
+
+-- ---- tests
+
+pub leb-shift : (room at width : ℕ) → at ≤ room → leb width (room - at) ≡ leb (at + width) room
+leb-shift room at width h = go (decLt room (at + width))
+  where
+    go : Dec (room < at + width) → leb width (room - at) ≡ leb (at + width) room
+    go (yes k) = lt-leb width (room - at) (omega arith) ∙ sym (lt-leb (at + width) room k)
+    go (no k) = le-leb width (room - at) (omega arith) ∙ sym (le-leb (at + width) room (omega arith))
+
+pub single-by : (e : Entry) → e .occurs ≡ 4294967295 → eqb (e .depending) 4294967295 ≡ single e
+unfolding single
+single-by e h = rw (eq-eqb (e .occurs) 4294967295 h) (twice (eqb (e .depending) 4294967295))
+  where
+    twice : (b : Bool) → b ≡ not (not b)
+    twice true = refl
+    twice false = refl

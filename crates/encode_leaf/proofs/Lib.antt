@@ -1,0 +1,4 @@
+pub mod Widths
+pub mod Meets
+pub mod Leaves
+pub mod Zeros

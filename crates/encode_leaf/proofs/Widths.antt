@@ -1,0 +1,129 @@
+-- The bytes of a scalar or Pad that is not refused: one of a Bool, and of all others as many as the field is wide.
+use mathlib.Core.Path.{_≡_, refl, sym, ap, _∙_}
+use mathlib.Core.Bool.{Bool, true, false, _&&_, cond, false≢true}
+use mathlib.Core.List.{List, [], _∷_, map}
+use Prim.Native.Nat.{ℕ, zero, suc, _+_, _%_, _≤_, _<_}
+use native.Mathlib.Omega.{arith}
+use lib.Dec.{eqb, leb}
+use lib.ListN.{length}
+use borrow.Author.Tests.{ne-eqb, eqb-true, leb-true, lt-leb}
+use Rattle.value.specs.declared.Scalar.{Scalar}
+use Rattle.value.specs.declared.Number.{Number}
+use Rattle.value.specs.declared.Number.the-variants.{Of, Bad, Big}
+use Rattle.text.specs.Shown.{Shows, shows, none, textIn, refusalAt}
+use Rattle.text.proofs.Back.{written-length, padded-length}
+use Rattle.display.specs.Display.{wholeIn, intFits}
+use Rattle.binary.specs.Binary.{widthOk}
+use Rattle.float.specs.declared.Floated.{Floated}
+use Rattle.float.specs.declared.Floated.the-variants.{Word, Refused as Unfloated}
+use Rattle.float.specs.Convert.{floatedOf, decimalFor}
+use Rattle.float.specs.Field.{fieldOk}
+use Rattle.hex.proofs.Back as HexBack
+use Rattle.edited.specs.Edited as Edited
+use Rattle.edited.proofs.Round as EditedRound
+use Rattle.decode_scalar.specs.Decode.{flag}
+use Rattle.encode_scalar.specs.Encode.{textBytes, intJudged, intWritten, binaryJudged, binaryWritten, floatJudged, floatWritten, hexText, hexJudged, hexWritten, boolIn, decimalFit, decimalJudged, decimalWritten, editedWritten, numberJudged, numberBytes, judgedOf, bytesOf}
+use Rattle.encode_scalar.proofs.Parts.{int-length, binary-length, float-length, decimal-length}
+use Rattle.encode_leaf.specs.Machine.{putting}
+
+passed : (b : Bool) → _≡_ {A = ℕ} (cond b 0 14) 0 → b ≡ true
+passed true h = refl
+passed false h = absurd (omega (arith, h))
+
+tagged : (b : Bool) (n : ℕ) → cond b 13 n ≡ 0 → n ≡ 0
+tagged true n h = absurd (omega (arith, h))
+tagged false n h = h
+
+-- ---- each kind
+
+text-wide : (page : ℕ) (right : Bool) (pad w : ℕ) (s : Shows) → refusalAt w s ≡ 0 → length (textBytes page right pad w s) ≡ w
+text-wide page right pad w (shows t) h = written-length page right pad w t (leb-true (length t) w (passed (leb (length t) w) h))
+text-wide page right pad w none h = absurd (omega (arith, h))
+
+int-wide : (page w : ℕ) (signed : Bool) (sign : ℕ) (n : Number) → intJudged w signed sign n ≡ 0 → length (intWritten page w sign n) ≡ w
+int-wide page w signed sign (Of negative size) h = int-length page w negative size signed sign (passed (intFits w negative size signed sign) h)
+int-wide page w signed sign Bad h = absurd (omega (arith, h))
+int-wide page w signed sign Big h = absurd (omega (arith, h))
+
+binary-wide : (order w : ℕ) (n : Number) → binaryJudged w n ≡ 0 → length (binaryWritten order w n) ≡ w
+binary-wide order w (Of negative size) h = binary-length order w negative size
+binary-wide order w Bad h = absurd (omega (arith, h))
+binary-wide order w Big h = absurd (omega (arith, h))
+
+float-wide : (order bits w : ℕ) (f : Floated) → floatJudged bits w f ≡ 0 → length (floatWritten order bits w f) ≡ w
+float-wide order bits w (Word x) h = float-length order bits w x
+float-wide order bits w Unfloated h = absurd (omega (arith, h))
+
+hex-wide : (order w : ℕ) (s : Shows) → hexJudged w s ≡ 0 → length (hexWritten order w s) ≡ w
+hex-wide order w (shows t) h = HexBack.bytes-length order w t h
+hex-wide order w none h = absurd (omega (arith, h))
+
+decimal-wide : (p q s page w : ℕ) (n : Number) → decimalJudged p q s w n ≡ 0 → length (decimalWritten p q page w n) ≡ w
+decimal-wide p q s page w (Of negative size) h = decimal-length p q s page w negative size (passed (decimalFit p q s w negative size) h)
+decimal-wide p q s page w Bad h = absurd (omega (arith, h))
+decimal-wide p q s page w Big h = absurd (omega (arith, h))
+
+edited-same : (w n : ℕ) (mask : List ℕ) → cond (eqb n 0) (cond (eqb w (length mask)) 0 14) n ≡ 0 → length mask ≡ w
+edited-same w n mask h = by (eqb n 0) refl h
+  where
+    by : (b : Bool) → eqb n 0 ≡ b → cond b (cond (eqb w (length mask)) 0 14) n ≡ 0 → length mask ≡ w
+    by true e k = sym (eqb-true w (length mask) (passed (eqb w (length mask)) k))
+    by false e k = absurd (false≢true (sym e ∙ ap (λ m. eqb m 0) k))
+
+edited-wide : (page w : ℕ) (mask : List ℕ) (n : Number) → Edited.answerOf w mask n ≡ 0 → length (editedWritten page mask n) ≡ w
+unfolding Edited.judged
+edited-wide page w mask (Of negative size) h = EditedRound.page-length page negative size mask ∙ edited-same w (Edited.judged mask (Of negative size)) mask h
+edited-wide page w mask Bad h = absurd (omega (arith, h))
+edited-wide page w mask Big h = absurd (by (Edited.isFloating mask) h)
+  where
+    by : (b : Bool) → cond {A = ℕ} (eqb (cond b 15 14) 0) (cond (eqb w (length mask)) 0 14) (cond b 15 14) ≡ zero → ⊥
+    by true k = omega (arith, k)
+    by false k = omega (arith, k)
+
+-- ---- all kinds
+
+pub by-kind : (P : ℕ → Type 0) → P 0 → P 1 → P 2 → P 3 → P 4 → P 5 → P 6 → P 7 → P 8 → ((k : ℕ) → 8 < k → P k) → (k : ℕ) → P k
+by-kind P a b c d e f g h i j zero = a
+by-kind P a b c d e f g h i j (suc zero) = b
+by-kind P a b c d e f g h i j (suc (suc zero)) = c
+by-kind P a b c d e f g h i j (suc (suc (suc zero))) = d
+by-kind P a b c d e f g h i j (suc (suc (suc (suc zero)))) = e
+by-kind P a b c d e f g h i j (suc (suc (suc (suc (suc zero))))) = f
+by-kind P a b c d e f g h i j (suc (suc (suc (suc (suc (suc zero)))))) = g
+by-kind P a b c d e f g h i j (suc (suc (suc (suc (suc (suc (suc zero))))))) = h
+by-kind P a b c d e f g h i j (suc (suc (suc (suc (suc (suc (suc (suc zero)))))))) = i
+by-kind P a b c d e f g h i j (suc (suc (suc (suc (suc (suc (suc (suc (suc k))))))))) = j (suc (suc (suc (suc (suc (suc (suc (suc (suc k))))))))) (omega arith)
+
+module _ (p q r s : ℕ) (mask : List ℕ) (page w tag : ℕ) (v : Scalar) (t : List ℕ) where
+  abbrev Wide : ℕ → Type 0
+  Wide kind = judgedOf kind p q r s mask w tag v t ≡ 0 → length (bytesOf kind p q r mask page w v t) ≡ putting kind w
+
+  other : (kind : ℕ) → 8 < kind → Wide kind
+  unfolding bytesOf numberBytes
+  other kind k h =
+      rw (
+        ne-eqb kind 0 (λ e. omega arith),
+        ne-eqb kind 1 (λ e. omega arith),
+        ne-eqb kind 2 (λ e. omega arith),
+        ne-eqb kind 3 (λ e. omega arith),
+        ne-eqb kind 4 (λ e. omega arith),
+        ne-eqb kind 5 (λ e. omega arith),
+        ne-eqb kind 6 (λ e. omega arith),
+        ne-eqb kind 7 (λ e. omega arith),
+        ne-eqb kind 8 (λ e. omega arith),
+        lt-leb kind 8 k,
+      ) refl
+
+  pub wide : (kind : ℕ) → Wide kind
+  unfolding judgedOf bytesOf numberJudged numberBytes
+  wide = by-kind Wide
+      (λ h. text-wide page (flag p) (r % 256) w (textIn v t) h)
+      (λ h. int-wide page w (flag p) q (wholeIn v t) (tagged (leb 6 tag) _ h))
+      (λ h. binary-wide p w (wholeIn v t) (tagged (leb 6 tag) _ h))
+      (λ h. float-wide p q w (floatedOf v) (tagged (leb 6 tag) _ h))
+      (λ h. hex-wide p w (hexText v t) (tagged (leb 6 tag) _ h))
+      (λ h. refl)
+      (λ h. padded-length page (r % 256) w)
+      (λ h. decimal-wide p q s page w (decimalFor v r) (tagged (leb 6 tag) _ h))
+      (λ h. edited-wide page w mask (decimalFor v r) (tagged (leb 6 tag) _ h))
+      other

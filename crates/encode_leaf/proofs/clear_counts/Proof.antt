@@ -1,0 +1,60 @@
+use mathlib.Core.Path.{_≡_, refl, sym, ap, _∙_, subst}
+use mathlib.Core.Bool.{Bool, true, false}
+use mathlib.Core.Logic.{⊎-elim}
+use mathlib.Core.List.{List, [], _∷_, _++_, map, append-nil, append-assoc}
+use Prim.Native.Nat.{ℕ, zero, suc, _+_, _-_, _*_, _≤_, _<_}
+use native.Mathlib.Omega.{arith}
+use native.Mathlib.Numerals.{add-one}
+use borrow.Author.Tests.{lt-ltb, le-ltb, le-leb, lt-leb, eq-eqb, ne-eqb, eqb-true, eqb-false, ltb-true, ltb-false, leb-true, leb-false}
+use lib.Dec.{eqb, leb, ltb}
+use lib.ListN.{length, take, drop, getD, set, replicate, length-set, length-append, length-take, length-drop, length-replicate, length-map}
+use borrow.Author.Needs.{needs}
+use lib.IntN.{ℤ, pos}
+use Rattle.encode_leaf.proofs.Zeros.{zeros-more, zeros-end}
+use Rattle.encode_leaf.proofs.clear_counts.Statement.{statement}
+use Rattle.encode_leaf.proofs.clear_counts.Tie as tie
+
+abbrev Inv-loop : tie.InvT-loop
+Inv-loop counts₀ i₀ counts i = (i ≤ length counts₀) × ((counts ≡ replicate i (pos 0) ++ drop i counts₀) × (length counts ≡ length counts₀))
+
+abbrev μ-loop : tie.MeasureT-loop
+μ-loop counts₀ i₀ counts i = length counts₀ - i
+
+loop-holds : tie.Need-loop-holds Inv-loop μ-loop
+loop-holds c = (omega arith, (refl, refl))
+
+mul-counts : tie.Need-mul-counts Inv-loop μ-loop
+mul-counts c = omega arith
+
+slice-set-of-counts : tie.Need-slice-set-of-counts Inv-loop μ-loop
+slice-set-of-counts c = omega arith
+
+add-i : tie.Need-add-i Inv-loop μ-loop
+add-i c = omega arith
+
+loop-less : tie.Need-loop-less Inv-loop μ-loop
+loop-less c = omega arith
+
+loop-again : tie.Need-loop-again Inv-loop μ-loop
+loop-again c = (omega arith, (rw (c .before .loop .inv .1 .0) (zeros-more (pos 0) (c .before .loop .i) (c .before .before .args .counts .now) (omega arith)), simp length-set (c .before .loop .inv .1 .1)))
+
+same-length : tie.Need-same-length Inv-loop μ-loop
+same-length c = c .before .loop .inv .1 .1
+
+returns : tie.Need-returns Inv-loop μ-loop
+returns c = c .before .loop .inv .1 .0 ∙ zeros-end (pos 0) (c .before .loop .i) (c .before .before .args .counts .now) (omega arith)
+
+pub clear-counts-spec : {M : Type 1} → statement M
+clear-counts-spec =
+    tie.close
+    (tie.spec
+    Inv-loop
+    μ-loop
+    loop-holds
+    mul-counts
+    slice-set-of-counts
+    add-i
+    loop-less
+    loop-again
+    same-length
+    returns)

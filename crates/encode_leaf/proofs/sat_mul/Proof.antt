@@ -1,0 +1,34 @@
+use mathlib.Core.Path.{_≡_, refl, sym, ap, _∙_, subst}
+use mathlib.Core.Bool.{Bool, true, false}
+use mathlib.Core.Logic.{⊎-elim}
+use mathlib.Core.List.{List, [], _∷_, _++_, map, append-nil, append-assoc}
+use Prim.Native.Nat.{ℕ, zero, suc, _+_, _-_, _*_, _≤_, _<_}
+use native.Mathlib.Omega.{arith}
+use native.Mathlib.Numerals.{add-one}
+use borrow.Author.Tests.{lt-ltb, le-ltb, le-leb, lt-leb, eq-eqb, ne-eqb, eqb-true, eqb-false, ltb-true, ltb-false, leb-true, leb-false}
+use lib.Dec.{eqb, leb, ltb}
+use lib.ListN.{length, take, drop, getD, set, replicate, length-set, length-append, length-take, length-drop, length-replicate, length-map}
+use native.Mathlib.Nat.{mul-zero}
+use Rattle.encode_leaf.specs.Laying.{sat}
+use Rattle.encode_leaf.proofs.Leaves.{product-fits, product-stops}
+use borrow.Author.Needs.{needs}
+use Rattle.encode_leaf.proofs.sat_mul.Statement.{statement}
+use Rattle.encode_leaf.proofs.sat_mul.Tie as tie
+
+returns : tie.Need-returns
+returns c = rw (c .if1 .taken, mul-zero (c .before .args .a)) refl
+
+div-if2 : tie.Need-div-if2
+div-if2 c = search needs
+
+mul-result : tie.Need-mul-result
+mul-result c = record { fits = omega (arith, product-fits (c .before .before .args .a) (c .before .before .args .b) (c .before .if1 .left) (c .if2 .taken)) }
+
+returns-2 : tie.Need-returns-2
+returns-2 c = omega (arith, product-fits (c .before .before .args .a) (c .before .before .args .b) (c .before .if1 .left) (c .if2 .taken))
+
+returns-3 : tie.Need-returns-3
+returns-3 c = product-stops (c .before .before .args .a) (c .before .before .args .b) (c .before .if1 .left) (c .if2 .left)
+
+pub sat-mul-spec : {M : Type 1} → statement M
+sat-mul-spec = tie.close (tie.spec returns div-if2 mul-result returns-2 returns-3)

@@ -1,0 +1,31 @@
+use mathlib.Core.Path.{_≡_, refl, sym, ap, _∙_, subst}
+use mathlib.Core.Bool.{Bool, true, false}
+use mathlib.Core.Logic.{⊎-elim}
+use mathlib.Core.List.{List, [], _∷_, _++_, map, append-nil, append-assoc}
+use Prim.Native.Nat.{ℕ, zero, suc, _+_, _-_, _*_, _≤_, _<_}
+use native.Mathlib.Omega.{arith}
+use native.Mathlib.Numerals.{add-one}
+use borrow.Author.Tests.{lt-ltb, le-ltb, le-leb, lt-leb, eq-eqb, ne-eqb, eqb-true, eqb-false, ltb-true, ltb-false, leb-true, leb-false}
+use lib.Dec.{eqb, leb, ltb}
+use lib.ListN.{length, take, drop, getD, set, replicate, length-set, length-append, length-take, length-drop, length-replicate, length-map}
+use Rattle.walks.specs.Writing.{tableLength}
+use borrow.Author.Needs.{needs}
+use Rattle.encode_leaf.proofs.table_length.Statement.{statement}
+use Rattle.encode_leaf.proofs.table_length.Tie as tie
+
+cast-result : tie.Need-cast-result
+cast-result c = search needs
+
+returns : tie.Need-returns
+unfolding tableLength
+returns c = simp (eq-eqb _ _ (c .before .if1 .taken))
+
+members-requires : tie.Need-members-requires
+members-requires c κs = search needs
+
+returns-2 : tie.Need-returns-2
+unfolding tableLength
+returns-2 c = simp (ne-eqb _ _ (c .before .if1 .left)) (c .members .ensures)
+
+pub table-length-spec : {M : Type 1} → statement M
+table-length-spec = tie.close (tie.spec cast-result returns members-requires returns-2)

@@ -1,0 +1,268 @@
+// The parts of the record writer: sums that stop, and one scalar or Pad put into the record.
+use items::Item;
+use items::members;
+use layout::Entry;
+use lists::fill;
+ghost use mathlib.Core.Path.{_≡_};
+ghost use mathlib.Core.Bool.{Bool, true, false, _||_, _&&_, cond};
+ghost use mathlib.Core.List.{List};
+ghost use Prim.Native.Nat.{ℕ, _+_, _-_, _*_, _≤_, min, max};
+ghost use lib.IntN.{pos};
+ghost use lib.Dec.{eqb, leb};
+ghost use lib.ListN.{length, replicate};
+ghost use Rattle.items.specs.Items.{values};
+ghost use Rattle.walks.specs.Walk.{single};
+ghost use Rattle.walks.specs.Writing.{lay, tableLength};
+ghost use Rattle.encode_leaf.specs.Laying.{sat, leaf};
+ghost use Rattle.encode_leaf.specs.Machine.{Met, codec, roomIn, putWidth, judged, bytesIn, taking};
+
+// What a part of the walk came to: the number that refuses it, or 0 with one more than the furthest end of what was put, 0 where
+// nothing was, and the bytes taken.
+pub struct Out {
+    pub refused: u32,
+    pub past: u64,
+    pub taken: u64,
+}
+
+pub fn refusal(n: u32) -> Out
+    ensures { λ r. ⌜ r .refused ≡ n ⌝ }
+{
+    Out {
+        refused: n,
+        past: 0,
+        taken: 0,
+    }
+}
+
+// ---- positions
+
+// A sum that stops at 2^63.
+pub fn sat_add(a: u64, b: u64) -> u64
+    ensures { λ r. ⌜ r ≡ sat (a + b) ⌝ }
+{
+    if a < 9223372036854775808 {
+        if b < 9223372036854775808 - a {
+            a + b
+        } else {
+            9223372036854775808
+        }
+    } else {
+        9223372036854775808
+    }
+}
+
+// A product that stops at 2^63.
+pub fn sat_mul(a: u64, b: u64) -> u64
+    ensures { λ r. ⌜ r ≡ sat (a * b) ⌝ }
+{
+    if b == 0 {
+        return 0;
+    }
+    if a <= 9223372036854775808 / b {
+        return a * b;
+    }
+    9223372036854775808
+}
+
+pub fn less(a: u64, b: u64) -> u64
+    ensures { λ r. ⌜ r ≡ a - b ⌝ }
+{
+    if b <= a { a - b } else { 0 }
+}
+
+pub fn larger(a: u64, b: u64) -> u64
+    ensures { λ r. ⌜ r ≡ max a b ⌝ }
+{
+    if a <= b { b } else { a }
+}
+
+// ---- tables
+
+pub fn is_single(e: Entry) -> bool
+    ensures { λ r. ⌜ r ≡ single e ⌝ }
+{
+    if e.occurs != 4294967295 {
+        return false;
+    }
+    e.depending == 4294967295
+}
+
+// Whether a value of this tag is of the wanted one, or Null.
+pub fn takes(tag: u64, wanted: u64) -> bool
+    ensures { λ r. ⌜ r ≡ taking tag wanted ⌝ }
+{
+    if tag == wanted {
+        return true;
+    }
+    tag == 0
+}
+
+// How many elements a table has: occurs, or under depending as many as the items from..to.
+pub fn table_length(items: &[u64], e: Entry, from: usize, to: usize) -> u64
+    ensures { λ r. ⌜ r ≡ tableLength e (values (now (items .entry)) from to) ⌝ }
+{
+    if e.depending == 4294967295 {
+        return e.occurs as u64;
+    }
+    members(items, from, to)
+}
+
+// Whether the element j of the items up to `end` is missing and took or put nothing, so that all behind it go alike.
+pub fn settles(j: usize, end: usize, past: u64, taken: u64) -> bool
+    ensures { λ r. ⌜ r ≡ (leb end j && (eqb taken 0 || eqb past 0)) ⌝ }
+{
+    if j < end {
+        return false;
+    }
+    if taken == 0 {
+        return true;
+    }
+    past == 0
+}
+
+// ---- one scalar or Pad
+
+// The bytes that a record may have in a buffer.
+pub fn room_of(bytes: usize) -> u64
+    ensures { λ r. ⌜ r ≡ min bytes 65536 ⌝ }
+{
+    if bytes < 65536 { bytes as u64 } else { 65536 }
+}
+
+fn clip(n: u64, bytes: usize) -> usize
+    ensures { λ r. ⌜ r ≡ min bytes n ⌝ }
+{
+    if n < bytes as u64 { n as usize } else { bytes }
+}
+
+// The length of a Text, 0 for any other item.
+fn text_size(it: Item) -> u64
+    ensures { λ r. ⌜ r ≡ cond (eqb (it .tag) 1) (it .b) 0 ⌝ }
+{
+    if it.tag == 1 {
+        return it.b;
+    }
+    0
+}
+
+fn put_width(e: Entry) -> u64
+    ensures { λ r. ⌜ r ≡ putWidth e ⌝ }
+{
+    if e.kind == 5 {
+        return 1;
+    }
+    if e.kind <= 8 {
+        return e.width as u64;
+    }
+    0
+}
+
+// Whether so many bytes at this position are inside the room.
+fn inside_room(room: u64, at: u64, width: u64) -> bool
+    ensures { λ r. ⌜ r ≡ leb (at + width) room ⌝ }
+{
+    if room < at {
+        return false;
+    }
+    width <= room - at
+}
+
+// The number of the question that refuses an item for an entry, 0 for none.
+fn judge_leaf(masks: &[u8], text: &[u8], e: Entry, it: Item) -> u32
+    ensures { λ r. ⌜ r ≡ judged (now (masks .entry)) (now (text .entry)) e it ⌝ }
+{
+    let m = clip(e.mask as u64, masks.len());
+    let n = clip(e.width as u64, masks.len() - m);
+    let a = clip(it.a, text.len());
+    let b = clip(text_size(it), text.len() - a);
+    encode_scalar::judge_scalar(
+        e.kind,
+        e.p,
+        e.q,
+        e.r,
+        e.s,
+        &masks[m..m + n],
+        e.width as usize,
+        it.tag,
+        it.a,
+        it.b,
+        &text[a..a + b],
+    )
+}
+
+// An item that was judged, put into its entry's stretch of the record.
+fn put_leaf(masks: &[u8], page: u32, text: &[u8], part: &mut [u8], e: Entry, it: Item)
+    requires { ⌜ judged (now masks) (now text) e it ≡ 0 ⌝ }
+    requires { ⌜ length (now part) ≡ putWidth e ⌝ }
+    ensures { λ _. ⌜ now (part .exit) ≡ bytesIn (now (masks .entry)) page (now (text .entry)) e it ⌝ }
+{
+    let m = clip(e.mask as u64, masks.len());
+    let n = clip(e.width as u64, masks.len() - m);
+    let a = clip(it.a, text.len());
+    let b = clip(text_size(it), text.len() - a);
+    encode_scalar::encode_scalar(
+        part,
+        e.kind,
+        e.p,
+        e.q,
+        e.r,
+        e.s,
+        &masks[m..m + n],
+        page,
+        it.tag,
+        it.a,
+        it.b,
+        &text[a..a + b],
+    );
+}
+
+// One scalar or Pad, every entry but a group, by the item of its value.
+pub fn encode_leaf(
+    masks: &[u8],
+    text: &[u8],
+    record: &mut [u8],
+    page: u32,
+    e: Entry,
+    it: Item,
+    at: u64,
+) -> Out
+    ensures { λ r. ⌜ Met (leaf (codec (now (masks .entry)) page (now (text .entry))) (roomIn (now («record» .entry))) e it at (now («record» .entry))) r (now («record» .exit)) ⌝ }
+{
+    let n = judge_leaf(masks, text, e, it);
+    if n != 0 {
+        return refusal(n);
+    }
+    let width = put_width(e);
+    if !inside_room(room_of(record.len()), at, width) {
+        return refusal(16);
+    }
+    let from = at as usize;
+    let end = from + width as usize;
+    put_leaf(masks, page, text, &mut record[from..end], e, it);
+    Out {
+        refused: 0,
+        past: at + width + 1,
+        taken: e.width as u64,
+    }
+}
+
+// ---- zeros
+
+fn clear_counts(counts: &mut [i64])
+    ensures { λ _. ⌜ now (counts .exit) ≡ replicate (length (now (counts .entry))) (pos 0) ⌝ }
+{
+    let mut i = 0;
+    while i < counts.len() {
+        counts[i] = 0;
+        i += 1;
+    }
+}
+
+// The record and the work space as zeros.
+pub fn clear(record: &mut [u8], counts: &mut [i64])
+    ensures { λ _. ⌜ now («record» .exit) ≡ replicate (length (now («record» .entry))) 0 ⌝ }
+    ensures { λ _. ⌜ now (counts .exit) ≡ replicate (length (now (counts .entry))) (pos 0) ⌝ }
+{
+    fill(record, 0);
+    clear_counts(counts);
+}

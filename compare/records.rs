@@ -364,9 +364,10 @@ pub fn read_record(t: &mut Tally, b: &mut Buffers, entries: &[Entry], layout: &L
         )
     };
     let (model, _, _) = whole(entries, record, pg, items, text);
-    // the Rust has no limit on items: what needs more than these is held to the model alone
+    // the Rust has no limit on items: what needs more than these is held to the model alone, and so is what differs by a listed rule in a field on the way
     let (free, listed, other) = whole(entries, record, pg, 400_000, 400_000);
-    let theirs = if matches!(free, Err(16)) { Err(rust::Error(String::new())) } else { decode::decode_record(layout, record, page(pg)) };
+    let alone = matches!(free, Err(16)) || listed.is_some();
+    let theirs = if alone { Err(rust::Error(String::new())) } else { decode::decode_record(layout, record, page(pg)) };
     let clean = b.items[used as usize..items].iter().all(|&w| w == 0) && b.text[said as usize..text].iter().all(|&x| x == 0) && b.counts[..counts].iter().all(|&x| x == 0) && (n == 0 || used + said == 0);
     let seen = if let Some(how) = other {
         Seen::Other(how)
@@ -389,12 +390,10 @@ pub fn read_record(t: &mut Tally, b: &mut Buffers, entries: &[Entry], layout: &L
     };
     let seen = match (seen, &free, &theirs) {
         (Seen::Same, Ok(tree), Ok(them)) if tree.len() == them.len() && tree.iter().zip(them).all(|(x, y)| y.0.eq_ignore_ascii_case(&format!("n-{}", x.0)) && equal(&x.1, &y.1)) => Seen::Same,
+        (Seen::Same, _, _) if listed.is_some() => Seen::Listed(listed.unwrap()),
         (Seen::Same, Err(_), Err(_)) => Seen::Same,
         (Seen::Same, Err(4), Ok(_)) if record.len() > 65536 => Seen::Listed("records above 65,536 bytes (4)"),
-        (Seen::Same, a, them) => match listed {
-            Some(rule) => Seen::Listed(rule),
-            None => Seen::Other(format!("port and model {a:?}, Rust {them:?}")),
-        },
+        (Seen::Same, a, them) => Seen::Other(format!("port and model {a:?}, Rust {them:?}")),
         (s, _, _) => s,
     };
     t.note("read record", n, seen, record.len() + words.len(), || format!("layout {entries:?} page {pg} record {record:02x?} items {items} text {text}"));
@@ -511,7 +510,8 @@ pub fn write_record(t: &mut Tally, b: &mut Buffers, entries: &[Entry], layout: &
     let (model, _, _) = written(entries, list, pg, room.min(65536) as u64);
     // nor has it one on the record
     let (free, listed, other) = written(entries, list, pg, 1_000_000);
-    let theirs = if matches!(free, Err(16)) { Err(rust::Error(String::new())) } else { encode::encode_record(layout, &them, page(pg)) };
+    let alone = matches!(free, Err(16)) || listed.is_some();
+    let theirs = if alone { Err(rust::Error(String::new())) } else { encode::encode_record(layout, &them, page(pg)) };
     let clean = b.record[length as usize..room].iter().all(|&x| x == 0) && b.counts[..counts].iter().all(|&x| x == 0) && (n == 0 || length == 0);
     let seen = if let Some(how) = other {
         Seen::Other(how)
@@ -525,12 +525,10 @@ pub fn write_record(t: &mut Tally, b: &mut Buffers, entries: &[Entry], layout: &
         }
     };
     let seen = match (seen, &free, &theirs) {
+        (Seen::Same, _, _) if listed.is_some() => Seen::Listed(listed.unwrap()),
         (Seen::Same, Ok(x), Ok(y)) if x == y => Seen::Same,
         (Seen::Same, Err(_), Err(_)) => Seen::Same,
-        (Seen::Same, a, them) => match listed {
-            Some(rule) => Seen::Listed(rule),
-            None => Seen::Other(format!("port and model {a:02x?}, Rust {them:02x?}")),
-        },
+        (Seen::Same, a, them) => Seen::Other(format!("port and model {a:02x?}, Rust {them:02x?}")),
         (s, _, _) => s,
     };
     t.note("write list", n, seen, items.len() + words.len(), || format!("layout {entries:?} page {pg} list {list:?} room {room}"));

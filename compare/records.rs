@@ -119,6 +119,8 @@ fn rust_value(n: &Node) -> Option<Value> {
 pub struct Layouts {
     names: u32,
     left: u32,
+    /// one entry in so many is a group
+    groups: u64,
 }
 
 impl Layouts {
@@ -137,10 +139,10 @@ impl Layouts {
             4 if g.below(20) == 0 => (Some(g.pick(&[65535, 300])), Some(g.below(self.names as u64 + 2) as u32)),
             _ => (None, None),
         };
-        if level < 8 && self.left > 0 && g.below(4) == 0 {
+        if level < 8 && self.left > 0 && g.below(self.groups) == 0 {
             let mut members = vec![];
             let mut next = 0;
-            for _ in 0..g.below(5) {
+            for _ in 0..g.below(4) + u64::from(self.groups < 3) {
                 if self.left == 0 {
                     break;
                 }
@@ -166,7 +168,7 @@ impl Layouts {
     }
     pub fn any(g: &mut Random) -> Vec<Entry> {
         let left = g.pick(&[1, 2, 3, 6, 12, 30, 60]);
-        let mut l = Layouts { names: 0, left };
+        let mut l = Layouts { names: 0, left, groups: g.pick(&[4, 4, 4, 4, 2, 1]) };
         let mut all = vec![];
         let mut numbers = vec![];
         let mut at = 0;
@@ -477,7 +479,18 @@ impl Writer {
     }
 }
 
+fn depth(n: &Node) -> usize {
+    1 + match n {
+        Node::One(_) => 0,
+        Node::List(ms) => ms.iter().map(depth).max().unwrap_or(0),
+        Node::Struct(ms) => ms.iter().map(|m| depth(&m.1)).max().unwrap_or(0),
+    }
+}
+
 fn written(entries: &[Entry], values: &[(u32, Node)], page: u32, room: u64) -> (Read<Vec<u8>>, Option<&'static str>, Option<String>) {
+    if values.iter().any(|v| depth(&v.1) > 16) {
+        return (Err(11), Some("value lists deeper than 16 (11)"), None);
+    }
     if entries.iter().any(|e| e.kind.kind != 6 && !values.iter().any(|v| v.0 == e.name)) {
         return (Err(12), None, None);
     }
@@ -537,7 +550,10 @@ pub fn write_record(t: &mut Tally, b: &mut Buffers, entries: &[Entry], layout: &
 
 // ---- the cases
 
-/// A value that comes near what the entry takes; `lengths` holds what the controllers written so far hold.
+/// How many nodes a list may still have, kept beside the counts.
+const LEFT: u32 = u32::MAX;
+
+/// A value that comes near what the entry takes; `counts` holds what the controllers written so far hold.
 fn node(g: &mut Random, e: &Entry, once: bool, counts: &mut HashMap<u32, u64>) -> Node {
     if g.below(60) == 0 {
         return g.pick(&[NULL.clone(), Node::List(vec![]), Node::Struct(vec![]), Node::List(vec![NULL.clone(), NULL.clone()])]);
@@ -547,7 +563,9 @@ fn node(g: &mut Random, e: &Entry, once: bool, counts: &mut HashMap<u32, u64>) -
             Some(c) => counts.get(&c).copied().unwrap_or(g.below(3)),
             None => e.occurs.unwrap() as u64,
         };
-        let n = if g.below(20) == 0 { g.below(5) } else { n.min(40) };
+        let left = counts.get(&LEFT).copied().unwrap_or(400);
+        let n = if g.below(20) == 0 { g.below(5) } else { n.min(40).min(left / 4) };
+        counts.insert(LEFT, left - n.min(left));
         return Node::List((0..n).map(|_| node(g, e, false, counts)).collect());
     }
     if e.kind.kind == 9 {

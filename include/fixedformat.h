@@ -1,0 +1,57 @@
+/* Fixed-length records: layouts, value lists and record bytes.
+ *
+ * Every function answers 0 where it did its work, or the number of the first question that was answered no (the table in README.md). No function needs anything
+ * of its arguments but that each pointer leads to as many elements as the length behind it says; buffers may hold anything before the call. After a refusal
+ * every output buffer holds zeros and every length is 0; after success what is not used of an output buffer is zero. Buffers of one call do not overlap.
+ *
+ * layout: twelve 32-bit words an entry: name, offset, width, kind, occurs, depending, span, p, q, r, s, mask (4294967295 in occurs and depending: absent).
+ * masks:  the masks of the layout's Edited entries. page: 0 ASCII, 1 EBCDIC (code page 037).
+ * items:  four 64-bit words an item: name, tag, and two words by the tag (0 Null, 1 Text: start and length in `text`, 2 Int, 3 Decimal: unscaled and scale,
+ *         4 Float: bits, 5 Bool, 6 List and 7 Struct: member count and span).
+ * counts: work space of two words an entry; it holds zeros after the call.
+ */
+#ifndef FIXEDFORMAT_H
+#define FIXEDFORMAT_H
+
+#include <stddef.h>
+#include <stdint.h>
+
+#ifdef __cplusplus
+extern "C" {
+#endif
+
+/* Reads a layout's text form into words and masks, with the page and how many words and mask bytes there are.
+ * Asks 17, 1, 2, 3, 16. At most 512 entries: 6144 words serve for every layout. */
+uint32_t ff_read_layout(const uint8_t *text, size_t text_len, uint32_t *words, size_t words_len, uint8_t *masks, size_t masks_len,
+                        uint32_t *page, uint64_t *words_used, uint64_t *masks_used);
+
+/* Judges a layout's words. Asks 1, 2, 3; the other functions ask them again. */
+uint32_t ff_check_layout(const uint32_t *layout, size_t layout_len, const uint8_t *masks, size_t masks_len, uint32_t page);
+
+/* Reads a record: its items, depth first, and their texts, one after the other, with how many item words and text bytes there are.
+ * Asks 1, 2, 3, 16 (counts), 4, then field by field 5 to 10 and 16. */
+uint32_t ff_decode_record(const uint32_t *layout, size_t layout_len, const uint8_t *masks, size_t masks_len, uint32_t page,
+                          const uint8_t *record, size_t record_len, uint64_t *items, size_t items_len, uint8_t *text, size_t text_len,
+                          int64_t *counts, size_t counts_len, uint64_t *item_words_used, uint64_t *text_used);
+
+/* Writes a record from a value list, with its length.
+ * Asks 1, 2, 3, 16 (counts), 11, 12, 16 (the layout's length), then field by field 13, 15, 14, 15, 16. */
+uint32_t ff_encode_record(const uint32_t *layout, size_t layout_len, const uint8_t *masks, size_t masks_len, uint32_t page,
+                          const uint64_t *items, size_t items_len, const uint8_t *text, size_t text_len,
+                          uint8_t *record, size_t record_len, int64_t *counts, size_t counts_len, uint64_t *record_length);
+
+/* Puts the translated bytes of one unrepeated Text entry (twelve words) at the front of scratch, zeros behind them.
+ * Asks 1, 2, 4, 7, 16. */
+uint32_t ff_translate_text(const uint32_t *layout, size_t layout_len, uint32_t page, const uint8_t *record, size_t record_len,
+                           uint8_t *scratch, size_t scratch_len, uint64_t *length);
+
+/* Where the text of one unrepeated Text entry stands: its start and length in the record on page 0, and on page 1 in scratch as ff_translate_text
+ * filled it. Asks 1, 2, 4, 7, 16 (on page 1). */
+uint32_t ff_text_field(const uint32_t *layout, size_t layout_len, uint32_t page, const uint8_t *record, size_t record_len,
+                       const uint8_t *scratch, size_t scratch_len, uint64_t *start, uint64_t *length);
+
+#ifdef __cplusplus
+}
+#endif
+
+#endif

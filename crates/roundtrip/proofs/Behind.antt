@@ -1,0 +1,81 @@
+-- A record in a buffer of zeros, and bytes put behind it.
+use mathlib.Core.Path.{_≡_, refl, sym, ap, ap₂, _∙_}
+use mathlib.Core.List.{List, [], _∷_, _++_, map, append-nil, append-assoc}
+use Prim.Native.Nat.{ℕ, zero, suc, _+_, _-_, _≤_, _<_, min}
+use native.Mathlib.Omega.{arith}
+use lib.ListN.{length, take, drop, replicate, length-append, length-take, length-drop, length-replicate, drop-of-length-le}
+use lib.Seq.{take-at, drop-append-add, drop-length}
+use Rattle.lists.proofs.Part.{in-whole}
+use Rattle.lists.proofs.Lists.{drop-replicate, map-same}
+use Rattle.walks.specs.Records.{filled}
+
+pub take-min : (k : ℕ) (xs : List ℕ) → take (min k (length xs)) xs ≡ take k xs
+take-min zero xs = let z : min zero (length xs) ≡ zero = omega arith in ap (λ n. take n xs) z
+take-min (suc k) [] = let z : min (suc k) zero ≡ zero = omega arith in ap (λ n. take {A = ℕ} n []) z
+take-min (suc k) (x ∷ xs) =
+    let z : min (suc k) (suc (length xs)) ≡ suc (min k (length xs)) = omega arith in
+    ap (λ n. take n (x ∷ xs)) z ∙ ap (λ l. x ∷ l) (take-min k xs)
+
+-- the end of a copy that fills the whole of out
+pub copied : (bytes out : List ℕ) (i : ℕ) → i ≡ length out → take i (map (λ x. x) bytes) ++ drop i out ≡ take (length out) bytes
+copied bytes out i e =
+    ap₂ (λ n k. take i n ++ drop k out) (map-same bytes) e ∙ ap (λ l. take i bytes ++ l) (drop-length out) ∙ append-nil (take i bytes) ∙ ap (λ n. take n bytes) e
+
+-- a buffer that holds a list and zeros behind it is as long as the list at least
+pub fits-room : (n : ℕ) (r bs : List ℕ) → r ≡ filled n bs → length r ≡ n → length bs ≤ n
+fits-room n r bs p q =
+    let a : length (filled n bs) ≡ length bs + length (replicate {A = ℕ} (n - length bs) 0) = length-append bs (replicate (n - length bs) 0) in
+    let b : length r ≡ length (filled n bs) = ap (λ l. length l) p in
+    omega arith
+
+-- ---- bytes put from a place on, as far as the buffer goes
+
+module _ (r bytes : List ℕ) (at n : ℕ) (p : n ≡ min (length r - at) (length bytes)) where
+  part-long : length (take (at + n - at) (drop at r)) ≡ min (length r - at) (length bytes)
+  part-long =
+      let k : length (drop at r) ≡ length r - at = length-drop at r in
+      let m : length (take (at + n - at) (drop at r)) ≡ min (at + n - at) (length (drop at r)) = length-take (at + n - at) (drop at r) in
+      omega arith
+
+  pub part-short : length (take (at + n - at) (drop at r)) ≤ length bytes
+  part-short = omega (arith, part-long)
+
+  pub end-is : at + n ≡ at + length (take (length r - at) bytes)
+  end-is = ap (λ m. at + m) (p ∙ sym (length-take (length r - at) bytes))
+
+  pub put-front : (part : List ℕ) → part ≡ take (length (take (at + n - at) (drop at r))) bytes
+      → take at r ++ (part ++ drop (at + n - at) (drop at r)) ≡ take at r ++ (take (length r - at) bytes ++ drop (at + n) r)
+  put-front part s = in-whole at n r part ∙ ap (λ x. take at r ++ (x ++ drop (at + n) r)) (s ∙ ap (λ i. take i bytes) part-long ∙ take-min (length r - at) bytes)
+
+-- ---- a record, zeros, and the bytes put behind the record
+
+module _ (n : ℕ) (bs more : List ℕ) where
+  abbrev pub Stood : List ℕ
+  Stood = bs ++ take (n - length bs) more
+
+  module _ (r : List ℕ) (at end : ℕ) (p : r ≡ filled n bs) (long : length r ≡ n) (q : at ≡ length bs) (e : end ≡ at + length (take (length r - at) more)) where
+    pub at-room : at ≤ length r
+    at-room = omega (arith, fits-room n r bs p long)
+
+    pub end-room : end ≤ length r
+    end-room =
+        let m : length (take (length r - at) more) ≡ min (length r - at) (length more) = length-take (length r - at) more in
+        omega (arith, at-room)
+
+    end-at : end ≡ length bs + length (take (n - length bs) more)
+    end-at = e ∙ ap₂ (λ a k. a + length (take (k - a) more)) q long
+
+    whole : length Stood ≡ end
+    whole = length-append bs (take (n - length bs) more) ∙ sym end-at
+
+    pub stood : take at r ++ (take (length r - at) more ++ drop end r) ≡ filled n Stood
+    stood =
+        let m : ℕ = length (take (n - length bs) more) in
+        let a : take at r ≡ bs = ap (take at) p ∙ take-at bs (replicate (n - length bs) 0) at (sym q) in
+        let d : drop end r ≡ replicate (n - length bs - m) 0 = ap₂ drop end-at p ∙ drop-append-add bs (replicate (n - length bs) 0) m ∙ drop-replicate m (n - length bs) 0 in
+        let z : n - length bs - m ≡ n - length Stood = omega (arith, whole, end-at) in
+        ap₂ (λ x y. x ++ (take (length r - at) more ++ y)) a d ∙ ap₂ (λ k i. bs ++ (take (k - i) more ++ replicate (n - length bs - m) 0)) long q
+        ∙ sym (append-assoc bs (take (n - length bs) more) (replicate (n - length bs - m) 0)) ∙ ap (λ i. Stood ++ replicate i 0) z
+
+    pub front : (r′ : List ℕ) → r′ ≡ take at r ++ (take (length r - at) more ++ drop end r) → take end r′ ≡ Stood
+    front r′ w = ap (take end) (w ∙ stood) ∙ take-at Stood (replicate (n - length Stood) 0) end whole

@@ -1,0 +1,103 @@
+// A list written by a layout and read back by it: demand 3 of the two calls.
+use decode::decode_record;
+use decode_leaf::clear_items;
+use decode_leaf::clear_text;
+use encode::encode_record;
+ghost use mathlib.Core.Path.{_≡_};
+ghost use mathlib.Core.List.{List, [], _++_};
+ghost use Prim.Native.Nat.{ℕ, _+_, _-_, _≤_, min};
+ghost use lib.IntN.{pos};
+ghost use lib.ListN.{length, take, drop, replicate};
+ghost use Rattle.walks.specs.Records.{numberOf, itemsOf, textsOf, refusalOf, bytesOf, filled};
+ghost use Rattle.roundtrip.specs.Same.{writing, stands, reading, Returns};
+
+// What writing and reading back answer: the number that refuses to write, or 0 with the record's length; then the number that refuses to read,
+// or 0 with the item words and the text bytes used. All are 0 behind a refusal.
+pub struct Trip {
+    pub written: u32,
+    pub length: usize,
+    pub read: u32,
+    pub items: usize,
+    pub text: usize,
+}
+
+fn smaller(a: usize, b: usize) -> usize
+    ensures { λ r. ⌜ r ≡ min a b ⌝ }
+{
+    if a < b {
+        return a;
+    }
+    b
+}
+
+// The front of the bytes, as many as out has.
+fn copy_front(bytes: &[u8], out: &mut [u8])
+    requires { ⌜ length (now out) ≤ length (now bytes) ⌝ }
+    ensures { λ _. ⌜ now (out .exit) ≡ take (length (now (out .entry))) (now (bytes .entry)) ⌝ }
+{
+    let mut i = 0;
+    while i < out.len() {
+        out[i] = bytes[i];
+        i += 1;
+    }
+}
+
+// The bytes from a place of the record buffer on, as far as it goes, and where they end.
+fn put_behind(record: &mut [u8], at: usize, bytes: &[u8]) -> usize
+    requires { ⌜ at ≤ length (now «record») ⌝ }
+    ensures { λ r. ⌜ r ≡ at + length (take (length (now («record» .entry)) - at) (now (bytes .entry))) ⌝ }
+    ensures { λ r. ⌜ now («record» .exit) ≡ take at (now («record» .entry)) ++ (take (length (now («record» .entry)) - at) (now (bytes .entry)) ++ drop r (now («record» .entry))) ⌝ }
+{
+    let n = smaller(record.len() - at, bytes.len());
+    let end = at + n;
+    copy_front(bytes, &mut record[at..end]);
+    end
+}
+
+// Writes a record by a layout and a value list, puts bytes behind it, and reads it back.
+pub fn round_trip(
+    layout: &[u32],
+    masks: &[u8],
+    page: u32,
+    items: &[u64],
+    text: &[u8],
+    behind: &[u8],
+    record: &mut [u8],
+    counts: &mut [i64],
+    back: &mut [u64],
+    said: &mut [u8],
+) -> Trip
+    ensures { λ r. ⌜ r .written ≡ refusalOf (writing (now (layout .entry)) (now (masks .entry)) page (now (items .entry)) (now (text .entry)) (now (behind .entry)) (length (now («record» .entry))) (length (now (counts .entry)))) ⌝ }
+    ensures { λ r. ⌜ r .length ≡ length (bytesOf (writing (now (layout .entry)) (now (masks .entry)) page (now (items .entry)) (now (text .entry)) (now (behind .entry)) (length (now («record» .entry))) (length (now (counts .entry))))) ⌝ }
+    ensures { λ _. ⌜ now («record» .exit) ≡ filled (length (now («record» .entry))) (stands (now (layout .entry)) (now (masks .entry)) page (now (items .entry)) (now (text .entry)) (now (behind .entry)) (length (now («record» .entry))) (length (now (counts .entry)))) ⌝ }
+    ensures { λ r. ⌜ r .read ≡ numberOf (reading (now (layout .entry)) (now (masks .entry)) page (now (items .entry)) (now (text .entry)) (now (behind .entry)) (length (now («record» .entry))) (length (now (counts .entry))) (length (now (back .entry))) (length (now (said .entry)))) ⌝ }
+    ensures { λ r. ⌜ r .items ≡ length (itemsOf (reading (now (layout .entry)) (now (masks .entry)) page (now (items .entry)) (now (text .entry)) (now (behind .entry)) (length (now («record» .entry))) (length (now (counts .entry))) (length (now (back .entry))) (length (now (said .entry))))) ⌝ }
+    ensures { λ r. ⌜ r .text ≡ length (textsOf (reading (now (layout .entry)) (now (masks .entry)) page (now (items .entry)) (now (text .entry)) (now (behind .entry)) (length (now («record» .entry))) (length (now (counts .entry))) (length (now (back .entry))) (length (now (said .entry))))) ⌝ }
+    ensures { λ _. ⌜ now (back .exit) ≡ filled (length (now (back .entry))) (itemsOf (reading (now (layout .entry)) (now (masks .entry)) page (now (items .entry)) (now (text .entry)) (now (behind .entry)) (length (now («record» .entry))) (length (now (counts .entry))) (length (now (back .entry))) (length (now (said .entry))))) ⌝ }
+    ensures { λ _. ⌜ now (said .exit) ≡ filled (length (now (said .entry))) (textsOf (reading (now (layout .entry)) (now (masks .entry)) page (now (items .entry)) (now (text .entry)) (now (behind .entry)) (length (now («record» .entry))) (length (now (counts .entry))) (length (now (back .entry))) (length (now (said .entry))))) ⌝ }
+    ensures { λ _. ⌜ now (counts .exit) ≡ replicate (length (now (counts .entry))) (pos 0) ⌝ }
+    ensures { λ r. ⌜ Returns (now (layout .entry)) (now (masks .entry)) page (now (items .entry)) (now (text .entry)) (now (behind .entry)) (length (now («record» .entry))) (length (now (counts .entry))) r (now (back .exit)) (now (said .exit)) ⌝ }
+{
+    let w = encode_record(layout, masks, page, items, text, record, counts);
+    if w.number != 0 {
+        clear_items(back, 0);
+        clear_text(said, 0);
+        return Trip {
+            written: w.number,
+            length: 0,
+            read: 0,
+            items: 0,
+            text: 0,
+        };
+    }
+    let length = w.length;
+    let end = put_behind(record, length, behind);
+    let r = decode_record(layout, masks, page, &record[..end], back, said, counts);
+    Trip {
+        written: 0,
+        length,
+        read: r.number,
+        items: r.items,
+        text: r.text,
+    }
+}

@@ -1,0 +1,4 @@
+pub mod Clauses
+pub mod Names
+pub mod Turns
+pub mod Whole

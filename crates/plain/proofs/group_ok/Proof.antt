@@ -1,0 +1,36 @@
+use mathlib.Core.Path.{_≡_, refl, sym, ap, _∙_, subst}
+use mathlib.Core.Bool.{Bool, true, false}
+use mathlib.Core.Logic.{⊎-elim}
+use mathlib.Core.List.{List, [], _∷_, _++_, map, append-nil, append-assoc}
+use Prim.Native.Nat.{ℕ, zero, suc, _+_, _-_, _*_, _≤_, _<_}
+use native.Mathlib.Omega.{arith}
+use native.Mathlib.Numerals.{add-one}
+use borrow.Author.Tests.{lt-ltb, le-ltb, le-leb, lt-leb, eq-eqb, ne-eqb, eqb-true, eqb-false, ltb-true, ltb-false, leb-true, leb-false}
+use lib.Dec.{eqb, leb, ltb}
+use lib.ListN.{length, take, drop, getD, set, replicate, length-set, length-append, length-take, length-drop, length-replicate, length-map}
+use Rattle.plain.proofs.Clauses.{group-not, group-none, group-single, group-sure}
+use borrow.Author.Needs.{needs}
+use Rattle.plain.proofs.group_ok.Statement.{statement}
+use Rattle.plain.proofs.group_ok.Tie as tie
+
+returns : tie.Need-returns
+returns c = group-not (c .before .before .before .args .layout .now) (c .before .before .before .args .lo) (c .before .before .before .args .hi) _ (c .if1 .taken)
+
+returns-2 : tie.Need-returns-2
+returns-2 c = group-none (c .before .before .before .before .args .layout .now) (c .before .before .before .before .args .lo) (c .before .before .before .before .args .hi) _ (c .before .if1 .left) (c .if2 .taken)
+
+is-single-requires : tie.Need-is-single-requires
+is-single-requires c κs = search needs
+
+returns-3 : tie.Need-returns-3
+returns-3 c = group-single (c .before .before .before .before .before .before .args .layout .now) (c .before .before .before .before .before .before .args .lo) (c .before .before .before .before .before .before .args .hi) _ (c .before .before .before .if1 .left) (c .before .before .if2 .left) (c .before .is-single .ensures) (c .if3 .taken)
+
+has-sure-requires : tie.Need-has-sure-requires
+has-sure-requires c κs = search needs
+
+returns-4 : tie.Need-returns-4
+returns-4 c = group-sure (c .before .before .before .before .before .before .before .args .layout .now) (c .before .before .before .before .before .before .before .args .lo) (c .before .before .before .before .before .before .before .args .hi) _ (c .before .before .before .before .if1 .left) (c .before .before .before .if2 .left) (c .before .before .is-single .ensures) (c .before .if3 .left) (c .has-sure .ensures)
+
+pub group-ok-spec : {M : Type 1} → statement M
+group-ok-spec =
+    tie.close (tie.spec returns returns-2 is-single-requires returns-3 has-sure-requires returns-4)

@@ -1,0 +1,30 @@
+use mathlib.Core.Path.{_≡_, refl, sym, ap, _∙_, subst}
+use mathlib.Core.Bool.{Bool, true, false}
+use mathlib.Core.Logic.{⊎-elim}
+use mathlib.Core.List.{List, [], _∷_, _++_, map, append-nil, append-assoc}
+use Prim.Native.Nat.{ℕ, zero, suc, _+_, _-_, _*_, _≤_, _<_}
+use native.Mathlib.Omega.{arith}
+use native.Mathlib.Numerals.{add-one}
+use borrow.Author.Tests.{lt-ltb, le-ltb, le-leb, lt-leb, eq-eqb, ne-eqb, eqb-true, eqb-false, ltb-true, ltb-false, leb-true, leb-false}
+use lib.Dec.{eqb, leb, ltb}
+use lib.ListN.{length, take, drop, getD, set, replicate, length-set, length-append, length-take, length-drop, length-replicate, length-map}
+use borrow.Author.Tests.{not-true, not-false}
+use Rattle.plain.proofs.Clauses.{controls-table, controls-int, controls-other}
+use borrow.Author.Needs.{needs}
+use Rattle.plain.proofs.is_control.Statement.{statement}
+use Rattle.plain.proofs.is_control.Tie as tie
+
+is-single-requires : tie.Need-is-single-requires
+is-single-requires c κs = search needs
+
+returns : tie.Need-returns
+returns c = controls-table _ (c .before .is-single .ensures) (not-true _ (c .if1 .taken))
+
+returns-2 : tie.Need-returns-2
+returns-2 c = controls-int _ (c .before .before .before .is-single .ensures) (not-false _ (c .before .before .if1 .left)) (c .if2 .taken)
+
+returns-3 : tie.Need-returns-3
+returns-3 c = controls-other _ (c .before .before .before .before .is-single .ensures) (not-false _ (c .before .before .before .if1 .left)) (c .before .if2 .left)
+
+pub is-control-spec : {M : Type 1} → statement M
+is-control-spec = tie.close (tie.spec is-single-requires returns returns-2 returns-3)

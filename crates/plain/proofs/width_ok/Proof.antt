@@ -1,0 +1,32 @@
+use mathlib.Core.Path.{_≡_, refl, sym, ap, _∙_, subst}
+use mathlib.Core.Bool.{Bool, true, false}
+use mathlib.Core.Logic.{⊎-elim}
+use mathlib.Core.List.{List, [], _∷_, _++_, map, append-nil, append-assoc}
+use Prim.Native.Nat.{ℕ, zero, suc, _+_, _-_, _*_, _≤_, _<_}
+use native.Mathlib.Omega.{arith}
+use native.Mathlib.Numerals.{add-one}
+use borrow.Author.Tests.{lt-ltb, le-ltb, le-leb, lt-leb, eq-eqb, ne-eqb, eqb-true, eqb-false, ltb-true, ltb-false, leb-true, leb-false}
+use lib.Dec.{eqb, leb, ltb}
+use lib.ListN.{length, take, drop, getD, set, replicate, length-set, length-append, length-take, length-drop, length-replicate, length-map}
+use borrow.Author.Needs.{needs}
+use Rattle.plain.proofs.Clauses.{width-group, width-none, width-bool, width-binary, width-other}
+use Rattle.plain.proofs.width_ok.Statement.{statement}
+use Rattle.plain.proofs.width_ok.Tie as tie
+
+returns : tie.Need-returns
+returns c = width-group _ (c .if1 .taken)
+
+returns-2 : tie.Need-returns-2
+returns-2 c = width-none _ (c .before .before .if1 .left) (c .if2 .taken)
+
+returns-3 : tie.Need-returns-3
+returns-3 c = width-bool _ (c .before .before .before .before .before .if1 .left) (c .before .before .before .if2 .left) (c .before .if3 .taken)
+
+returns-4 : tie.Need-returns-4
+returns-4 c = width-binary _ (c .before .before .before .before .before .before .before .if1 .left) (c .before .before .before .before .before .if2 .left) (c .before .before .before .if3 .left) (c .before .if4 .taken)
+
+returns-5 : tie.Need-returns-5
+returns-5 c = width-other _ (c .before .before .before .before .before .before .if1 .left) (c .before .before .before .before .if2 .left) (c .before .before .if3 .left) (c .if4 .left)
+
+pub width-ok-spec : {M : Type 1} → statement M
+width-ok-spec = tie.close (tie.spec returns returns-2 returns-3 returns-4 returns-5)

@@ -1,0 +1,2 @@
+-- What the function that decides plain layouts goes by.
+pub mod Ways

@@ -1,24 +1,34 @@
 /* The deepest stack of each call: the stack below is painted, the call is made, and what is no longer paint is counted. Groups to eight levels, a field of
- * every kind in the innermost. */
+ * every kind in the innermost; the writer is given the list that was read, then values that it has to convert; the layout's text has 512 entries. */
 #include "../include/fixedformat.h"
 #include <stdio.h>
 #include <string.h>
 
 #define PAINT 65536
+#define MOST 6144
 
 static uint32_t words[512 * 12];
-static uint8_t masks[64];
+static uint8_t masks[4096];
 static uint8_t record[4096];
 static uint64_t items[8192];
 static uint8_t text[4096];
 static int64_t counts[1024];
-static size_t used;
+static char form[131072];
+static size_t used, formed;
 
 static void entry(uint32_t name, uint32_t offset, uint32_t width, uint32_t kind, uint32_t span, uint32_t p, uint32_t q, uint32_t r)
 {
     uint32_t w[12] = {name, offset, width, kind, 0xFFFFFFFFu, 0xFFFFFFFFu, span, p, q, r, 0, 0};
     memcpy(words + used, w, sizeof w);
     used += 12;
+}
+
+static void lines(uint32_t name, uint32_t width, uint32_t kind, const char *depending, uint32_t span, uint32_t p, uint32_t r, const char *mask)
+{
+    formed += (size_t)sprintf(form + formed, "name=a-name-of-thirty-letters-%04u\noffset=0\nwidth=%u\nkind=%u\noccurs=\ndepending=", name, width, kind);
+    if (*depending)
+        formed += (size_t)sprintf(form + formed, "%s-%04u", depending, name);
+    formed += (size_t)sprintf(form + formed, "\nspan=%u\np=%u\nq=0\nr=%u\nmask=%s\n", span, p, r, mask);
 }
 
 static __attribute__((noinline)) size_t paint(int look)
@@ -35,40 +45,83 @@ static __attribute__((noinline)) size_t paint(int look)
     return PAINT - i;
 }
 
-static uint32_t number;
+static uint32_t number, page;
 static uint64_t a, b;
+static size_t deepest;
 
-static __attribute__((noinline)) void decode(uint32_t page) { number = ff_decode_record(words, used, masks, 64, page, record, 4096, items, 8192, text, 4096, counts, 1024, &a, &b); }
+static __attribute__((noinline)) void decode(void) { number = ff_decode_record(words, used, masks, 64, page, record, 4096, items, 8192, text, 4096, counts, 1024, &a, &b); }
+static __attribute__((noinline)) void encode(void) { number = ff_encode_record(words, used, masks, 64, page, items, a, text, b, record, 4096, counts, 1024, &b); }
+static __attribute__((noinline)) void read_layout(void) { number = ff_read_layout((const uint8_t *)form, formed, words, 512 * 12, masks, 4096, &page, &a, &b); }
+
+static void measure(const char *name, void (*call)(void))
+{
+    paint(0);
+    call();
+    size_t n = paint(1);
+    printf("%s, page %u: number %u, stack %zu bytes\n", name, page, number, n);
+    if (n > deepest)
+        deepest = n;
+}
+
+/* A Decimal into the Text, a Text into Ints and Binaries, Floats into Decimals. */
+static void convert(void)
+{
+    static const double number_of = 1.25;
+    size_t i;
+    for (i = 0; i < a; i += 4)
+        switch (items[i] < 20 ? 0 : items[i + 1]) {
+        case 1:
+            if (items[i] == 20)
+                items[i + 1] = 3, items[i + 2] = (uint64_t)-123, items[i + 3] = 2;
+            break;
+        case 2:
+            items[i + 1] = 1, items[i + 2] = 0, items[i + 3] = 1;
+            break;
+        case 3:
+            items[i + 1] = 4, items[i + 3] = 0;
+            memcpy(items + i + 2, &number_of, 8);
+            break;
+        }
+}
 
 int main(void)
 {
-    uint32_t page, level;
-    size_t deepest = 0;
+    uint32_t level;
+    uint64_t kept;
     memcpy(masks, "ZZ9.99-", 7);
     for (page = 0; page < 2; page++) {
         used = 0;
         for (level = 0; level < 7; level++)
             entry(level, 0, 64, 9, 19 - level, 0, 0, 0);
         entry(20, 0, 8, 0, 1, 0, 1, 32);
-        entry(21, 0, 0, 1, 1, 1, 2, 0);
+        entry(21, 0, 4, 1, 1, 1, 2, 0);
         entry(22, 0, 4, 2, 1, 0, 1, 0);
         entry(23, 0, 2, 3, 1, 0, 16, 0);
         entry(24, 0, 4, 3, 1, 1, 32, 0);
         entry(25, 0, 8, 3, 1, 0, 64, 0);
         entry(26, 0, 8, 4, 1, 0, 0, 0);
         entry(27, 0, 1, 5, 1, 0, 0, 0);
-        entry(28, 0, 0, 7, 1, 0, 1, 2);
+        entry(28, 0, 5, 7, 1, 0, 1, 2);
         entry(29, 8, 5, 7, 1, 1, 1, 2);
         entry(30, 16, 5, 7, 1, 2, 1, 2);
         entry(31, 24, 7, 8, 1, 1, 0, 2);
         memset(record, page ? 0xF0 : '0', sizeof record);
-        record[12] = 0x0C;
-        paint(0);
-        decode(page);
-        size_t n = paint(1);
-        printf("decode_record, page %u: number %u, %llu item words, stack %zu bytes\n", page, number, (unsigned long long)a, n);
-        if (n > deepest)
-            deepest = n;
+        memcpy(record + 8, "\x12\x34\x56\x78\x9C", 5);
+        measure("decode_record", decode);
+        kept = b;
+        measure("encode_record", encode);
+        convert();
+        b = kept;
+        measure("encode_record, converting", encode);
     }
-    return deepest > 6144;
+    formed = (size_t)sprintf(form, "page=0\n");
+    for (level = 0; level < 7; level++)
+        lines(level, 0, 9, "", 512 - level, 0, 0, "");
+    for (; level < 512; level++)
+        if (level % 2)
+            lines(level, 7, 8, "", 1, 1, 2, "ZZ9.99-");
+        else
+            lines(level, 4, 1, "another-name", 1, 1, 0, "");
+    measure("read_layout", read_layout);
+    return deepest > MOST;
 }

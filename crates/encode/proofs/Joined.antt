@@ -186,40 +186,41 @@ module _ (room : ℕ) (small : room ≤ 65536) where
   -- ---- the elements of a table
 
   module _ (f : Layer) (g : Writer) (does : Does f g) (even : Even g) (keeps : Keeps room g) where
-    module _ (n : ℕ) (at at′ taken taken′ past : ℕ) (b : List ℕ) (q : taken ≡ sat taken′) where
+    module _ (n : ℕ) (at at′ taken taken′ past : ℕ) (b : List ℕ) (p : Pos at at′) (q : taken ≡ sat taken′) where
       abbrev Rest : Values → Type 0
-      Rest vs = (taken taken′ past : ℕ) (b : List ℕ) → taken ≡ sat taken′ → L.elements f n vs at taken past b ≡ did (λ t. sat (taken′ + t)) past b (W.elements g n vs (at′ + taken′))
+      Rest vs = (at at′ taken taken′ past : ℕ) (b : List ℕ) → Pos at at′ → taken ≡ sat taken′
+          → L.elements f n vs at taken past b ≡ did (λ t. sat (taken′ + t)) past b (W.elements g n vs at′)
 
       abbrev Whole : Values → List Put → ℕ → Laid
-      Whole vs ps t = did (λ s. sat (taken′ + s)) past b (W.behind ps t (W.elements g n vs (at′ + taken′ + t)))
+      Whole vs ps t = did (λ s. sat (taken′ + s)) past b (W.behind ps t (W.elements g n vs (at′ + t)))
 
-      goes : (vs : Values) (ps : List Put) (t : ℕ) → Rest vs → L.elements f n vs at (sat (taken + sat t)) (max past (stretch ps)) (apply ps b) ≡ Whole vs ps t
+      goes : (vs : Values) (ps : List Put) (t : ℕ) → Rest vs → L.elements f n vs (sat (at + sat t)) (sat (taken + sat t)) (max past (stretch ps)) (apply ps b) ≡ Whole vs ps t
       goes vs ps t ih =
-          let p : at′ + (taken′ + t) ≡ at′ + taken′ + t = omega arith in
-          ih (sat (taken + sat t)) (taken′ + t) (max past (stretch ps)) (apply ps b) (ap (λ x. sat (x + sat t)) q ∙ sat-sum taken′ t)
-          ∙ ap (λ a. did (λ s. sat (taken′ + t + s)) (max past (stretch ps)) (apply ps b) (W.elements g n vs a)) p ∙ fold (W.elements g n vs (at′ + taken′ + t))
+          ih (sat (at + sat t)) (at′ + t) (sat (taken + sat t)) (taken′ + t) (max past (stretch ps)) (apply ps b) (pos-sum at at′ (sat t) t p refl)
+          (ap (λ x. sat (x + sat t)) q ∙ sat-sum taken′ t)
+          ∙ fold (W.elements g n vs (at′ + t))
         where
           fold : (o : Wrote) → did (λ s. sat (taken′ + t + s)) (max past (stretch ps)) (apply ps b) o ≡ did (λ s. sat (taken′ + s)) past b (W.behind ps t o)
           fold (W.refused m) = refl
           fold (wrote qs u) = let z : sat (taken′ + t + u) ≡ sat (taken′ + (t + u)) = omega arith in joined ps qs past b _ _ z
 
       -- an element that put nothing, and all behind it
-      settled-bare : (t : ℕ) → g none (at′ + taken′) ≡ wrote [] t → laid b (max past 0) (sat (taken + sat (suc n * sat t))) ≡ Whole none [] t
+      settled-bare : (t : ℕ) → g none at′ ≡ wrote [] t → laid b (max past 0) (sat (taken + sat (suc n * sat t))) ≡ Whole none [] t
       settled-bare t o =
           ap (laid b (max past 0)) (all-taken n t taken taken′ q)
-          ∙ ap (λ x. did (λ s. sat (taken′ + s)) past b (W.behind [] t x)) (sym (bare g even (at′ + taken′) t o n (at′ + taken′ + t)))
+          ∙ ap (λ x. did (λ s. sat (taken′ + s)) past b (W.behind [] t x)) (sym (bare g even at′ t o n (at′ + t)))
 
       -- an element that took nothing, and all behind it
-      settled-still : (ps : List Put) → g none (at′ + taken′) ≡ wrote ps 0 → In room (at′ + taken′) (wrote ps 0)
+      settled-still : (ps : List Put) → g none at′ ≡ wrote ps 0 → In room at′ (wrote ps 0)
           → laid (apply ps b) (max past (stretch ps)) (sat (taken + sat (suc n * sat 0))) ≡ Whole none ps 0
       settled-still ps o lies =
-          let z : at′ + taken′ + 0 ≡ at′ + taken′ = omega arith in
+          let z : at′ + 0 ≡ at′ = omega arith in
           let y : sat (suc n * sat 0) ≡ 0 = ap sat (mul-zero (suc n)) in
           let x : sat (taken + sat (suc n * sat 0)) ≡ sat (taken′ + (0 + 0)) = ap₂ (λ a c. sat (a + c)) q y ∙ sat-sum taken′ 0 in
           ap₂ (laid (apply ps b)) (ap (max past) (sym (stretch-repeated n ps))) x
           ∙ ap (λ c. laid c (max past (stretch (ps ++ repeated n ps))) (sat (taken′ + (0 + 0))))
-          (sym (apply-append ps (repeated n ps) b ∙ empty-repeated room (at′ + taken′) n ps (apply ps b) lies))
-          ∙ ap (λ w. did (λ s. sat (taken′ + s)) past b (W.behind ps 0 w)) (sym (ap (W.elements g n none) z ∙ still g (at′ + taken′) ps o n))
+          (sym (apply-append ps (repeated n ps) b ∙ empty-repeated room at′ n ps (apply ps b) lies))
+          ∙ ap (λ w. did (λ s. sat (taken′ + s)) past b (W.behind ps 0 w)) (sym (ap (W.elements g n none) z ∙ still g at′ ps o n))
 
       zero-of : (t : ℕ) → eqb (sat t) 0 ≡ true → t ≡ 0
       zero-of t h = omega (arith, eqb-true (sat t) 0 h)
@@ -227,47 +228,40 @@ module _ (room : ℕ) (small : room ≤ 65536) where
       abbrev Settled : List Put → ℕ → Laid
       Settled ps t = laid (apply ps b) (max past (stretch ps)) (sat (taken + sat (suc n * sat t)))
 
-      settles : (ps : List Put) (t : ℕ) → g none (at′ + taken′) ≡ wrote ps t → In room (at′ + taken′) (wrote ps t) → Rest none
-          → cond (eqb (sat t) 0 || eqb (stretch ps) 0) (Settled ps t) (L.elements f n none at (sat (taken + sat t)) (max past (stretch ps)) (apply ps b)) ≡ Whole none ps t
+      settles : (ps : List Put) (t : ℕ) → g none at′ ≡ wrote ps t → In room at′ (wrote ps t) → Rest none
+          → cond (eqb (sat t) 0 || eqb (stretch ps) 0) (Settled ps t) (L.elements f n none (sat (at + sat t)) (sat (taken + sat t)) (max past (stretch ps)) (apply ps b)) ≡ Whole none ps t
       settles ps t o lies ih = go (eqb (sat t) 0) (eqb (stretch ps) 0) refl refl
         where
           go : (x y : Bool) → eqb (sat t) 0 ≡ x → eqb (stretch ps) 0 ≡ y
-              → cond (x || y) (Settled ps t) (L.elements f n none at (sat (taken + sat t)) (max past (stretch ps)) (apply ps b)) ≡ Whole none ps t
+              → cond (x || y) (Settled ps t) (L.elements f n none (sat (at + sat t)) (sat (taken + sat t)) (max past (stretch ps)) (apply ps b)) ≡ Whole none ps t
           go true y u v =
-              subst⁻¹ (λ s. g none (at′ + taken′) ≡ wrote ps s → In room (at′ + taken′) (wrote ps s) → Settled ps s ≡ Whole none ps s) (zero-of t u) (settled-still ps) o lies
+              subst⁻¹ (λ s. g none at′ ≡ wrote ps s → In room at′ (wrote ps s) → Settled ps s ≡ Whole none ps s) (zero-of t u) (settled-still ps) o lies
           go false true u v =
-              subst⁻¹ (λ qs. g none (at′ + taken′) ≡ wrote qs t → Settled qs t ≡ Whole none qs t) (stretch-none ps (eqb-true (stretch ps) 0 v)) (settled-bare t) o
+              subst⁻¹ (λ qs. g none at′ ≡ wrote qs t → Settled qs t ≡ Whole none qs t) (stretch-none ps (eqb-true (stretch ps) 0 v)) (settled-bare t) o
           go false false u v = goes none ps t ih
 
-      element : (vs : Values) (o : Wrote) → g vs (at′ + taken′) ≡ o → In room (at′ + taken′) o → Rest (restOf vs)
-          → L.next (done b o) (λ b′ past′ t. cond (settled vs past′ t) (laid b′ (max past past′) (sat (taken + sat (suc n * t)))) (L.elements f n (restOf vs) at (sat (taken + t)) (max past past′) b′))
-          ≡ did (λ t. sat (taken′ + t)) past b (W.next o (λ ps t. W.behind ps t (W.elements g n (restOf vs) (at′ + taken′ + t))))
+      element : (vs : Values) (o : Wrote) → g vs at′ ≡ o → In room at′ o → Rest (restOf vs)
+          → L.next (done b o) (λ b′ past′ t. cond (settled vs past′ t) (laid b′ (max past past′) (sat (taken + sat (suc n * t)))) (L.elements f n (restOf vs) (sat (at + t)) (sat (taken + t)) (max past past′) b′))
+          ≡ did (λ t. sat (taken′ + t)) past b (W.next o (λ ps t. W.behind ps t (W.elements g n (restOf vs) (at′ + t))))
       element vs (W.refused m) e lies ih = refl
       element none (wrote ps t) e lies ih = settles ps t e lies ih
       element (node it members rest) (wrote ps t) e lies ih = goes rest ps t ih
 
     elements-does : (n : ℕ) (vs : Values) (at at′ taken taken′ past : ℕ) (b : List ℕ) → Pos at at′ → taken ≡ sat taken′
-        → L.elements f n vs at taken past b ≡ did (λ t. sat (taken′ + t)) past b (W.elements g n vs (at′ + taken′))
+        → L.elements f n vs at taken past b ≡ did (λ t. sat (taken′ + t)) past b (W.elements g n vs at′)
     unfolding L.elements W.elements
     elements-does zero vs at at′ taken taken′ past b p q =
         let z : past ≡ max past 0 = omega arith in
         let y : taken′ ≡ taken′ + 0 = omega arith in
         ap₂ (laid b) z (q ∙ ap sat y)
     elements-does (suc n) vs at at′ taken taken′ past b p q =
-        rw (does vs (sat (at + taken)) (at′ + taken′) b (pos-sum at at′ taken taken′ p q))
-        (element n at at′ taken taken′ past b q vs (g vs (at′ + taken′)) refl (keeps vs (at′ + taken′))
-        (λ u u′ h c r. elements-does n (restOf vs) at at′ u u′ h c p r))
+        rw (does vs at at′ b p) (element n at at′ taken taken′ past b p q vs (g vs at′) refl (keeps vs at′) (elements-does n (restOf vs)))
 
     table-does : (e : Entry) → Does (L.table e f) (W.table e g)
     unfolding L.table W.table
     table-does e vs at at′ b p =
         inside-does 6 (λ ms. L.elements f (tableLength e ms) ms at 0 0 b) (λ ms. W.elements g (tableLength e ms) ms at′) vs b
-        (λ ms. elements-does (tableLength e ms) ms at at′ 0 0 0 b p refl ∙ start (tableLength e ms) ms)
-      where
-        start : (n : ℕ) (ms : Values) → did (λ t. sat (0 + t)) 0 b (W.elements g n ms (at′ + 0)) ≡ done b (W.elements g n ms at′)
-        start n ms =
-            let z : at′ + 0 ≡ at′ = omega arith in
-            did-done (λ t. sat (0 + t)) b (W.elements g n ms (at′ + 0)) (λ t. omega arith) ∙ ap (λ a. done b (W.elements g n ms a)) z
+        (λ ms. elements-does (tableLength e ms) ms at at′ 0 0 0 b p refl ∙ did-done (λ t. sat (0 + t)) b (W.elements g (tableLength e ms) ms at′) (λ t. omega arith))
 
   field-does : {S : Type 0} (k : Codec S) (e : Entry) (f : Layer) (g : Writer) → Fair k e → Does f g → Even g → Keeps room g → Does (L.field k room e f) (W.field k room e g)
   unfolding L.field W.field

@@ -1,13 +1,13 @@
 -- The laws by which a step of the writer's walk goes.
 use mathlib.Core.Path.{_≡_, refl, sym, ap, ap₂, _∙_}
-use mathlib.Core.Bool.{Bool, true, false, _&&_, _||_, cond, false≢true}
-use mathlib.Core.List.{List, [], _∷_, _++_}
-use Prim.Native.Nat.{ℕ, zero, suc, _+_, _-_, _*_, _<_, _≤_, min, max}
+use mathlib.Core.Bool.{Bool, true, false, cond}
+use mathlib.Core.List.{List}
+use Prim.Native.Nat.{ℕ, suc, _+_, _-_, _*_, _<_, _≤_, min, max}
 use native.Mathlib.Omega.{arith}
 use native.Mathlib.Decide.{decLt}
-use lib.Dec.{eqb, leb, ltb}
+use lib.Dec.{eqb, leb}
 use lib.ListN.{length}
-use borrow.Author.Tests.{ne-eqb, eq-eqb, lt-leb, le-leb, eqb-true}
+use borrow.Author.Tests.{ne-eqb, eq-eqb, lt-leb, le-leb}
 use Rattle.spans.specs.Tree.{Tree, none, node, endOf}
 use Rattle.spans.proofs.Tree.{tree-none, tree-at}
 use Rattle.layout.specs.declared.Entry.{Entry}
@@ -15,34 +15,14 @@ use Rattle.layout.specs.Layout.{entryAt, spanOf, isGroup, part, reservedWidth}
 use Rattle.items.specs.declared.Item.{Item}
 use Rattle.items.specs.Items as Items
 use Rattle.items.specs.Items.{Values, values, headOf, membersOf, restOf, lookup}
-use Rattle.items.proofs.Items.{values-none, values-node, members-is, members-null}
-use Rattle.walks.specs.Walk.{single, Codec}
-use Rattle.walks.specs.Writing.{tableLength}
-use Rattle.encode_leaf.specs.Laying.{sat, Laid, refused, laid, Layer, next, leaf, inside, one, missing, settled, elements, table, field, seq, start}
-use Rattle.encode_leaf.specs.Machine.{taking}
+use Rattle.items.proofs.Items.{values-none, values-node}
+use Rattle.walks.specs.Walk.{single, Coded, unfit, bytes, Codec}
+use Rattle.encode_leaf.specs.Laying.{sat, Laid, refused, laid, Layer, next, coded, leaf, inside, one, missing, settled, elements, table, field, seq, start}
+use Rattle.encode_leaf.specs.Machine.{codec, taking, spread}
+use Rattle.encode_leaf.proofs.Leaves.{leaf-pad}
+use Rattle.encode_leaf.proofs.Inside.{inside-not, inside-is}
 
--- ---- the members of a value
-
-module _ (tag : ℕ) (f : Values → Laid) (v : List ℕ) (i to : ℕ) (it : Item) (p : it ≡ headOf (values v i to)) where
-  pub inside-not : taking (it .tag) tag ≡ false → inside tag f (values v i to) ≡ refused 13
-  unfolding inside
-  inside-not h = rw (← p) (go (eqb (it .tag) tag) (eqb (it .tag) 0) h)
-    where
-      go : (x y : Bool) → (x || y) ≡ false → cond x (f (membersOf (values v i to))) (cond y (f none) (refused 13)) ≡ refused 13
-      go true y h = absurd (false≢true (sym h))
-      go false true h = absurd (false≢true (sym h))
-      go false false h = refl
-
-  pub inside-is : (en m : ℕ) → taking (it .tag) tag ≡ true → en ≡ endOf (Items.spanOf (headOf (values v i to))) i to → m ≡ min en (i + 1) → inside tag f (values v i to) ≡ f (values v m en)
-  unfolding inside
-  inside-is en m h q r = rw (← p) (go (eqb (it .tag) tag) (eqb (it .tag) 0) refl h)
-    where
-      go : (x y : Bool) → eqb (it .tag) 0 ≡ y → (x || y) ≡ true → cond x (f (membersOf (values v i to))) (cond y (f none) (refused 13)) ≡ f (values v m en)
-      go true y z h = ap f (members-is v i to (headOf (values v i to)) (Items.spanOf (headOf (values v i to))) en refl refl q m r)
-      go false true z h = ap f (sym (members-null v i to (headOf (values v i to)) (Items.spanOf (headOf (values v i to))) en refl refl q m r (ap (λ (x : Item). x .tag) (sym p) ∙ eqb-true (it .tag) 0 z)))
-      go false false z h = absurd (false≢true h)
-
--- ---- one value, a table
+-- ---- one element
 
 module _ {S : Type 0} (k : Codec S) (room : ℕ) (e : Entry) (inner : Layer) (v : List ℕ) (i to at : ℕ) (b : List ℕ) (it : Item) (p : it ≡ headOf (values v i to)) where
   pub one-leaf : (e .kind ≡ 9 → ⊥) → one k room e inner (values v i to) at b ≡ leaf k room e it at b
@@ -58,25 +38,65 @@ module _ {S : Type 0} (k : Codec S) (room : ℕ) (e : Entry) (inner : Layer) (v 
   unfolding one
   one-group h t r f en m q s = rw (eq-eqb (e .kind) 9 h) (inside-is 7 (λ ms. inner ms at b) v i to it p en m (sym r ∙ f) q s)
 
-  module _ (z : Bool) (y : z ≡ single e) where
-    pub field-one : z ≡ true → field k room e inner (values v i to) at b ≡ one k room e inner (values v i to) at b
-    unfolding field
-    field-one h = rw (sym y ∙ h) refl
+pub one-pad : (masks text : List ℕ) (page room : ℕ) (e : Entry) (inner : Layer) (vs : Values) (at : ℕ) (b : List ℕ) (it : Item) → e .kind ≡ 6
+    → one (codec masks page text) room e inner vs at b ≡ leaf (codec masks page text) room e it at b
+unfolding one
+one-pad masks text page room e inner vs at b it h = rw (ne-eqb (e .kind) 9 (λ k. omega arith)) (leaf-pad masks text page room e (headOf vs) it at b h)
 
-    field-table : z ≡ false → field k room e inner (values v i to) at b ≡ table e (one k room e inner) (values v i to) at b
-    unfolding field
-    field-table h = rw (sym y ∙ h) refl
+-- ---- the bytes taken, which stop at 2^63
 
-    pub field-not : z ≡ false → (t : Bool) → t ≡ taking (it .tag) 6 → t ≡ false → field k room e inner (values v i to) at b ≡ refused 13
-    unfolding table
-    field-not h t r f = field-table h ∙ inside-not 6 (λ ms. elements (one k room e inner) (tableLength e ms) ms at 0 0 b) v i to it p (sym r ∙ f)
+abbrev Stops : Laid → Type 0
+Stops (refused n) = Unit {0}
+Stops (laid b past t) = t ≤ 9223372036854775808
 
-    pub field-elements : z ≡ false → (t : Bool) → t ≡ taking (it .tag) 6 → t ≡ true → (en m n : ℕ) → en ≡ endOf (Items.spanOf (headOf (values v i to))) i to → m ≡ min en (i + 1)
-        → n ≡ tableLength e (values v m en) → field k room e inner (values v i to) at b ≡ elements (one k room e inner) n (values v m en) at 0 0 b
-    unfolding table
-    field-elements h t r f en m n q s c =
-        field-table h ∙ inside-is 6 (λ ms. elements (one k room e inner) (tableLength e ms) ms at 0 0 b) v i to it p en m (sym r ∙ f) q s
-        ∙ ap (λ x. elements (one k room e inner) x (values v m en) at 0 0 b) (sym c)
+cond-stops : (x : Bool) (o p : Laid) → Stops o → Stops p → Stops (cond x o p)
+cond-stops true o p h k = h
+cond-stops false o p h k = k
+
+next-stops : (o : Laid) (f : List ℕ → ℕ → ℕ → Laid) → ((b : List ℕ) (past t : ℕ) → Stops (f b past t)) → Stops (next o f)
+next-stops (refused n) f h = tt
+next-stops (laid b past t) f h = h b past t
+
+coded-stops : (room w at : ℕ) (b : List ℕ) (c : Coded) → w ≤ 9223372036854775808 → Stops (coded room w at b c)
+coded-stops room w at b (unfit n) h = tt
+coded-stops room w at b (bytes bs) h = cond-stops (leb (at + length bs) room) _ _ h tt
+
+seq-stops : {S : Type 0} (k : Codec S) (room : ℕ) (t : Tree Entry) (vs : Values) (base shift taken past : ℕ) (b : List ℕ) → taken ≤ 9223372036854775808 → Stops (seq k room t vs base shift taken past b)
+unfolding seq
+seq-stops k room none vs base shift taken past b h = h
+seq-stops k room (node e members rest) vs base shift taken past b h =
+    next-stops (field k room e (λ ms base′ b′. seq k room members ms base′ 0 0 0 b′) (lookup (e .name) vs) (sat (base + sat (e .offset + shift))) b) _
+    (λ b′ past′ t. seq-stops k room rest vs base (sat (shift + (t - reservedWidth e))) (max taken (sat (sat (e .offset + shift) + t))) (max past past′) b′ (omega arith))
+
+-- ---- one element, or the elements of a table
+
+module _ {S : Type 0} (k : Codec S) (room : ℕ) (e : Entry) (members : Tree Entry) (small : e .width ≤ 9223372036854775808) where
+  one-stops : (vs : Values) (at : ℕ) (b : List ℕ) → Stops (one k room e (start k room members) vs at b)
+  unfolding one inside leaf
+  one-stops vs at b =
+      cond-stops (isGroup e) _ _
+      (cond-stops (eqb (headOf vs .tag) 7) _ _ (seq-stops k room members (membersOf vs) at 0 0 0 b (omega arith))
+      (cond-stops (eqb (headOf vs .tag) 0) _ (refused 13) (seq-stops k room members none at 0 0 0 b (omega arith)) tt))
+      (coded-stops room (e .width) at b (k .enc e (headOf vs)) small)
+
+  -- the loop over one element is that element
+  once : (vs : Values) (at : ℕ) (b : List ℕ) → one k room e (start k room members) vs at b ≡ elements (one k room e (start k room members)) 1 vs at 0 0 b
+  unfolding elements
+  once vs at b = go (one k room e (start k room members) vs at b) (one-stops vs at b)
+    where
+      go : (o : Laid) → Stops o
+          → o ≡ next o (λ b′ past′ t. cond (settled vs past′ t) (laid b′ (max 0 past′) (sat (0 + sat (1 * t)))) (laid b′ (max 0 past′) (sat (0 + t))))
+      go (refused n) h = refl
+      go (laid b′ past′ t) h = by (settled vs past′ t)
+        where
+          by : (x : Bool) → laid b′ past′ t ≡ cond x (laid b′ (max 0 past′) (sat (0 + sat (1 * t)))) (laid b′ (max 0 past′) (sat (0 + t)))
+          by true = ap₂ (laid b′) (omega arith) (omega (arith, h))
+          by false = ap₂ (laid b′) (omega arith) (omega (arith, h))
+
+  pub field-spread : (vs : Values) (at : ℕ) (b : List ℕ)
+      → field k room e (start k room members) vs at b ≡ spread e (λ n ms. elements (one k room e (start k room members)) n ms at 0 0 b) vs
+  unfolding field table spread
+  field-spread vs at b = ap (λ o. cond (single e) o (table e (one k room e (start k room members)) vs at b)) (once vs at b)
 
 -- ---- the elements of a table
 
@@ -96,17 +116,17 @@ module _ (f : Layer) (n : ℕ) (vs : Values) (at taken past : ℕ) (b : List ℕ
     left : n ≡ suc (n - 1)
     left = omega arith
 
-    pub elements-refused : (m : ℕ) → f vs (sat (at + taken)) b ≡ refused m → elements f n vs at taken past b ≡ refused m
+    pub elements-refused : (m : ℕ) → f vs at b ≡ refused m → elements f n vs at taken past b ≡ refused m
     unfolding elements
     elements-refused m e = rw (left, e) refl
 
-    module _ (b′ : List ℕ) (past′ t : ℕ) (e : f vs (sat (at + taken)) b ≡ laid b′ past′ t) where
+    module _ (b′ : List ℕ) (past′ t : ℕ) (e : f vs at b ≡ laid b′ past′ t) where
       pub elements-settled : settled vs past′ t ≡ true → elements f n vs at taken past b ≡ laid b′ (max past past′) (sat (taken + sat (n * t)))
       unfolding elements
       elements-settled s =
           ap (λ x. elements f x vs at taken past b) left ∙ rw (e, s) (ap (λ x. laid b′ (max past past′) (sat (taken + sat (x * t)))) (sym left))
 
-      pub elements-go : settled vs past′ t ≡ false → elements f n vs at taken past b ≡ elements f (n - 1) (restOf vs) at (sat (taken + t)) (max past past′) b′
+      pub elements-go : settled vs past′ t ≡ false → elements f n vs at taken past b ≡ elements f (n - 1) (restOf vs) (sat (at + t)) (sat (taken + t)) (max past past′) b′
       unfolding elements
       elements-go s = ap (λ x. elements f x vs at taken past b) left ∙ rw (e, s) refl
 

@@ -14,9 +14,10 @@ use Rattle.items.specs.Items.{Values, values, headOf, lookup}
 use Rattle.items.proofs.Items.{rest-is}
 use Rattle.walks.specs.Records.{most}
 use Rattle.encode_leaf.specs.declared.Out.{Out}
+use Rattle.encode_leaf.specs.declared.Run.{Run}
 use Rattle.encode_leaf.specs.Laying.{sat, Laid, refused, laid, Layer, settled, one, elements, field, seq, start}
-use Rattle.encode_leaf.specs.Machine.{codec, roomIn}
-use Rattle.encode.proofs.Steps.{missing-by, elements-end, elements-refused, elements-settled, elements-go, seq-end, seq-refused, seq-go}
+use Rattle.encode_leaf.specs.Machine.{codec, roomIn, spread, Spreads}
+use Rattle.encode.proofs.Steps.{field-spread, missing-by, elements-end, elements-refused, elements-settled, elements-go, seq-end, seq-refused, seq-go}
 
 -- the walk's parts in a buffer of this length
 module _ (masks text : List ℕ) (page : ℕ) (l : List ℕ) (b : List ℕ) where
@@ -79,25 +80,39 @@ module _ {masks text : List ℕ} {page : ℕ} {l v b₀ : List ℕ} {lo hi from 
       past-lo = omega (arith, inv .past-lo);
     }
 
--- ---- a table: o is what the whole field comes to
+-- ---- the elements of an entry: o is what the whole field comes to
 
-pub record FieldInv (o : Laid) (masks text : List ℕ) (page : ℕ) (l v b₀ : List ℕ) (e : Entry) (lo hi at end : ℕ) (b : List ℕ) (j left taken past : ℕ) : Type 0 where
+pub record FieldInv (o : Laid) (masks text : List ℕ) (page : ℕ) (l v b₀ : List ℕ) (e : Entry) (lo hi end : ℕ) (b : List ℕ) (j left at taken past : ℕ) : Type 0 where
   pub whole : o ≡ elements (oneIn masks text page l b₀ e lo hi) left (values v j end) at taken past b
   pub same : length b ≡ length b₀
 
-module _ {o : Laid} {masks text : List ℕ} {page : ℕ} {l v b₀ : List ℕ} {e : Entry} {lo hi at end : ℕ} {b : List ℕ} {j left taken past : ℕ}
-    (inv : FieldInv o masks text page l v b₀ e lo hi at end b j left taken past) where
+module _ (masks text : List ℕ) (page : ℕ) (l v b : List ℕ) (e : Entry) (lo hi i to at : ℕ) (small : e .width ≤ 9223372036854775808) (r : Run) (s : Spreads v e (values v i to) r) where
+  abbrev Elements : ℕ → Values → Laid
+  Elements n ms = elements (oneIn masks text page l b e lo hi) n ms at 0 0 b
+
+  spread-is : fieldIn masks text page l b e lo hi (values v i to) at b ≡ spread e Elements (values v i to)
+  spread-is = field-spread (codec masks page text) (roomIn b) e (part l lo hi) small (values v i to) at b
+
+  pub field-not : (r .refused ≡ 0 → ⊥) → fieldIn masks text page l b e lo hi (values v i to) at b ≡ refused (r .refused)
+  field-not h = spread-is ∙ s .refuses h Elements
+
+  pub field-starts : r .refused ≡ 0
+      → FieldInv (fieldIn masks text page l b e lo hi (values v i to) at b) masks text page l v b e lo hi (r .end) b (r .from) (r .n) at 0 0
+  field-starts h = record { whole = spread-is ∙ s .fine h Elements; same = refl }
+
+module _ {o : Laid} {masks text : List ℕ} {page : ℕ} {l v b₀ : List ℕ} {e : Entry} {lo hi end : ℕ} {b : List ℕ} {j left at taken past : ℕ}
+    (inv : FieldInv o masks text page l v b₀ e lo hi end b j left at taken past) where
   pub field-done : left ≤ 0 → o ≡ laid b past taken
   field-done h = inv .whole ∙ elements-end (oneIn masks text page l b₀ e lo hi) left (values v j end) at taken past b h
 
-  module _ (at′ : ℕ) (h : 0 < left) (o1 : at′ ≡ sat (at + taken)) where
-    element-is : oneIn masks text page l b e lo hi (values v j end) at′ b ≡ oneIn masks text page l b₀ e lo hi (values v j end) (sat (at + taken)) b
-    element-is = one-room masks text page l b₀ b (inv .same) e lo hi (values v j end) at′ b ∙ ap (λ a. oneIn masks text page l b₀ e lo hi (values v j end) a b) o1
+  module _ (h : 0 < left) where
+    element-is : oneIn masks text page l b e lo hi (values v j end) at b ≡ oneIn masks text page l b₀ e lo hi (values v j end) at b
+    element-is = one-room masks text page l b₀ b (inv .same) e lo hi (values v j end) at b
 
-    pub field-stops : (m : ℕ) → oneIn masks text page l b e lo hi (values v j end) at′ b ≡ refused m → o ≡ refused m
+    pub field-stops : (m : ℕ) → oneIn masks text page l b e lo hi (values v j end) at b ≡ refused m → o ≡ refused m
     field-stops m f = inv .whole ∙ elements-refused (oneIn masks text page l b₀ e lo hi) left (values v j end) at taken past b h m (sym element-is ∙ f)
 
-    module _ (r : Out) (b′ : List ℕ) (past′ : ℕ) (f : oneIn masks text page l b e lo hi (values v j end) at′ b ≡ laid b′ (r .past) (r .taken)) (p : past′ ≡ max past (r .past))
+    module _ (r : Out) (b′ : List ℕ) (past′ : ℕ) (f : oneIn masks text page l b e lo hi (values v j end) at b ≡ laid b′ (r .past) (r .taken)) (p : past′ ≡ max past (r .past))
         (z : Bool) (y : z ≡ (leb end j && (eqb (r .taken) 0 || eqb (r .past) 0))) where
       settled-is : (x : Bool) → z ≡ x → settled (values v j end) (r .past) (r .taken) ≡ x
       settled-is x q = ap (λ m. m && (eqb (r .taken) 0 || eqb (r .past) 0)) (missing-by v j end) ∙ sym y ∙ q
@@ -107,12 +122,14 @@ module _ {o : Laid} {masks text : List ℕ} {page : ℕ} {l v b₀ : List ℕ} {
           inv .whole ∙ elements-settled (oneIn masks text page l b₀ e lo hi) left (values v j end) at taken past b h b′ (r .past) (r .taken) (sym element-is ∙ f) (settled-is true q)
           ∙ ap₂ (laid b′) (sym p) (sym (w ∙ ap (λ x. sat (taken + x)) u))
 
-      pub field-goes : z ≡ false → (j′ taken′ left′ : ℕ) → length b′ ≡ length b → j′ ≡ endOf (Items.spanOf (headOf (values v j end))) j end → taken′ ≡ sat (taken + r .taken) → left′ ≡ left - 1
-          → FieldInv o masks text page l v b₀ e lo hi at end b′ j′ left′ taken′ past′
-      field-goes q j′ taken′ left′ same u w x = record {
+      pub field-goes : z ≡ false → (at′ taken′ j′ left′ : ℕ) → length b′ ≡ length b → at′ ≡ sat (at + r .taken) → taken′ ≡ sat (taken + r .taken)
+          → j′ ≡ endOf (Items.spanOf (headOf (values v j end))) j end → left′ ≡ left - 1
+          → FieldInv o masks text page l v b₀ e lo hi end b′ j′ left′ at′ taken′ past′
+      field-goes q at′ taken′ j′ left′ same g w u x = record {
         whole = inv .whole ∙ elements-go (oneIn masks text page l b₀ e lo hi) left (values v j end) at taken past b h b′ (r .past) (r .taken) (sym element-is ∙ f) (settled-is false q)
-            ∙ ap₂ (λ vs t. elements (oneIn masks text page l b₀ e lo hi) (left - 1) vs at t (max past (r .past)) b′)
-            (rest-is v j end (headOf (values v j end)) (Items.spanOf (headOf (values v j end))) j′ refl refl u) (sym w)
-            ∙ ap₂ (λ n p. elements (oneIn masks text page l b₀ e lo hi) n (values v j′ end) at taken′ p b′) (sym x) (sym p);
+            ∙ ap₂ (λ vs a. elements (oneIn masks text page l b₀ e lo hi) (left - 1) vs a (sat (taken + r .taken)) (max past (r .past)) b′)
+            (rest-is v j end (headOf (values v j end)) (Items.spanOf (headOf (values v j end))) j′ refl refl u) (sym g)
+            ∙ ap₂ (λ n t. elements (oneIn masks text page l b₀ e lo hi) n (values v j′ end) at′ t (max past (r .past)) b′) (sym x) (sym w)
+            ∙ ap (λ y. elements (oneIn masks text page l b₀ e lo hi) left′ (values v j′ end) at′ taken′ y b′) (sym p);
         same = same ∙ inv .same;
       }

@@ -1,16 +1,16 @@
 // The record writer: a sequence writes fields, a field writes elements, a group element writes a sequence.
 use encode_leaf::Out;
 use encode_leaf::clear;
+use encode_leaf::elements_of;
 use encode_leaf::encode_leaf;
-use encode_leaf::is_single;
 use encode_leaf::larger;
 use encode_leaf::less;
+use encode_leaf::no_item;
 use encode_leaf::refusal;
 use encode_leaf::room_of;
 use encode_leaf::sat_add;
 use encode_leaf::sat_mul;
 use encode_leaf::settles;
-use encode_leaf::table_length;
 use encode_leaf::takes;
 use items::after;
 use items::check_items;
@@ -99,7 +99,8 @@ fn encode_seq(
     }
 }
 
-// An entry whose members are the entries lo up to hi, by the first of the items i..to: one element, or the elements of a table.
+// An entry whose members are the entries lo up to hi, by the first of the items i..to: one element, or the elements of a table. One call
+// of encode_one serves both, so that the frame stays small.
 fn encode_field(
     layout: &[u32],
     masks: &[u8],
@@ -116,23 +117,31 @@ fn encode_field(
 ) -> Out
     ensures { λ r. ⌜ Met (field (codec (now (masks .entry)) page (now (text .entry))) (roomIn (now (rec .entry))) e (start (codec (now (masks .entry)) page (now (text .entry))) (roomIn (now (rec .entry))) (part (now (layout .entry)) lo hi)) (values (now (items .entry)) i to) at (now (rec .entry))) r (now (rec .exit)) ⌝ }
 {
-    if is_single(e) {
-        return encode_one(layout, masks, items, text, rec, page, e, lo, hi, i, to, at);
+    let s = elements_of(items, e, i, to);
+    if s.refused != 0 {
+        return refusal(s.refused);
     }
-    let it = fetch(items, i, to);
-    if !takes(it.tag, 6) {
-        return refusal(13);
-    }
-    let end = item_end(items, i, to);
-    let from = after(i, end);
-    let n = table_length(items, e, from, end);
-    let mut j = from;
-    let mut left = n;
+    let end = s.end;
+    let mut j = s.from;
+    let mut left = s.n;
+    let mut place = at;
     let mut taken: u64 = 0;
     let mut past: u64 = 0;
     while left > 0 {
-        let p = sat_add(at, taken);
-        let o = encode_one(layout, masks, items, text, rec, page, e, lo, hi, j, end, p);
+        let o = encode_one(
+            layout,
+            masks,
+            items,
+            text,
+            rec,
+            page,
+            e,
+            lo,
+            hi,
+            j,
+            end,
+            place,
+        );
         if o.refused != 0 {
             return refusal(o.refused);
         }
@@ -144,6 +153,7 @@ fn encode_field(
                 taken: sat_add(taken, sat_mul(left, o.taken)),
             };
         }
+        place = sat_add(place, o.taken);
         taken = sat_add(taken, o.taken);
         j = item_end(items, j, end);
         left = left - 1;
@@ -155,7 +165,8 @@ fn encode_field(
     }
 }
 
-// One element, by the first of the items i..to: a group of the entries lo up to hi, or a scalar or Pad.
+// One element, by the first of the items i..to: a group of the entries lo up to hi, or a scalar or Pad. The leaf is called at two places, for
+// a Pad without its value, which does not matter, so that it is not compiled into this frame.
 fn encode_one(
     layout: &[u32],
     masks: &[u8],
@@ -172,6 +183,9 @@ fn encode_one(
 ) -> Out
     ensures { λ r. ⌜ Met (one (codec (now (masks .entry)) page (now (text .entry))) (roomIn (now (rec .entry))) e (start (codec (now (masks .entry)) page (now (text .entry))) (roomIn (now (rec .entry))) (part (now (layout .entry)) lo hi)) (values (now (items .entry)) i to) at (now (rec .entry))) r (now (rec .exit)) ⌝ }
 {
+    if e.kind == 6 {
+        return encode_leaf(masks, text, rec, page, e, no_item(), at);
+    }
     let it = fetch(items, i, to);
     if e.kind != 9 {
         return encode_leaf(masks, text, rec, page, e, it, at);

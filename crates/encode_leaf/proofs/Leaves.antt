@@ -168,6 +168,12 @@ module _ (masks text : List ℕ) (page : ℕ) (e : Entry) (it : Item) (at : ℕ)
           same = ap (λ i. take at b ++ (bytesIn masks page text e it ++ drop (at + i) b)) long
               ∙ sym (in-whole at width b (bytesIn masks page text e it)) ∙ ap (λ l. take at b ++ (l ++ drop (at + width - at) (drop at b))) (sym y)
 
+-- the bytes of a Pad are the same for every item
+pub leaf-pad : (masks text : List ℕ) (page room : ℕ) (e : Entry) (it other : Item) (at : ℕ) (b : List ℕ) → e .kind ≡ 6
+    → leaf (codec masks page text) room e it at b ≡ leaf (codec masks page text) room e other at b
+unfolding leaf enc judgedOf bytesOf
+leaf-pad masks text page room e it other at b h = rw h refl
+
 -- ---- tests
 
 pub leb-shift : (room at width : ℕ) → at ≤ room → leb width (room - at) ≡ leb (at + width) room

@@ -2,3 +2,4 @@ pub mod Widths
 pub mod Meets
 pub mod Leaves
 pub mod Zeros
+pub mod Inside

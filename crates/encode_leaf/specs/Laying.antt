@@ -52,13 +52,13 @@ missing (node it members rest) = false
 abbrev pub settled : Values → ℕ → ℕ → Bool
 settled vs past t = missing vs && (eqb t 0 || eqb past 0)
 
--- the elements that are left, behind those that took so many bytes
+-- the elements that are left from a position on, behind those that took so many bytes
 unfoldable pub elements : Layer → ℕ → Values → ℕ → ℕ → ℕ → List ℕ → Laid
 elements f zero vs at taken past b = laid b past taken
 elements f (suc n) vs at taken past b =
-    next (f vs (sat (at + taken)) b)
+    next (f vs at b)
     (λ b′ past′ t. cond (settled vs past′ t) (laid b′ (max past past′) (sat (taken + sat (suc n * t))))
-    (elements f n (restOf vs) at (sat (taken + t)) (max past past′) b′))
+    (elements f n (restOf vs) (sat (at + t)) (sat (taken + t)) (max past past′) b′))
 
 unfoldable pub table : Entry → Layer → Layer
 table e f vs at b = inside 6 (λ ms. elements f (tableLength e ms) ms at 0 0 b) vs

@@ -8,15 +8,26 @@ use lib.ListN.{length}
 use Rattle.layout.specs.declared.Entry.{Entry}
 use Rattle.items.specs.declared.Item.{Item}
 use Rattle.encode_scalar.specs.Encode.{judgedOf, bytesOf}
-use Rattle.walks.specs.Walk.{Codec}
+use Rattle.items.specs.Items.{Values, values}
+use Rattle.walks.specs.Walk.{single, Codec}
+use Rattle.walks.specs.Writing.{tableLength}
 use Rattle.walks.specs.Kinds.{State, kinds, maskOf, textOf, scalarIn}
 use Rattle.walks.specs.Records.{most}
 use Rattle.encode_leaf.specs.declared.Out.{Out}
-use Rattle.encode_leaf.specs.Laying.{Laid, refused, laid}
+use Rattle.encode_leaf.specs.declared.Run.{Run}
+use Rattle.encode_leaf.specs.Laying.{Laid, refused, laid, inside}
 
 pub record Met (o : Laid) (r : Out) (b : List ℕ) : Type 0 where
   pub fine : r .refused ≡ 0 → o ≡ laid b (r .past) (r .taken)
   pub refuses : (r .refused ≡ 0 → ⊥) → o ≡ refused (r .refused)
+
+-- f of how many elements an entry has and of what they are: one, the value itself, or the members of a List
+unfoldable pub spread : Entry → (ℕ → Values → Laid) → Values → Laid
+spread e f vs = cond (single e) (f 1 vs) (inside 6 (λ ms. f (tableLength e ms) ms) vs)
+
+pub record Spreads (v : List ℕ) (e : Entry) (vs : Values) (r : Run) : Type 0 where
+  pub fine : r .refused ≡ 0 → (f : ℕ → Values → Laid) → spread e f vs ≡ f (r .n) (values v (r .from) (r .end))
+  pub refuses : (r .refused ≡ 0 → ⊥) → (f : ℕ → Values → Laid) → spread e f vs ≡ refused (r .refused)
 
 -- the writer's codec, and the bytes that the record may have in a buffer
 abbrev pub codec : List ℕ → ℕ → List ℕ → Codec State

@@ -1,5 +1,8 @@
 // The parts of the record writer: sums that stop, and one scalar or Pad put into the record.
 use items::Item;
+use items::after;
+use items::fetch;
+use items::item_end;
 use items::members;
 use layout::Entry;
 use lists::fill;
@@ -10,11 +13,12 @@ ghost use Prim.Native.Nat.{ℕ, _+_, _-_, _*_, _≤_, min, max};
 ghost use lib.IntN.{pos};
 ghost use lib.Dec.{eqb, leb};
 ghost use lib.ListN.{length, replicate};
-ghost use Rattle.items.specs.Items.{values};
+ghost use Rattle.spans.specs.Tree.{none};
+ghost use Rattle.items.specs.Items.{values, headOf};
 ghost use Rattle.walks.specs.Walk.{single};
 ghost use Rattle.walks.specs.Writing.{lay, tableLength};
 ghost use Rattle.encode_leaf.specs.Laying.{sat, leaf};
-ghost use Rattle.encode_leaf.specs.Machine.{Met, codec, roomIn, putWidth, judged, bytesIn, taking};
+ghost use Rattle.encode_leaf.specs.Machine.{Met, Spreads, codec, roomIn, putWidth, judged, bytesIn, taking};
 
 // What a part of the walk came to: the number that refuses it, or 0 with one more than the furthest end of what was put, 0 where
 // nothing was, and the bytes taken.
@@ -107,6 +111,46 @@ pub fn table_length(items: &[u64], e: Entry, from: usize, to: usize) -> u64
     members(items, from, to)
 }
 
+// The elements of an entry: how many, and the items from..end that they are; or the number that refuses the value.
+pub struct Run {
+    pub refused: u32,
+    pub n: u64,
+    pub from: usize,
+    pub end: usize,
+}
+
+// The elements of an entry by the first of the items i..to: one, that value, or those of a table, the members of a List.
+pub fn elements_of(items: &[u64], e: Entry, i: usize, to: usize) -> Run
+    ensures { λ r. ⌜ Spreads (now (items .entry)) e (values (now (items .entry)) i to) r ⌝ }
+{
+    if is_single(e) {
+        return Run {
+            refused: 0,
+            n: 1,
+            from: i,
+            end: to,
+        };
+    }
+    let it = fetch(items, i, to);
+    if !takes(it.tag, 6) {
+        return Run {
+            refused: 13,
+            n: 0,
+            from: 0,
+            end: 0,
+        };
+    }
+    let end = item_end(items, i, to);
+    let from = after(i, end);
+    let n = table_length(items, e, from, end);
+    Run {
+        refused: 0,
+        n,
+        from,
+        end,
+    }
+}
+
 // Whether the element j of the items up to `end` is missing and took or put nothing, so that all behind it go alike.
 pub fn settles(j: usize, end: usize, past: u64, taken: u64) -> bool
     ensures { λ r. ⌜ r ≡ (leb end j && (eqb taken 0 || eqb past 0)) ⌝ }
@@ -121,6 +165,18 @@ pub fn settles(j: usize, end: usize, past: u64, taken: u64) -> bool
 }
 
 // ---- one scalar or Pad
+
+// The item of a missing value, a Null.
+pub fn no_item() -> Item
+    ensures { λ r. ⌜ r ≡ headOf none ⌝ }
+{
+    Item {
+        name: 0,
+        tag: 0,
+        a: 0,
+        b: 0,
+    }
+}
 
 // The bytes that a record may have in a buffer.
 pub fn room_of(bytes: usize) -> u64

@@ -44,7 +44,11 @@ pub struct Group {
 #[derive(Default)]
 pub struct Tally {
     groups: BTreeMap<&'static str, Group>,
+    all: u64,
 }
+
+/// How often progress is told on standard error.
+const STEP: u64 = 1_000_000;
 
 const NAMES: [&str; 9] = ["Text", "Int", "Binary", "Float", "Hex", "Bool", "Pad", "Decimal", "Edited"];
 
@@ -56,9 +60,13 @@ pub enum Seen {
 
 impl Tally {
     pub fn cases(&self) -> u64 {
-        self.groups.values().map(|g| g.cases).sum()
+        self.all
     }
     pub fn note(&mut self, group: &'static str, refused: u32, seen: Seen, size: usize, input: impl FnOnce() -> String) {
+        self.all += 1;
+        if self.all % STEP == 0 {
+            eprintln!("{:>12} cases, now {group}", self.all);
+        }
         let g = self.groups.entry(group).or_default();
         g.cases += 1;
         if refused == 0 {

@@ -5,12 +5,18 @@
 mod cases;
 mod check;
 mod records;
+mod store;
+mod trips;
 
 use check::Tally;
 use std::time::Instant;
 
 fn main() {
     let args: Vec<String> = std::env::args().collect();
+    if args.get(1).map_or(false, |s| s == "store") {
+        let number = |i: usize, or: u64| args.get(i).and_then(|s| s.parse().ok()).unwrap_or(or);
+        return store::store(number(2, 6000), number(3, 1));
+    }
     let cases: u64 = args.get(1).and_then(|s| s.parse().ok()).unwrap_or(1_200_000);
     let seed: u64 = args.get(2).and_then(|s| s.parse().ok()).unwrap_or(1);
     let records: u64 = args.get(3).and_then(|s| s.parse().ok()).unwrap_or(cases / 10);
@@ -27,6 +33,8 @@ fn main() {
     step("random fields", &tally);
     records::random(&mut tally, records, seed);
     step("whole records and lists", &tally);
+    trips::random(&mut tally, records, seed);
+    step("plain layouts, fitting lists", &tally);
     if !tally.print(cases, seed) {
         std::process::exit(1);
     }

@@ -10,11 +10,11 @@ use rust::{decode, encode, Field, FieldKind, Layout, Value};
 use std::collections::HashMap;
 
 extern "C" {
-    fn ff_decode_record(
+    pub fn ff_decode_record(
         layout: *const u32, layout_len: usize, masks: *const u8, masks_len: usize, page: u32, record: *const u8, record_len: usize, items: *mut u64, items_len: usize,
         text: *mut u8, text_len: usize, counts: *mut i64, counts_len: usize, words_used: *mut u64, text_used: *mut u64,
     ) -> u32;
-    fn ff_encode_record(
+    pub fn ff_encode_record(
         layout: *const u32, layout_len: usize, masks: *const u8, masks_len: usize, page: u32, items: *const u64, items_len: usize, text: *const u8, text_len: usize,
         record: *mut u8, record_len: usize, counts: *mut i64, counts_len: usize, length: *mut u64,
     ) -> u32;
@@ -35,16 +35,16 @@ pub struct Entry {
 }
 
 impl Entry {
-    fn reserved(&self) -> u64 {
+    pub fn reserved(&self) -> u64 {
         if self.depending.is_some() { 0 } else { self.width as u64 * self.occurs.unwrap_or(1) as u64 }
     }
-    fn repeated(&self) -> bool {
+    pub fn repeated(&self) -> bool {
         self.occurs.is_some() || self.depending.is_some()
     }
     fn depends(&self) -> bool {
         self.depending.is_some() || self.members.iter().any(|m| m.depends())
     }
-    fn words(&self, out: &mut Vec<u32>, masks: &mut Vec<u8>) {
+    pub fn words(&self, out: &mut Vec<u32>, masks: &mut Vec<u8>) {
         let at = out.len();
         let mask = if self.kind.kind == 8 { masks.len() as u32 } else { 0 };
         masks.extend(&self.kind.mask);
@@ -56,7 +56,7 @@ impl Entry {
         out[at + 6] = ((out.len() - at) / 12) as u32;
     }
     /// The Rust's field; letter case differs from place to place, since it is ignored.
-    fn field(&self) -> Field {
+    pub fn field(&self) -> Field {
         let name = |n: u32, upper: bool| if upper { format!("N-{n}") } else { format!("n-{n}") };
         let mut f = if self.kind.kind == 9 { field(&Kind { kind: 6, ..self.kind.clone() }, self.width as usize) } else { field(&self.kind, self.width as usize) };
         if self.kind.kind == 9 {
@@ -112,6 +112,19 @@ fn rust_value(n: &Node) -> Option<Value> {
         Node::List(ms) => Value::List(ms.iter().map(rust_value).collect::<Option<_>>()?),
         Node::Struct(ms) => Value::Struct(ms.iter().map(|(n, m)| Some((format!("n-{n}"), rust_value(m)?))).collect::<Option<_>>()?),
     })
+}
+
+/// The Rust's list; None for a text that a Rust String cannot hold.
+pub fn rust_list(list: &[(u32, Node)]) -> Option<Vec<(String, Value)>> {
+    list.iter().map(|(n, v)| Some((format!("N-{n}"), rust_value(v)?))).collect()
+}
+
+pub fn list_words(list: &[(u32, Node)]) -> (Vec<u64>, Vec<u8>) {
+    let (mut items, mut text) = (vec![], vec![]);
+    for (n, v) in list {
+        item_words(*n as u64, v, &mut items, &mut text);
+    }
+    (items, text)
 }
 
 // ---- layouts
@@ -196,7 +209,7 @@ struct Reader<'a> {
     other: Option<String>,
 }
 
-type Read<T> = Result<T, u32>;
+pub type Read<T> = Result<T, u32>;
 
 impl Reader<'_> {
     fn place(&mut self, words: usize, text: usize) -> Read<()> {
@@ -280,7 +293,7 @@ impl Reader<'_> {
     }
 }
 
-fn whole(entries: &[Entry], record: &[u8], page: u32, items: usize, text: usize) -> (Read<Vec<(u32, Value)>>, Option<&'static str>, Option<String>) {
+pub fn whole(entries: &[Entry], record: &[u8], page: u32, items: usize, text: usize) -> (Read<Vec<(u32, Value)>>, Option<&'static str>, Option<String>) {
     let length = entries.iter().map(|e| e.offset as u64 + e.reserved()).max().unwrap_or(0);
     if record.len() > 65536 || (!entries.iter().any(|e| e.depends()) && (record.len() as u64) < length) {
         return (Err(4), None, None);
@@ -487,7 +500,7 @@ fn depth(n: &Node) -> usize {
     }
 }
 
-fn written(entries: &[Entry], values: &[(u32, Node)], page: u32, room: u64) -> (Read<Vec<u8>>, Option<&'static str>, Option<String>) {
+pub fn written(entries: &[Entry], values: &[(u32, Node)], page: u32, room: u64) -> (Read<Vec<u8>>, Option<&'static str>, Option<String>) {
     if values.iter().any(|v| depth(&v.1) > 16) {
         return (Err(11), Some("value lists deeper than 16 (11)"), None);
     }
@@ -505,14 +518,12 @@ fn written(entries: &[Entry], values: &[(u32, Node)], page: u32, room: u64) -> (
 
 /// Writes one list both ways.
 pub fn write_record(t: &mut Tally, b: &mut Buffers, entries: &[Entry], layout: &Layout, list: &[(u32, Node)], pg: u32, room: usize) -> Option<Vec<u8>> {
-    let them: Vec<(String, Value)> = list.iter().map(|(n, v)| Some((format!("N-{n}"), rust_value(v)?))).collect::<Option<_>>()?;
-    let (mut words, mut masks, mut items, mut text) = (vec![], vec![], vec![], vec![]);
+    let them = rust_list(list)?;
+    let (mut words, mut masks) = (vec![], vec![]);
     for e in entries {
         e.words(&mut words, &mut masks);
     }
-    for (n, v) in list {
-        item_words(*n as u64, v, &mut items, &mut text);
-    }
+    let (items, text) = list_words(list);
     let (room, counts) = (room.min(b.record.len()), words.len() / 6);
     let mut length = 77u64;
     let n = unsafe {
@@ -588,7 +599,7 @@ fn node(g: &mut Random, e: &Entry, once: bool, counts: &mut HashMap<u32, u64>) -
     Node::One(v)
 }
 
-fn list(g: &mut Random, entries: &[Entry], counts: &mut HashMap<u32, u64>) -> Vec<(u32, Node)> {
+pub fn list(g: &mut Random, entries: &[Entry], counts: &mut HashMap<u32, u64>) -> Vec<(u32, Node)> {
     let mut out = vec![];
     for e in entries {
         if e.kind.kind == 6 && g.below(20) != 0 {
@@ -610,7 +621,7 @@ fn list(g: &mut Random, entries: &[Entry], counts: &mut HashMap<u32, u64>) -> Ve
 }
 
 /// Bytes that come near what the layout's own order asks for, with no list behind them.
-fn raw(g: &mut Random, entries: &[Entry], pg: u32, out: &mut Vec<u8>) {
+pub fn raw(g: &mut Random, entries: &[Entry], pg: u32, out: &mut Vec<u8>) {
     for e in entries {
         for _ in 0..e.occurs.unwrap_or(1).min(6) {
             if e.kind.kind == 9 {

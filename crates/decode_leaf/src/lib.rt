@@ -180,7 +180,7 @@ fn sets_count(deps: bool, once: bool, kind: u32) -> bool
     kind == 2
 }
 
-fn note(layout: &[u32], counts: &mut [i64], deps: bool, e: Entry, once: bool, v: Scalar)
+pub fn note(layout: &[u32], counts: &mut [i64], deps: bool, e: Entry, once: bool, v: Scalar)
     ensures { λ _. ⌜ now (counts .exit) ≡ noteIn (now (layout .entry)) deps e once v (now (counts .entry)) ⌝ }
 {
     if sets_count(deps, once, e.kind) {

@@ -37,7 +37,7 @@ use Rattle.decode_walk.proofs.Alike.{Alike, Alike-leaf, both-bad, both-
 
 -- ---- what Int and Binary say is in range
 
-abbrev Ranged : Says → Type 0
+abbrev pub Ranged : Says → Type 0
 Ranged (refused n) = Unit {0}
 Ranged (value (Int negative size)) = (negative && ltb 0 size) ≡ false → size < 9223372036854775808
 Ranged (value Null) = Unit {0}
@@ -70,7 +70,7 @@ module _ (l masks : List ℕ) (page room : ℕ) (deps : Bool) where
   -- ---- one entry
 
   module _ (e : Entry) (found : first l (e .name) < entryCount l) where
-    abbrev Sets : Bool → Bool
+    abbrev pub Sets : Bool → Bool
     Sets once = once && (eqb (e .kind) 1 || eqb (e .kind) 2)
 
     kept-run : (b : Bool) {cs : List Count} {run : List ℤ} → Stands l cs run → Stands l cs (cond b run run)
@@ -82,7 +82,7 @@ module _ (l masks : List ℕ) (page room : ℕ) (deps : Bool) where
     int-stands true negative size cs run h s = stands-set l cs run (e .name) negative size found (h refl) s
     int-stands false negative size cs run h s = s
 
-    noted-stands : (once : Bool) (v : Scalar) (cs : List Count) (run : List ℤ) → (Sets once ≡ true → Ranged (value v)) → deps ≡ true → Stands l cs run
+    pub noted-stands : (once : Bool) (v : Scalar) (cs : List Count) (run : List ℤ) → (Sets once ≡ true → Ranged (value v)) → deps ≡ true → Stands l cs run
         → Stands l (countOf e once v ++ cs) (noteIn l deps e once v run)
     unfolding noteIn
     noted-stands once (Int negative size) cs run h d s = rw d (int-stands (Sets once) negative size cs run h s)

@@ -59,7 +59,7 @@ clipped xs a n m k p q = go (decLt (length xs) a)
         let y : m + k - m ≡ k = omega arith in
         ap₂ (λ i j. take i (drop j xs)) y z ∙ short (omega arith) (decLt (length xs - a) n)
 
-text-clipped : (text : List ℕ) (it : Item) (b : Bool) → take (cond b (it .b) 0) (drop (it .a) text) ≡ cond b (take (it .b) (drop (it .a) text)) []
+pub text-clipped : (text : List ℕ) (it : Item) (b : Bool) → take (cond b (it .b) 0) (drop (it .a) text) ≡ cond b (take (it .b) (drop (it .a) text)) []
 text-clipped text it true = refl
 text-clipped text it false = refl
 

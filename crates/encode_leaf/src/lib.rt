@@ -185,14 +185,14 @@ pub fn room_of(bytes: usize) -> u64
     if bytes < 65536 { bytes as u64 } else { 65536 }
 }
 
-fn clip(n: u64, bytes: usize) -> usize
+pub fn clip(n: u64, bytes: usize) -> usize
     ensures { λ r. ⌜ r ≡ min bytes n ⌝ }
 {
     if n < bytes as u64 { n as usize } else { bytes }
 }
 
 // The length of a Text, 0 for any other item.
-fn text_size(it: Item) -> u64
+pub fn text_size(it: Item) -> u64
     ensures { λ r. ⌜ r ≡ cond (eqb (it .tag) 1) (it .b) 0 ⌝ }
 {
     if it.tag == 1 {

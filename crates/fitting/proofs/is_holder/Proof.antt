@@ -1,0 +1,50 @@
+use Prim.Native.Nat.{_-_}
+use Rattle.fitting.proofs.Asks.{headed-none, headed-name, headed-tag, headed-count, headed-span}
+use borrow.Author.Needs.{needs}
+use Rattle.fitting.proofs.is_holder.Statement.{statement}
+use Rattle.fitting.proofs.is_holder.Tie as tie
+
+returns : tie.Need-returns
+returns c = headed-none _ _ _ _ _ (c .if1 .taken)
+
+fetch-requires : tie.Need-fetch-requires
+fetch-requires c κs = search needs
+
+returns-2 : tie.Need-returns-2
+returns-2 c = headed-name _ _ _ _ _ (c .before .before .fetch .result) (c .before .before .before .if1 .left) (c .before .before .fetch .ensures) (c .if2 .taken)
+
+returns-3 : tie.Need-returns-3
+returns-3 c = headed-tag _ _ _ _ _ (c .before .before .before .before .fetch .result) (c .before .before .before .before .before .if1 .left) (c .before .before .before .before .fetch .ensures) (c .before .before .if2 .left) (c .if3 .taken)
+
+item-end-requires : tie.Need-item-end-requires
+item-end-requires c κs = search needs
+
+add-members : tie.Need-add-members
+add-members c = search needs
+
+members-requires : tie.Need-members-requires
+members-requires c κs = search needs
+
+returns-4 : tie.Need-returns-4
+returns-4 c = headed-count _ _ _ _ _ (c .before .before .before .before .before .before .before .before .fetch .result) (c .before .before .before .before .before .before .before .before .before .if1 .left) (c .before .before .before .before .before .before .before .before .fetch .ensures) (c .before .before .before .before .before .before .if2 .left) (c .before .before .before .before .if3 .left) _ _ (c .before .before .before .item-end .ensures) (c .before .before .members .ensures) (c .if4 .taken)
+
+sub-result : tie.Need-sub-result
+sub-result c = search needs
+
+returns-5 : tie.Need-returns-5
+returns-5 c = headed-span _ _ _ _ _ (c .before .before .before .before .before .before .before .before .before .fetch .result) (c .before .before .before .before .before .before .before .before .before .before .if1 .left) (c .before .before .before .before .before .before .before .before .before .fetch .ensures) (c .before .before .before .before .before .before .before .if2 .left) (c .before .before .before .before .before .if3 .left) _ _ (c .before .before .before .before .item-end .ensures) (c .before .before .before .members .ensures) (c .before .if4 .left)
+
+pub is-holder-spec : {M : Type 1} → statement M
+is-holder-spec =
+    tie.close
+    (tie.spec
+    returns
+    fetch-requires
+    returns-2
+    returns-3
+    item-end-requires
+    add-members
+    members-requires
+    returns-4
+    sub-result
+    returns-5)

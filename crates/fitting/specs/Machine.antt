@@ -1,0 +1,11 @@
+-- What the functions of the walk promise, by their own answer: nothing of the work space where an item does not fit.
+use mathlib.Core.Path.{_≡_}
+use mathlib.Core.Bool.{true, false}
+use mathlib.Core.List.{List}
+use lib.IntN.{ℤ}
+use Rattle.fitting.specs.declared.Out.{Out}
+use Rattle.fitting.specs.Steps.{Fit, misfit, fit}
+
+pub record Met (o : Fit) (r : Out) (run : List ℤ) : Type 0 where
+  pub fine : r .ok ≡ true → o ≡ fit run (r .told)
+  pub refuses : r .ok ≡ false → o ≡ misfit

@@ -1,0 +1,351 @@
+// Whether a value list with its texts fits a layout: a sequence goes by fields, a field by elements, a group element by a sequence.
+use decode_leaf::clear_counts;
+use decode_leaf::element_name;
+use decode_leaf::how_many;
+use decode_leaf::is_single;
+use decode_leaf::note;
+use encode_leaf::clip;
+use encode_leaf::text_size;
+use fits::fits_scalar;
+use items::Item;
+use items::after;
+use items::check_items;
+use items::fetch;
+use items::item_end;
+use items::members;
+use items::scalar_ok;
+use layout::Entry;
+use layout::load;
+use spans::end_of;
+use value::item_scalar;
+ghost use mathlib.Core.Path.{_≡_};
+ghost use mathlib.Core.Bool.{true, false, _&&_, _||_, not};
+ghost use lib.Dec.{eqb, leb};
+ghost use lib.IntN.{pos};
+ghost use lib.ListN.{length, replicate};
+ghost use Rattle.layout.specs.Layout.{part};
+ghost use Rattle.items.specs.Items.{values};
+ghost use Rattle.fits.specs.Decide.{fitsOf};
+ghost use Rattle.walks.specs.Kinds.{maskOf, textOf, scalarIn};
+ghost use Rattle.walks.specs.Records.{workFor};
+ghost use Rattle.walks.specs.Decide.{fitting};
+ghost use Rattle.fitting.specs.Steps.{headed, good, tabled, leaf, one, field, seq, behind};
+ghost use Rattle.fitting.specs.Machine.{Met};
+
+// What a part of the walk came to: whether its items fit, and the text bytes so far.
+struct Out {
+    ok: bool,
+    told: usize,
+}
+
+fn misfit() -> Out
+    ensures { λ r. ⌜ r .ok ≡ false ⌝ }
+{
+    Out { ok: false, told: 0 }
+}
+
+// ---- one item
+
+// Whether the first of the items j..to is a List or Struct of its members, under this name.
+fn is_holder(items: &[u64], name: u64, tag: u64, j: usize, to: usize) -> bool
+    ensures { λ r. ⌜ r ≡ headed name tag (values (now (items .entry)) j to) ⌝ }
+{
+    if to <= j {
+        return false;
+    }
+    let it = fetch(items, j, to);
+    if it.name != name {
+        return false;
+    }
+    if it.tag != tag {
+        return false;
+    }
+    let end = item_end(items, j, to);
+    if it.a != members(items, j + 1, end) {
+        return false;
+    }
+    it.b == (end - j) as u64
+}
+
+// Whether an item's value fits an entry.
+fn fits_item(masks: &[u8], text: &[u8], e: Entry, it: Item) -> bool
+    ensures { λ r. ⌜ r ≡ fitsOf (e .p) (e .q) (e .r) (e .s) (maskOf (now (masks .entry)) e) (e .width) (e .kind) (scalarIn it) (textOf (now (text .entry)) it) ⌝ }
+{
+    let m = clip(e.mask as u64, masks.len());
+    let n = clip(e.width as u64, masks.len() - m);
+    let a = clip(it.a, text.len());
+    let b = clip(text_size(it), text.len() - a);
+    fits_scalar(
+        e.kind,
+        e.p,
+        e.q,
+        e.r,
+        e.s,
+        &masks[m..m + n],
+        e.width as usize,
+        item_scalar(it.tag, it.a, it.b),
+        &text[a..a + b],
+    )
+}
+
+// Whether an item, if it is a text, begins behind the texts so far.
+fn is_packed(it: Item, told: usize) -> bool
+    ensures { λ r. ⌜ r ≡ (not (eqb (it .tag) 1) || eqb (it .a) told) ⌝ }
+{
+    if it.tag != 1 {
+        return true;
+    }
+    it.a == told as u64
+}
+
+// Whether the first of the items j..to is a scalar that fits an entry, under this name.
+fn is_good(
+    masks: &[u8],
+    items: &[u64],
+    text: &[u8],
+    e: Entry,
+    name: u64,
+    j: usize,
+    to: usize,
+    told: usize,
+) -> bool
+    ensures { λ r. ⌜ r ≡ good (now (masks .entry)) (now (text .entry)) e name (values (now (items .entry)) j to) told ⌝ }
+{
+    if to <= j {
+        return false;
+    }
+    let it = fetch(items, j, to);
+    if it.name != name {
+        return false;
+    }
+    let end = item_end(items, j, to);
+    if j + 1 < end {
+        return false;
+    }
+    if !scalar_ok(it, text.len()) {
+        return false;
+    }
+    if !fits_item(masks, text, e, it) {
+        return false;
+    }
+    is_packed(it, told)
+}
+
+// A scalar, the first of the items j..to, and the count that it sets.
+fn fit_leaf(
+    layout: &[u32],
+    masks: &[u8],
+    items: &[u64],
+    text: &[u8],
+    counts: &mut [i64],
+    e: Entry,
+    j: usize,
+    to: usize,
+    told: usize,
+    once: bool,
+) -> Out
+    ensures { λ r. ⌜ Met (leaf (now (layout .entry)) (now (masks .entry)) (now (text .entry)) e once (values (now (items .entry)) j to) (now (counts .entry)) told) r (now (counts .exit)) ⌝ }
+{
+    if !is_good(masks, items, text, e, element_name(e, once), j, to, told) {
+        return misfit();
+    }
+    let it = fetch(items, j, to);
+    let v = item_scalar(it.tag, it.a, it.b);
+    note(layout, counts, true, e, once, v);
+    Out {
+        ok: true,
+        told: told + text_size(it) as usize,
+    }
+}
+
+// Whether the first of the items j..to is a List of as many elements as a table has.
+fn is_table(layout: &[u32], items: &[u64], counts: &[i64], e: Entry, j: usize, to: usize) -> bool
+    ensures { λ r. ⌜ r ≡ tabled (now (layout .entry)) e (values (now (items .entry)) j to) (now (counts .entry)) ⌝ }
+{
+    if !is_holder(items, e.name as u64, 6, j, to) {
+        return false;
+    }
+    let c = how_many(layout, counts, e);
+    if c.refused != 0 {
+        return false;
+    }
+    let end = item_end(items, j, to);
+    c.n == members(items, after(j, end), end)
+}
+
+// Where the items behind an entry's own begin: a Pad has none.
+fn next_item(items: &[u64], e: Entry, j: usize, to: usize) -> usize
+    ensures { λ r. ⌜ values (now (items .entry)) r to ≡ behind e (values (now (items .entry)) j to) ⌝ }
+{
+    if e.kind == 6 {
+        return j;
+    }
+    item_end(items, j, to)
+}
+
+// ---- the walk
+
+// The entries lo up to hi and the items from..to, one after the other.
+fn fit_seq(
+    layout: &[u32],
+    masks: &[u8],
+    items: &[u64],
+    text: &[u8],
+    counts: &mut [i64],
+    lo: usize,
+    hi: usize,
+    from: usize,
+    to: usize,
+    told: usize,
+) -> Out
+    ensures { λ r. ⌜ Met (seq (now (layout .entry)) (now (masks .entry)) (now (text .entry)) (part (now (layout .entry)) lo hi) (values (now (items .entry)) from to) (now (counts .entry)) told) r (now (counts .exit)) ⌝ }
+{
+    let mut i = lo;
+    let mut j = from;
+    let mut at = told;
+    while i < hi {
+        let e = load(layout, i);
+        let end = end_of(e.span as u64, i, hi);
+        let o = fit_field(layout, masks, items, text, counts, e, i + 1, end, j, to, at);
+        if !o.ok {
+            return misfit();
+        }
+        at = o.told;
+        j = next_item(items, e, j, to);
+        i = end;
+    }
+    if j < to {
+        return misfit();
+    }
+    Out { ok: true, told: at }
+}
+
+// An entry whose members are the entries lo up to hi, by the first of the items j..to: one element, or the elements of a table.
+fn fit_field(
+    layout: &[u32],
+    masks: &[u8],
+    items: &[u64],
+    text: &[u8],
+    counts: &mut [i64],
+    e: Entry,
+    lo: usize,
+    hi: usize,
+    j: usize,
+    to: usize,
+    told: usize,
+) -> Out
+    ensures { λ r. ⌜ Met (field (now (layout .entry)) (now (masks .entry)) (now (text .entry)) e (λ ns run n. seq (now (layout .entry)) (now (masks .entry)) (now (text .entry)) (part (now (layout .entry)) lo hi) ns run n) (values (now (items .entry)) j to) (now (counts .entry)) told) r (now (counts .exit)) ⌝ }
+{
+    if e.kind == 6 {
+        return Out { ok: true, told };
+    }
+    if is_single(e) {
+        return fit_one(
+            layout,
+            masks,
+            items,
+            text,
+            counts,
+            e,
+            lo,
+            hi,
+            j,
+            to,
+            told,
+            true,
+        );
+    }
+    if !is_table(layout, items, counts, e, j, to) {
+        return misfit();
+    }
+    let end = item_end(items, j, to);
+    let mut k = after(j, end);
+    let mut at = told;
+    while k < end {
+        let o = fit_one(
+            layout,
+            masks,
+            items,
+            text,
+            counts,
+            e,
+            lo,
+            hi,
+            k,
+            end,
+            at,
+            false,
+        );
+        if !o.ok {
+            return misfit();
+        }
+        at = o.told;
+        k = item_end(items, k, end);
+    }
+    Out { ok: true, told: at }
+}
+
+// One element, the first of the items j..to: a group of the entries lo up to hi, or a scalar.
+fn fit_one(
+    layout: &[u32],
+    masks: &[u8],
+    items: &[u64],
+    text: &[u8],
+    counts: &mut [i64],
+    e: Entry,
+    lo: usize,
+    hi: usize,
+    j: usize,
+    to: usize,
+    told: usize,
+    once: bool,
+) -> Out
+    ensures { λ r. ⌜ Met (one (now (layout .entry)) (now (masks .entry)) (now (text .entry)) e (λ ns run n. seq (now (layout .entry)) (now (masks .entry)) (now (text .entry)) (part (now (layout .entry)) lo hi) ns run n) once (values (now (items .entry)) j to) (now (counts .entry)) told) r (now (counts .exit)) ⌝ }
+{
+    if e.kind != 9 {
+        return fit_leaf(layout, masks, items, text, counts, e, j, to, told, once);
+    }
+    if !is_holder(items, element_name(e, once), 7, j, to) {
+        return misfit();
+    }
+    let end = item_end(items, j, to);
+    let from = after(j, end);
+    fit_seq(layout, masks, items, text, counts, lo, hi, from, end, told)
+}
+
+// Whether a value list with its texts fits a layout, in work space of two words an entry, which ends as zeros.
+pub fn is_fitting(
+    layout: &[u32],
+    masks: &[u8],
+    items: &[u64],
+    text: &[u8],
+    counts: &mut [i64],
+) -> bool
+    ensures { λ r. ⌜ r ≡ (leb (workFor (now (layout .entry))) (length (now (counts .entry))) && fitting (now (layout .entry)) (now (masks .entry)) (now (items .entry)) (now (text .entry))) ⌝ }
+    ensures { λ _. ⌜ now (counts .exit) ≡ replicate (length (now (counts .entry))) (pos 0) ⌝ }
+{
+    clear_counts(counts);
+    if counts.len() < layout.len() / 12 * 2 {
+        return false;
+    }
+    if !check_items(items, text) {
+        return false;
+    }
+    let o = fit_seq(
+        layout,
+        masks,
+        items,
+        text,
+        counts,
+        0,
+        layout.len() / 12,
+        0,
+        items.len() / 4,
+        0,
+    );
+    clear_counts(counts);
+    if !o.ok {
+        return false;
+    }
+    o.told == text.len()
+}

@@ -221,7 +221,7 @@ pub fn random(t: &mut Tally, cases: u64, seed: u64) {
         entries.iter().for_each(|e| e.words(&mut words, &mut masks));
         let pg = g.below(2) as u32;
         let plain = unsafe { trip_is_plain(words.as_ptr(), words.len(), masks.as_ptr(), masks.len(), pg) } == 1;
-        t.note("plain layouts", u32::from(!plain), Seen::Same, words.len(), String::new);
+        t.note(if plain { "plain layouts" } else { "not plain" }, 0, Seen::Same, words.len(), String::new);
         if !plain {
             continue;
         }
@@ -230,7 +230,7 @@ pub fn random(t: &mut Tally, cases: u64, seed: u64) {
             let (items, text) = list_words(&list);
             let work = words.len() / 6;
             let fitting = unsafe { trip_is_fitting(words.as_ptr(), words.len(), masks.as_ptr(), masks.len(), items.as_ptr(), items.len(), text.as_ptr(), text.len(), counts.as_mut_ptr(), work) } == 1;
-            t.note("fitting lists", u32::from(!fitting), Seen::Same, items.len(), String::new);
+            t.note(if fitting { "fitting lists" } else { "not fitting" }, 0, Seen::Same, items.len(), String::new);
             if !fitting {
                 continue;
             }

@@ -1,10 +1,11 @@
 -- The two tables of code page 037 undo each other at every byte, and hold bytes: one computed test over each, carried to every byte by `at`.
 use mathlib.Core.Path.{_≡_}
 use mathlib.Core.Bool.{Bool}
-use Prim.Native.Nat.{ℕ, _<_}
+use Prim.Native.Nat.{ℕ, _<_, _/_, _%_}
 use lib.Dec.{T, eqb, ltb, eqb→eq, ltb→lt, lit<}
 use lib.ListN.{getD}
 use Rattle.ebcdic.specs.Ebcdic.{asciiTable, ebcdicTable, toAscii, toEbcdic, fromPage, ontoPage}
+use Rattle.ebcdic.specs.Words.{eight, byteAt}
 use Rattle.lists.proofs.Table.{at, both}
 use Rattle.lists.proofs.Lists.{getD-map}
 use mathlib.Core.Path.{refl, sym, ap, _∙_, subst}
@@ -25,6 +26,12 @@ back-e k x = eqb (getD asciiTable x 0) k
 byte : ℕ → ℕ → Bool
 byte k x = ltb x 256
 
+word-a : ℕ → ℕ → Bool
+word-a k x = eqb (byteAt (eight asciiTable (k / 8)) (k % 8)) x
+
+word-e : ℕ → ℕ → Bool
+word-e k x = eqb (byteAt (eight ebcdicTable (k / 8)) (k % 8)) x
+
 pub ebcdic-ascii : (b : ℕ) → b < 256 → toEbcdic (toAscii b) ≡ b
 unfolding back-a toAscii toEbcdic asciiTable ebcdicTable
 ebcdic-ascii b h = eqb→eq (toEbcdic (toAscii b)) b (at back-a asciiTable tt b h)
@@ -40,6 +47,15 @@ ascii-byte b h = ltb→lt (toAscii b) 256 (at byte asciiTable tt b h)
 pub ebcdic-byte : (b : ℕ) → b < 256 → toEbcdic b < 256
 unfolding byte toEbcdic ebcdicTable
 ebcdic-byte b h = ltb→lt (toEbcdic b) 256 (at byte ebcdicTable tt b h)
+
+-- an entry of a table kept as numbers of eight bytes
+pub ascii-word-byte : (b : ℕ) → b < 256 → byteAt (eight asciiTable (b / 8)) (b % 8) ≡ toAscii b
+unfolding word-a byteAt eight toAscii asciiTable
+ascii-word-byte b h = eqb→eq (byteAt (eight asciiTable (b / 8)) (b % 8)) (toAscii b) (at word-a asciiTable tt b h)
+
+pub ebcdic-word-byte : (b : ℕ) → b < 256 → byteAt (eight ebcdicTable (b / 8)) (b % 8) ≡ toEbcdic b
+unfolding word-e byteAt eight toEbcdic ebcdicTable
+ebcdic-word-byte b h = eqb→eq (byteAt (eight ebcdicTable (b / 8)) (b % 8)) (toEbcdic b) (at word-e ebcdicTable tt b h)
 
 -- ---- on either page
 

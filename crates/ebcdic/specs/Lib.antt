@@ -1,2 +1,3 @@
 -- Code page 037, both ways.
 pub mod Ebcdic
+pub mod Words

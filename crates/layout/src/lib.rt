@@ -57,13 +57,10 @@ fn load_inside(layout: &[u32], i: usize) -> Entry
     }
 }
 
-// The i-th entry; a word past the layout's end is 0.
-pub fn load(layout: &[u32], i: usize) -> Entry
+// The i-th entry, each word tested on its own; apart from load, so that load stays short.
+fn load_outside(layout: &[u32], i: usize) -> Entry
     ensures { λ r. ⌜ r ≡ entryAt (now (layout .entry)) i ⌝ }
 {
-    if i < layout.len() / 12 {
-        return load_inside(layout, i);
-    }
     Entry {
         name: word(layout, i, 0),
         offset: word(layout, i, 1),
@@ -78,6 +75,16 @@ pub fn load(layout: &[u32], i: usize) -> Entry
         s: word(layout, i, 10),
         mask: word(layout, i, 11),
     }
+}
+
+// The i-th entry; a word past the layout's end is 0.
+pub fn load(layout: &[u32], i: usize) -> Entry
+    ensures { λ r. ⌜ r ≡ entryAt (now (layout .entry)) i ⌝ }
+{
+    if i < layout.len() / 12 {
+        return load_inside(layout, i);
+    }
+    load_outside(layout, i)
 }
 
 fn words_ok(layout: &[u32], page: u32) -> bool
@@ -256,6 +263,10 @@ fn nested(layout: &[u32], lo: usize, hi: usize, levels: usize) -> bool
         let end = end_of(e.span as u64, i, hi);
         if !span_ok(e, end - (i + 1)) {
             return false;
+        }
+        if end == i + 1 {
+            i = end;
+            continue;
         }
         if !nested(layout, i + 1, end, levels - 1) {
             return false;

@@ -2,3 +2,4 @@ pub mod Table
 pub mod Lists
 pub mod Scan
 pub mod Part
+pub mod Keys

@@ -1,17 +1,14 @@
 -- Words and back; the table of powers of ten.
 use mathlib.Core.Path.{_≡_, refl, sym, _∙_, ap}
-use mathlib.Core.List.{List, [], _∷_}
 use mathlib.Core.Bool.{Bool, true, false, _&&_, cond}
 use Prim.Native.Nat.{ℕ, zero, suc, _+_, _-_, _<_, _≤_, _^_}
 use native.Mathlib.Omega.{arith}
 use native.Mathlib.Decide.{decLt}
-use lib.Dec.{T, eqb, leb, ltb, eqb→eq}
+use lib.Dec.{leb, ltb}
 use lib.IntN.{ℤ, pos, negsuc, negℤ}
-use lib.ListN.{getD, length}
 use borrow.Author.Tests.{lt-ltb, le-ltb, le-leb, lt-leb}
 use mir.Syntax.{w64}
 use mir.Val.{ofZ}
-use Rattle.lists.proofs.Table.{at}
 use Rattle.value.specs.Digits.{signedOf}
 use Rattle.value.specs.Word.{wordOf, minusIn, sizeIn, powerTen}
 
@@ -60,23 +57,6 @@ minus-size w h = go (decLt w (2 ^ 63))
     go (no k) = rw (le-leb (2 ^ 63) w (omega arith)) (omega arith)
 
 -- ---- powers of ten
-
-powers : List ℕ
-powers =
-    1 ∷ 10 ∷ 100 ∷ 1000 ∷ 10000 ∷ 100000 ∷ 1000000 ∷ 10000000 ∷ 100000000 ∷ 1000000000 ∷ 10000000000 ∷ 100000000000 ∷ 1000000000000
-    ∷ 10000000000000 ∷ 100000000000000 ∷ 1000000000000000 ∷ 10000000000000000 ∷ 100000000000000000 ∷ 1000000000000000000 ∷ 10000000000000000000 ∷ []
-
-right : ℕ → ℕ → Bool
-right k x = eqb x (10 ^ k)
-
-abbrev pub powerAt : ℕ → ℕ
-powerAt k =
-    getD (1 ∷ 10 ∷ 100 ∷ 1000 ∷ 10000 ∷ 100000 ∷ 1000000 ∷ 10000000 ∷ 100000000 ∷ 1000000000 ∷ 10000000000 ∷ 100000000000 ∷ 1000000000000
-    ∷ 10000000000000 ∷ 100000000000000 ∷ 1000000000000000 ∷ 10000000000000000 ∷ 100000000000000000 ∷ 1000000000000000000 ∷ 10000000000000000000 ∷ []) k 0
-
-pub power-at : (k : ℕ) → k < 20 → powerAt k ≡ powerTen k
-unfolding powers right
-power-at k h = eqb→eq (getD powers k 0) (10 ^ k) (at right powers tt k h) ∙ rw (lt-ltb k 20 h)
 
 pub power-is : (k : ℕ) → k < 20 → powerTen k ≡ 10 ^ k
 power-is k h = rw (lt-ltb k 20 h)

@@ -75,44 +75,42 @@ pub fn number_of(negative: bool, size: u64) -> Number
     Number::Of(negative, size)
 }
 
-const POWERS: [u64; 20] = [
-    1,
-    10,
-    100,
-    1000,
-    10000,
-    100000,
-    1000000,
-    10000000,
-    100000000,
-    1000000000,
-    10000000000,
-    100000000000,
-    1000000000000,
-    10000000000000,
-    100000000000000,
-    1000000000000000,
-    10000000000000000,
-    100000000000000000,
-    1000000000000000000,
-    10000000000000000000,
-];
-
 // 10^k where a word holds it, else 0.
 pub fn ten_to(k: u64) -> u64
     ensures { λ r. ⌜ r ≡ powerTen k ⌝ }
 {
-    if k < 20 {
-        let i = k as usize;
-        return POWERS[i];
+    match k {
+        0 => 1,
+        1 => 10,
+        2 => 100,
+        3 => 1000,
+        4 => 10000,
+        5 => 100000,
+        6 => 1000000,
+        7 => 10000000,
+        8 => 100000000,
+        9 => 1000000000,
+        10 => 10000000000,
+        11 => 100000000000,
+        12 => 1000000000000,
+        13 => 10000000000000,
+        14 => 100000000000000,
+        15 => 1000000000000000,
+        16 => 10000000000000000,
+        17 => 100000000000000000,
+        18 => 1000000000000000000,
+        19 => 10000000000000000000,
+        _ => 0,
     }
-    0
 }
 
 // A size of one scale at another, as a number; the scale that is lost is cut.
 pub fn rescale(negative: bool, size: u64, from: u64, to: u64) -> Number
     ensures { λ r. ⌜ r ≡ numberOf negative (rescaled from to size) ⌝ }
 {
+    if from == to {
+        return number_of(negative, size);
+    }
     if from < to {
         return scale_up(negative, size, to - from);
     }

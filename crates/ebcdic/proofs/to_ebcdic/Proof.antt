@@ -1,17 +1,21 @@
+use mathlib.Core.Path.{ap, _∙_}
+use Prim.Native.Nat.{_%_}
 use borrow.Author.Needs.{needs}
+use Rattle.ebcdic.specs.Words.{byteAt}
+use Rattle.ebcdic.proofs.Laws.{ebcdic-word-byte}
 use Rattle.ebcdic.proofs.to_ebcdic.Statement.{statement}
 use Rattle.ebcdic.proofs.to_ebcdic.Tie as tie
-use mathlib.Core.Path.{refl}
-use Rattle.ebcdic.specs.Ebcdic.{toEbcdic, ebcdicTable}
 
--- src/lib.rt:52:5
-array-read-result : tie.Need-array-read-result
-array-read-result c = search needs
+ebcdic-word-requires : tie.Need-ebcdic-word-requires
+ebcdic-word-requires c κs = search needs
 
--- src/lib.rt:49:1
+byte-of-requires : tie.Need-byte-of-requires
+byte-of-requires c κs = search needs
+
 returns : tie.Need-returns
-unfolding toEbcdic ebcdicTable
-returns c = refl
+returns c =
+    let b = c .before .before .args .b in
+    c .byte-of .ensures ∙ ap (λ w. byteAt w (b % 8)) (c .before .ebcdic-word .ensures) ∙ ebcdic-word-byte b (search needs)
 
 pub to-ebcdic-spec : {M : Type 1} → statement M
-to-ebcdic-spec = tie.close (tie.spec array-read-result returns)
+to-ebcdic-spec = tie.close (tie.spec ebcdic-word-requires byte-of-requires returns)

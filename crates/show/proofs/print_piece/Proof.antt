@@ -1,0 +1,61 @@
+use mathlib.Core.Path.{_≡_, refl, sym, ap, _∙_, subst}
+use mathlib.Core.Bool.{Bool, true, false}
+use mathlib.Core.Logic.{⊎-elim}
+use mathlib.Core.List.{List, [], _∷_, _++_, map, append-nil, append-assoc}
+use Prim.Native.Nat.{ℕ, zero, suc, _+_, _-_, _*_, _≤_, _<_}
+use native.Mathlib.Omega.{arith}
+use native.Mathlib.Numerals.{add-one}
+use borrow.Author.Tests.{lt-ltb, le-ltb, le-leb, lt-leb, eq-eqb, ne-eqb, eqb-true, eqb-false, ltb-true, ltb-false, leb-true, leb-false}
+use lib.Dec.{eqb, leb, ltb}
+use lib.ListN.{length, take, drop, getD, set, replicate, length-set, length-append, length-take, length-drop, length-replicate, length-map}
+use lib.Seq.{length-take-le}
+use Rattle.shown.specs.Shown.{shown}
+use Rattle.shown.proofs.Pieces.{inside}
+use borrow.Author.Needs.{needs}
+use Rattle.show.proofs.print_piece.Statement.{statement}
+use Rattle.show.proofs.print_piece.Tie as tie
+
+large-buffer-requires : tie.Need-large-buffer-requires
+large-buffer-requires c κs = search needs
+
+slice-aggregate-show-at : tie.Need-slice-aggregate-show-at
+slice-aggregate-show-at c = search needs
+
+show-at-requires : tie.Need-show-at-requires
+show-at-requires c κs = search needs
+
+array-share-prefix-out : tie.Need-array-share-prefix-out
+array-share-prefix-out c = inside (c .before .before .before .before .before .before .args .at) (length (c .before .before .before .large-buffer .result)) (shown (c .before .before .before .before .before .before .args .layout .now) (c .before .before .before .before .before .before .args .layout-more) (c .before .before .before .before .before .before .args .«record» .now) (c .before .before .before .before .before .before .args .record-more)) (c .before .before .before .large-buffer .result) _ (c .before .show-at .result) (c .before .show-at .ensures .0) (c .before .show-at .ensures .1)
+
+slice-aggregate-write-all : tie.Need-slice-aggregate-write-all
+slice-aggregate-write-all c = sym (length-take-le (c .before .before .show-at .result) _ (inside (c .before .before .before .before .before .before .before .args .at) (length (c .before .before .before .before .large-buffer .result)) (shown (c .before .before .before .before .before .before .before .args .layout .now) (c .before .before .before .before .before .before .before .args .layout-more) (c .before .before .before .before .before .before .before .args .«record» .now) (c .before .before .before .before .before .before .before .args .record-more)) (c .before .before .before .before .large-buffer .result) _ (c .before .before .show-at .result) (c .before .before .show-at .ensures .0) (c .before .before .show-at .ensures .1)))
+
+write-all-requires : tie.Need-write-all-requires
+write-all-requires c κs = search needs
+
+slice-aggregate-fail : tie.Need-slice-aggregate-fail
+slice-aggregate-fail c = search needs
+
+fail-requires : tie.Need-fail-requires
+fail-requires c κs = search needs
+
+returns : tie.Need-returns
+returns c = search needs
+
+returns-2 : tie.Need-returns-2
+returns-2 c = search needs
+
+pub print-piece-spec : {M : Type 1} → statement M
+print-piece-spec =
+    tie.close
+    (tie.spec
+    large-buffer-requires
+    slice-aggregate-show-at
+    show-at-requires
+    array-share-prefix-out
+    slice-aggregate-write-all
+    write-all-requires
+    slice-aggregate-fail
+    fail-requires
+    returns
+    returns-2)

@@ -1,0 +1,33 @@
+use mathlib.Core.Path.{_≡_, refl, sym, ap, _∙_, subst}
+use mathlib.Core.Bool.{Bool, true, false}
+use mathlib.Core.Logic.{⊎-elim}
+use mathlib.Core.List.{List, [], _∷_, _++_, map, append-nil, append-assoc}
+use Prim.Native.Nat.{ℕ, zero, suc, _+_, _-_, _*_, _≤_, _<_}
+use native.Mathlib.Omega.{arith}
+use native.Mathlib.Numerals.{add-one}
+use borrow.Author.Tests.{lt-ltb, le-ltb, le-leb, lt-leb, eq-eqb, ne-eqb, eqb-true, eqb-false, ltb-true, ltb-false, leb-true, leb-false}
+use lib.Dec.{eqb, leb, ltb}
+use lib.ListN.{length, take, drop, getD, set, replicate, length-set, length-append, length-take, length-drop, length-replicate, length-map}
+use Rattle.shown.proofs.Lists.{number-low, number-high, number-counted}
+use borrow.Author.Needs.{needs}
+use Rattle.shown.proofs.number_in.Statement.{statement}
+use Rattle.shown.proofs.number_in.Tie as tie
+
+item-scalar-requires : tie.Need-item-scalar-requires
+item-scalar-requires c κs = search needs
+
+returns : tie.Need-returns
+returns c = c .item-scalar .ensures ∙ number-low (c .before .before .before .args .it) (c .before .if1 .taken)
+
+item-scalar-requires-2 : tie.Need-item-scalar-requires-2
+item-scalar-requires-2 c κs = search needs
+
+returns-2 : tie.Need-returns-2
+returns-2 c = c .item-scalar2 .ensures ∙ number-high (c .before .before .before .before .before .args .it) (c .before .before .before .if1 .left) (c .before .if2 .taken)
+
+returns-3 : tie.Need-returns-3
+returns-3 c = number-counted (c .before .before .before .before .args .it) (c .before .before .if1 .left) (c .if2 .left)
+
+pub number-in-spec : {M : Type 1} → statement M
+number-in-spec =
+    tie.close (tie.spec item-scalar-requires returns item-scalar-requires-2 returns-2 returns-3)

@@ -1,0 +1,56 @@
+use mathlib.Core.Path.{_≡_, refl, sym, ap, _∙_, subst}
+use mathlib.Core.Bool.{Bool, true, false}
+use mathlib.Core.Logic.{⊎-elim}
+use mathlib.Core.List.{List, [], _∷_, _++_, map, append-nil, append-assoc}
+use Prim.Native.Nat.{ℕ, zero, suc, _+_, _-_, _*_, _≤_, _<_}
+use native.Mathlib.Omega.{arith}
+use native.Mathlib.Numerals.{add-one}
+use borrow.Author.Tests.{lt-ltb, le-ltb, le-leb, lt-leb, eq-eqb, ne-eqb, eqb-true, eqb-false, ltb-true, ltb-false, leb-true, leb-false}
+use lib.Dec.{eqb, leb, ltb}
+use lib.ListN.{length, take, drop, getD, set, replicate, length-set, length-append, length-take, length-drop, length-replicate, length-map}
+use Rattle.shown.specs.Sink.{state, all}
+use Rattle.shown.proofs.Texts.{hex-front}
+use borrow.Author.Needs.{needs}
+use Rattle.shown.proofs.push_hex.Statement.{statement}
+use Rattle.shown.proofs.push_hex.Tie as tie
+
+slice-aggregate-to-hex : tie.Need-slice-aggregate-to-hex
+slice-aggregate-to-hex c = search needs
+
+to-hex-requires : tie.Need-to-hex-requires
+to-hex-requires c κs = search needs
+
+mul-n : tie.Need-mul-n
+mul-n c = search needs
+
+sub-push-all : tie.Need-sub-push-all
+sub-push-all c = search needs
+
+part-push-all-start : tie.Need-part-push-all-start
+part-push-all-start c = search needs
+
+part-push-all-end : tie.Need-part-push-all-end
+part-push-all-end c = search needs
+
+push-all-requires : tie.Need-push-all-requires
+push-all-requires c κs = search needs
+
+same-length : tie.Need-same-length
+same-length c = search needs
+
+returns : tie.Need-returns
+returns c = c .before .before .push-all .ensures ∙ ap (all (state (c .before .before .before .before .before .before .before .before .before .before .before .args .out .now) (c .before .before .before .before .before .before .before .before .before .before .before .args .s))) (hex-front (c .before .before .before .before .before .before .before .before .before .before .before .args .part .now) (replicate 16 0) _ (c .before .before .before .before .before .before .before .before .before .before .before .pre) refl (c .before .before .before .before .before .before .before .to-hex .ensures .1))
+
+pub push-hex-spec : {M : Type 1} → statement M
+push-hex-spec =
+    tie.close
+    (tie.spec
+    slice-aggregate-to-hex
+    to-hex-requires
+    mul-n
+    sub-push-all
+    part-push-all-start
+    part-push-all-end
+    push-all-requires
+    same-length
+    returns)

@@ -1,0 +1,62 @@
+use mathlib.Core.Path.{_≡_, refl, sym, ap, _∙_, subst}
+use mathlib.Core.Bool.{Bool, true, false}
+use mathlib.Core.Logic.{⊎-elim}
+use mathlib.Core.List.{List, [], _∷_, _++_, map, append-nil, append-assoc}
+use Prim.Native.Nat.{ℕ, zero, suc, _+_, _-_, _*_, _≤_, _<_}
+use native.Mathlib.Omega.{arith}
+use native.Mathlib.Numerals.{add-one}
+use borrow.Author.Tests.{lt-ltb, le-ltb, le-leb, lt-leb, eq-eqb, ne-eqb, eqb-true, eqb-false, ltb-true, ltb-false, leb-true, leb-false}
+use lib.Dec.{eqb, leb, ltb}
+use lib.ListN.{length, take, drop, getD, set, replicate, length-set, length-append, length-take, length-drop, length-replicate, length-map}
+use borrow.Author.Needs.{needs}
+use Rattle.shown.specs.Sink.{state, all}
+use Rattle.shown.specs.Shown.{listedFrom}
+use Rattle.shown.proofs.Lists.{Left, item-turn, item-end}
+use native.Mathlib.Nat.{sub-zero}
+use Rattle.shown.proofs.push_items.Statement.{statement}
+use Rattle.shown.proofs.push_items.Tie as tie
+
+abbrev Inv-loop : tie.InvT-loop
+Inv-loop out₀ layout items text n s₀ k₀ out s k = Left layout items text n (all (state out₀ s₀) (listedFrom layout items text n 0)) (state out s) k × (length out ≡ length out₀)
+
+abbrev μ-loop : tie.MeasureT-loop
+μ-loop out₀ layout items text n s₀ k₀ out s k = n - k
+
+loop-holds : tie.Need-loop-holds Inv-loop μ-loop
+loop-holds c = (ap (λ (m : ℕ). all (state (c .before .before .before .before .args .out .now) (c .before .before .before .before .args .from)) (listedFrom (c .before .before .before .before .args .layout .now) (c .before .before .before .before .args .items .now) (c .before .before .before .before .args .text .now) m 0)) (sub-zero _), refl)
+
+fetch-requires : tie.Need-fetch-requires Inv-loop μ-loop
+fetch-requires c κs = search needs
+
+push-item-requires : tie.Need-push-item-requires Inv-loop μ-loop
+push-item-requires c κs = search needs
+
+add-k : tie.Need-add-k Inv-loop μ-loop
+add-k c = search needs
+
+loop-less : tie.Need-loop-less Inv-loop μ-loop
+loop-less c = search needs
+
+loop-again : tie.Need-loop-again Inv-loop μ-loop
+loop-again c = (item-turn _ (c .before .before .before .before .before .before .before .before .before .before .before .args .items .now) _ _ _ (c .before .before .before .before .before .before .loop .out) _ (c .before .before .before .before .before .before .loop .s) _ (c .before .before .before .before .before .before .loop .k) (c .before .before .before .fetch .result) (c .before .before .before .before .before .loop-test .taken) (c .before .before .before .fetch .ensures) (c .before .before .before .before .before .before .loop .inv .0) (c .before .before .push-item .ensures), search needs)
+
+same-length : tie.Need-same-length Inv-loop μ-loop
+same-length c = c .before .loop .inv .1
+
+returns : tie.Need-returns Inv-loop μ-loop
+returns c = item-end _ _ _ _ _ (c .before .loop .out) (c .before .loop .s) (c .before .loop .k) (c .loop-test .left) (c .before .loop .inv .0)
+
+pub push-items-spec : {M : Type 1} → statement M
+push-items-spec =
+    tie.close
+    (tie.spec
+    Inv-loop
+    μ-loop
+    loop-holds
+    fetch-requires
+    push-item-requires
+    add-k
+    loop-less
+    loop-again
+    same-length
+    returns)

@@ -1,0 +1,39 @@
+use mathlib.Core.Path.{_≡_, refl, sym, ap, _∙_, subst}
+use mathlib.Core.Bool.{Bool, true, false}
+use mathlib.Core.Logic.{⊎-elim}
+use mathlib.Core.List.{List, [], _∷_, _++_, map, append-nil, append-assoc}
+use Prim.Native.Nat.{ℕ, zero, suc, _+_, _-_, _*_, _≤_, _<_}
+use native.Mathlib.Omega.{arith}
+use native.Mathlib.Numerals.{add-one}
+use borrow.Author.Tests.{lt-ltb, le-ltb, le-leb, lt-leb, eq-eqb, ne-eqb, eqb-true, eqb-false, ltb-true, ltb-false, leb-true, leb-false}
+use lib.Dec.{eqb, leb, ltb}
+use lib.ListN.{length, take, drop, getD, set, replicate, length-set, length-append, length-take, length-drop, length-replicate, length-map}
+use Rattle.shown.specs.Sink.{state, all}
+use Rattle.shown.proofs.Sinks.{nothing}
+use Rattle.shown.proofs.Texts.{name-in, name-out}
+use borrow.Author.Needs.{needs}
+use Rattle.shown.proofs.push_name.Statement.{statement}
+use Rattle.shown.proofs.push_name.Tie as tie
+
+cast-name-of : tie.Need-cast-name-of
+cast-name-of c = search needs
+
+name-of-requires : tie.Need-name-of-requires
+name-of-requires c κs = search needs
+
+push-all-requires : tie.Need-push-all-requires
+push-all-requires c κs = search needs
+
+same-length : tie.Need-same-length
+same-length c = search needs
+
+returns : tie.Need-returns
+returns c = c .before .before .push-all .ensures ∙ ap (all (state (c .before .before .before .before .before .before .before .before .args .out .now) (c .before .before .before .before .before .before .before .before .args .s))) (name-in (c .before .before .before .before .before .before .before .before .args .layout .now) (c .before .before .before .before .before .before .before .before .args .name) _ (c .before .before .before .before .before .if1 .taken) (c .before .before .before .before .name-of .ensures .0))
+
+returns-2 : tie.Need-returns-2
+returns-2 c = nothing (c .before .before .before .args .out .now) (c .before .before .before .args .s) ∙ ap (all (state (c .before .before .before .args .out .now) (c .before .before .before .args .s))) (name-out (c .before .before .before .args .layout .now) (c .before .before .before .args .name) (c .if1 .left))
+
+pub push-name-spec : {M : Type 1} → statement M
+push-name-spec =
+    tie.close
+    (tie.spec cast-name-of name-of-requires push-all-requires same-length returns returns-2)

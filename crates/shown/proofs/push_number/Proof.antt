@@ -1,0 +1,67 @@
+use mathlib.Core.Path.{_≡_, refl, sym, ap, _∙_, subst}
+use mathlib.Core.Bool.{Bool, true, false}
+use mathlib.Core.Logic.{⊎-elim}
+use mathlib.Core.List.{List, [], _∷_, _++_, map, append-nil, append-assoc}
+use Prim.Native.Nat.{ℕ, zero, suc, _+_, _-_, _*_, _≤_, _<_}
+use native.Mathlib.Omega.{arith}
+use native.Mathlib.Numerals.{add-one}
+use borrow.Author.Tests.{lt-ltb, le-ltb, le-leb, lt-leb, eq-eqb, ne-eqb, eqb-true, eqb-false, ltb-true, ltb-false, leb-true, leb-false}
+use lib.Dec.{eqb, leb, ltb}
+use lib.ListN.{length, take, drop, getD, set, replicate, length-set, length-append, length-take, length-drop, length-replicate, length-map}
+use Rattle.text.specs.Shown.{shownOf}
+use Rattle.text.proofs.Answers.{text-told, room-told, none-told}
+use Rattle.shown.specs.Sink.{state, all}
+use Rattle.shown.proofs.Sinks.{nothing}
+use Rattle.shown.proofs.Texts.{number-told, number-none}
+use borrow.Author.Needs.{needs}
+use Rattle.shown.proofs.push_number.Statement.{statement}
+use Rattle.shown.proofs.push_number.Tie as tie
+
+display-scalar-requires : tie.Need-display-scalar-requires
+display-scalar-requires c κs = search needs
+
+enum-known-n : tie.Need-enum-known-n
+enum-known-n c = search needs
+
+sub-t : tie.Need-sub-t
+sub-t c = search needs
+
+part-t-start : tie.Need-part-t-start
+part-t-start c = search needs
+
+part-t-end : tie.Need-part-t-end
+part-t-end c =
+    let d = c .before .before .before .before .display-scalar in
+    room-told (shownOf (c .before .before .before .before .before .before .before .args .v)) (c .before .before .n .given .0 .0) _ (d .last .1 .0) (sym (c .before .before .n .given .1) ∙ d .ensures .0) (d .ensures .1 .0)
+
+push-all-requires : tie.Need-push-all-requires
+push-all-requires c κs = search needs
+
+same-length : tie.Need-same-length
+same-length c = search needs
+
+returns : tie.Need-returns
+returns c =
+    let d = c .before .before .before .before .before .before .before .before .before .display-scalar in
+    c .before .before .push-all .ensures ∙ ap (all (state (c .before .before .before .before .before .before .before .before .before .before .before .before .args .out .now) (c .before .before .before .before .before .before .before .before .before .before .before .before .args .s))) (number-told (c .before .before .before .before .before .before .before .before .before .before .before .before .args .v) _ (text-told (shownOf (c .before .before .before .before .before .before .before .before .before .before .before .before .args .v)) (c .before .before .before .before .before .before .before .n .given .0 .0) _ (d .last .1 .0) (sym (c .before .before .before .before .before .before .before .n .given .1) ∙ d .ensures .0) (d .ensures .1 .0)))
+
+enum-told : tie.Need-enum-told
+enum-told c = search needs
+
+returns-2 : tie.Need-returns-2
+returns-2 c = nothing (c .before .before .before .before .before .args .out .now) (c .before .before .before .before .before .args .s) ∙ ap (all (state (c .before .before .before .before .before .args .out .now) (c .before .before .before .before .before .args .s))) (number-none (c .before .before .before .before .before .args .v) (none-told (shownOf (c .before .before .before .before .before .args .v)) (sym (c .enum-told .given .1) ∙ c .before .before .display-scalar .ensures .0)))
+
+pub push-number-spec : {M : Type 1} → statement M
+push-number-spec =
+    tie.close
+    (tie.spec
+    display-scalar-requires
+    enum-known-n
+    sub-t
+    part-t-start
+    part-t-end
+    push-all-requires
+    same-length
+    returns
+    enum-told
+    returns-2)

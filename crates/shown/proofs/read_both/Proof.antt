@@ -1,0 +1,118 @@
+use mathlib.Core.Path.{_≡_, refl, sym, ap, _∙_, subst}
+use mathlib.Core.Bool.{Bool, true, false}
+use mathlib.Core.Logic.{⊎-elim}
+use mathlib.Core.List.{List, [], _∷_, _++_, map, append-nil, append-assoc}
+use Prim.Native.Nat.{ℕ, zero, suc, _+_, _-_, _*_, _≤_, _<_}
+use native.Mathlib.Omega.{arith}
+use native.Mathlib.Numerals.{add-one}
+use borrow.Author.Tests.{lt-ltb, le-ltb, le-leb, lt-leb, eq-eqb, ne-eqb, eqb-true, eqb-false, ltb-true, ltb-false, leb-true, leb-false}
+use lib.Dec.{eqb, leb, ltb}
+use lib.ListN.{length, take, drop, getD, set, replicate, length-set, length-append, length-take, length-drop, length-replicate, length-map}
+use Rattle.walks.specs.Records.{refused, decodeRecord}
+use Rattle.shown.proofs.Answers.{layout-long, layout-refused, bytes-long, decoded-is, gives-refused, gives-decoded, number-at, words-inside, masks-inside, call-is}
+use borrow.Author.Needs.{needs}
+use Rattle.shown.proofs.read_both.Statement.{statement}
+use Rattle.shown.proofs.read_both.Tie as tie
+
+too-long-requires : tie.Need-too-long-requires
+too-long-requires c κs = search needs
+
+refusal-requires : tie.Need-refusal-requires
+refusal-requires c κs = search needs
+
+returns : tie.Need-returns
+returns c = gives-refused _ 16 (c .refusal .result) _ _ (c .refusal .ensures) (layout-long (c .before .before .before .before .before .before .before .args .layout .now) (c .before .before .before .before .before .before .before .args .layout-more) (c .before .before .before .before .before .before .before .args .bytes .now) (c .before .before .before .before .before .before .before .args .more) (sym (c .before .before .too-long .ensures) ∙ c .before .if1 .taken))
+
+slice-aggregate-read-layout : tie.Need-slice-aggregate-read-layout
+slice-aggregate-read-layout c = search needs
+
+slice-aggregate-read-layout-2 : tie.Need-slice-aggregate-read-layout-2
+slice-aggregate-read-layout-2 c = search needs
+
+read-layout-requires : tie.Need-read-layout-requires
+read-layout-requires c κs = search needs
+
+refusal-requires-2 : tie.Need-refusal-requires-2
+refusal-requires-2 c κs = search needs
+
+returns-2 : tie.Need-returns-2
+returns-2 c =
+    let n = number-at (c .before .before .before .before .before .before .before .before .before .before .before .before .before .before .args .layout .now) _ _ (c .before .before .before .before .before .read-layout .result) (length-replicate {A = ℕ} 6144 0) (length-replicate {A = ℕ} 65536 0) (c .before .before .before .before .before .read-layout .ensures .0) in
+    gives-refused _ (c .before .before .before .before .before .read-layout .result .number) (c .refusal2 .result) _ _ (c .refusal2 .ensures) (layout-refused (c .before .before .before .before .before .before .before .before .before .before .before .before .before .before .args .layout .now) (c .before .before .before .before .before .before .before .before .before .before .before .before .before .before .args .layout-more) (c .before .before .before .before .before .before .before .before .before .before .before .before .before .before .args .bytes .now) (c .before .before .before .before .before .before .before .before .before .before .before .before .before .before .args .more) (sym (c .before .before .before .before .before .before .before .before .before .too-long .ensures) ∙ c .before .before .before .before .before .before .before .before .if1 .left) (λ z. c .before .if2 .taken (n ∙ z)) ∙ ap refused (sym n))
+
+too-long-requires-2 : tie.Need-too-long-requires-2
+too-long-requires-2 c κs = search needs
+
+refusal-requires-3 : tie.Need-refusal-requires-3
+refusal-requires-3 c κs = search needs
+
+returns-3 : tie.Need-returns-3
+returns-3 c =
+    let n = number-at (c .before .before .before .before .before .before .before .before .before .before .before .before .before .before .before .before .args .layout .now) _ _ (c .before .before .before .before .before .before .before .read-layout .result) (length-replicate {A = ℕ} 6144 0) (length-replicate {A = ℕ} 65536 0) (c .before .before .before .before .before .before .before .read-layout .ensures .0) in
+    gives-refused _ 4 (c .refusal3 .result) _ _ (c .refusal3 .ensures) (bytes-long (c .before .before .before .before .before .before .before .before .before .before .before .before .before .before .before .before .args .layout .now) (c .before .before .before .before .before .before .before .before .before .before .before .before .before .before .before .before .args .layout-more) (c .before .before .before .before .before .before .before .before .before .before .before .before .before .before .before .before .args .bytes .now) (c .before .before .before .before .before .before .before .before .before .before .before .before .before .before .before .before .args .more) (sym (c .before .before .before .before .before .before .before .before .before .before .before .too-long .ensures) ∙ c .before .before .before .before .before .before .before .before .before .before .if1 .left) (sym n ∙ c .before .before .before .if2 .left) (sym (c .before .before .too-long2 .ensures) ∙ c .before .if3 .taken))
+
+sub-decode-record : tie.Need-sub-decode-record
+sub-decode-record c = search needs
+
+part-decode-record-start : tie.Need-part-decode-record-start
+part-decode-record-start c = search needs
+
+part-decode-record-end : tie.Need-part-decode-record-end
+part-decode-record-end c = words-inside (c .before .before .before .before .before .before .before .before .before .before .before .before .before .before .before .before .args .layout .now) _ _ (c .before .before .before .before .before .before .before .read-layout .result) _ _ (c .before .before .before .before .before .before .before .read-layout .ensures .0) (c .before .before .before .if2 .left) (c .before .before .before .before .before .before .before .read-layout .ensures .1 .0) (c .before .before .before .before .before .before .before .read-layout .ensures .1 .1)
+
+sub-decode-record-2 : tie.Need-sub-decode-record-2
+sub-decode-record-2 c = search needs
+
+part-decode-record-start-2 : tie.Need-part-decode-record-start-2
+part-decode-record-start-2 c = search needs
+
+part-decode-record-end-2 : tie.Need-part-decode-record-end-2
+part-decode-record-end-2 c = masks-inside (c .before .before .before .before .before .before .before .before .before .before .before .before .before .before .before .before .before .before .args .layout .now) _ _ (c .before .before .before .before .before .before .before .before .before .read-layout .result) _ _ (c .before .before .before .before .before .before .before .before .before .read-layout .ensures .0) (c .before .before .before .before .before .if2 .left) (c .before .before .before .before .before .before .before .before .before .read-layout .ensures .1 .0) (c .before .before .before .before .before .before .before .before .before .read-layout .ensures .1 .1)
+
+slice-aggregate-decode-record : tie.Need-slice-aggregate-decode-record
+slice-aggregate-decode-record c = search needs
+
+decode-record-requires : tie.Need-decode-record-requires
+decode-record-requires c κs = search needs
+
+same-length : tie.Need-same-length
+same-length c = search needs
+
+same-length-2 : tie.Need-same-length-2
+same-length-2 c = search needs
+
+returns-4 : tie.Need-returns-4
+returns-4 c =
+    let n = number-at (c .before .before .before .before .before .before .before .before .before .before .before .before .before .before .before .before .before .before .before .before .before .before .before .before .before .before .before .before .args .layout .now) _ _ (c .before .before .before .before .before .before .before .before .before .before .before .before .before .before .before .before .before .before .before .read-layout .result) (length-replicate {A = ℕ} 6144 0) (length-replicate {A = ℕ} 65536 0) (c .before .before .before .before .before .before .before .before .before .before .before .before .before .before .before .before .before .before .before .read-layout .ensures .0) in
+    let d = c .before .before .before .before .before .decode-record .ensures in
+    let l = c .before .before .before .before .before .before .before .before .before .before .before .before .before .before .before .before .before .before .before .read-layout .result in
+    let w = c .before .before .before .before .before .before .before .before .before .before .before .before .before .before .before .before .before .before .before .read-layout .last .1 .0 in
+    let m = c .before .before .before .before .before .before .before .before .before .before .before .before .before .before .before .before .before .before .before .read-layout .last .1 .1 .0 in
+    gives-decoded _ (λ i t k. decodeRecord (take (l .words - 0) w) (take (l .masks - 0) m) (l .page) (c .before .before .before .before .before .before .before .before .before .before .before .before .before .before .before .before .before .before .before .before .before .before .before .before .before .before .before .before .args .bytes .now) i t k) _ _ _ (c .before .before .before .before .before .decode-record .result) _ _ (c .before .before .before .before .before .before .before .before .before .before .before .before .before .before .before .before .before .before .before .before .before .before .before .before .before .before .before .before .pre .0) (c .before .before .before .before .before .before .before .before .before .before .before .before .before .before .before .before .before .before .before .before .before .before .before .before .before .before .before .before .pre .1) refl (decoded-is (c .before .before .before .before .before .before .before .before .before .before .before .before .before .before .before .before .before .before .before .before .before .before .before .before .before .before .before .before .args .layout .now) (c .before .before .before .before .before .before .before .before .before .before .before .before .before .before .before .before .before .before .before .before .before .before .before .before .before .before .before .before .args .layout-more) (c .before .before .before .before .before .before .before .before .before .before .before .before .before .before .before .before .before .before .before .before .before .before .before .before .before .before .before .before .args .bytes .now) (c .before .before .before .before .before .before .before .before .before .before .before .before .before .before .before .before .before .before .before .before .before .before .before .before .before .before .before .before .args .more) (sym (c .before .before .before .before .before .before .before .before .before .before .before .before .before .before .before .before .before .before .before .before .before .before .before .too-long .ensures) ∙ c .before .before .before .before .before .before .before .before .before .before .before .before .before .before .before .before .before .before .before .before .before .before .if1 .left) (sym n ∙ c .before .before .before .before .before .before .before .before .before .before .before .before .before .before .before .if2 .left) (sym (c .before .before .before .before .before .before .before .before .before .before .before .before .before .before .too-long2 .ensures) ∙ c .before .before .before .before .before .before .before .before .before .before .before .before .before .if3 .left) ∙ call-is (c .before .before .before .before .before .before .before .before .before .before .before .before .before .before .before .before .before .before .before .before .before .before .before .before .before .before .before .before .args .layout .now) _ _ l w m (c .before .before .before .before .before .before .before .before .before .before .before .before .before .before .before .before .before .before .before .read-layout .ensures .0) (c .before .before .before .before .before .before .before .before .before .before .before .before .before .before .before .if2 .left) (c .before .before .before .before .before .before .before .before .before .before .before .before .before .before .before .before .before .before .before .read-layout .ensures .1 .0) (c .before .before .before .before .before .before .before .before .before .before .before .before .before .before .before .before .before .before .before .read-layout .ensures .1 .1) (c .before .before .before .before .before .before .before .before .before .before .before .before .before .before .before .before .before .before .before .before .before .before .before .before .before .before .before .before .args .bytes .now)) (d .0) (d .1 .0) (d .1 .1 .0) (d .1 .1 .1 .0) (d .1 .1 .1 .1 .0)
+
+pub read-both-spec : {M : Type 1} → statement M
+read-both-spec =
+    tie.close
+    (tie.spec
+    too-long-requires
+    refusal-requires
+    returns
+    slice-aggregate-read-layout
+    slice-aggregate-read-layout-2
+    read-layout-requires
+    refusal-requires-2
+    returns-2
+    too-long-requires-2
+    refusal-requires-3
+    returns-3
+    sub-decode-record
+    part-decode-record-start
+    part-decode-record-end
+    sub-decode-record-2
+    part-decode-record-start-2
+    part-decode-record-end-2
+    slice-aggregate-decode-record
+    decode-record-requires
+    same-length
+    same-length-2
+    returns-4)

@@ -1,0 +1,82 @@
+use mathlib.Core.Path.{_≡_, refl, sym, ap, _∙_, subst}
+use mathlib.Core.Bool.{Bool, true, false}
+use mathlib.Core.Logic.{⊎-elim}
+use mathlib.Core.List.{List, [], _∷_, _++_, map, append-nil, append-assoc}
+use Prim.Native.Nat.{ℕ, zero, suc, _+_, _-_, _*_, _≤_, _<_}
+use native.Mathlib.Omega.{arith}
+use native.Mathlib.Numerals.{add-one}
+use borrow.Author.Tests.{lt-ltb, le-ltb, le-leb, lt-leb, eq-eqb, ne-eqb, eqb-true, eqb-false, ltb-true, ltb-false, leb-true, leb-false}
+use lib.Dec.{eqb, leb, ltb}
+use lib.ListN.{length, take, drop, getD, set, replicate, length-set, length-append, length-take, length-drop, length-replicate, length-map}
+use Rattle.shown.specs.Shown.{shown}
+use Rattle.shown.specs.Sink.{state, sinkAt, all}
+use Rattle.shown.proofs.Windows.{window}
+use Rattle.shown.proofs.Answers.{prints-refusal, prints-list}
+use borrow.Author.Needs.{needs}
+use Rattle.shown.proofs.show_at.Statement.{statement}
+use Rattle.shown.proofs.show_at.Tie as tie
+
+slice-aggregate-read-both : tie.Need-slice-aggregate-read-both
+slice-aggregate-read-both c = search needs
+
+slice-aggregate-read-both-2 : tie.Need-slice-aggregate-read-both-2
+slice-aggregate-read-both-2 c = search needs
+
+read-both-requires : tie.Need-read-both-requires
+read-both-requires c κs = search needs
+
+push-refused-requires : tie.Need-push-refused-requires
+push-refused-requires c κs = search needs
+
+same-length : tie.Need-same-length
+same-length c = search needs
+
+returns : tie.Need-returns
+returns c = window (c .before .before .before .before .before .before .before .before .before .before .before .before .before .before .args .out .now) _ (c .before .before .before .before .before .before .before .before .before .before .before .before .before .before .args .at) _ (c .before .before .push-refused .result) (c .before .before .push-refused .ensures ∙ ap (all (state (c .before .before .before .before .before .before .before .before .before .before .before .before .before .before .args .out .now) (sinkAt (c .before .before .before .before .before .before .before .before .before .before .before .before .before .before .args .at) 0))) (prints-refusal (c .before .before .before .before .before .before .before .before .before .before .before .before .before .before .args .layout .now) (c .before .before .before .before .before .before .before .before .before .before .before .before .before .before .args .layout-more) (c .before .before .before .before .before .before .before .before .before .before .before .before .before .before .args .record .now) (c .before .before .before .before .before .before .before .before .before .before .before .before .before .before .args .record-more) (c .before .before .before .before .before .before .before .before .read-both .result) _ _ (c .before .before .before .before .before .before .before .before .read-both .ensures) (c .before .before .before .before .if1 .taken)))
+
+sub-push-items : tie.Need-sub-push-items
+sub-push-items c = search needs
+
+part-push-items-start : tie.Need-part-push-items-start
+part-push-items-start c = search needs
+
+part-push-items-end : tie.Need-part-push-items-end
+part-push-items-end c = c .before .before .before .before .before .before .read-both .ensures .words-inside
+
+sub-push-items-2 : tie.Need-sub-push-items-2
+sub-push-items-2 c = search needs
+
+part-push-items-start-2 : tie.Need-part-push-items-start-2
+part-push-items-start-2 c = search needs
+
+part-push-items-end-2 : tie.Need-part-push-items-end-2
+part-push-items-end-2 c = c .before .before .before .before .before .before .before .before .read-both .ensures .bytes-inside
+
+push-items-requires : tie.Need-push-items-requires
+push-items-requires c κs = search needs
+
+same-length-2 : tie.Need-same-length-2
+same-length-2 c = search needs
+
+returns-2 : tie.Need-returns-2
+returns-2 c = window (c .before .before .before .before .before .before .before .before .before .before .before .before .before .before .before .before .before .before .args .out .now) _ (c .before .before .before .before .before .before .before .before .before .before .before .before .before .before .before .before .before .before .args .at) _ (c .before .before .push-items .result) (c .before .before .push-items .ensures ∙ ap (all (state (c .before .before .before .before .before .before .before .before .before .before .before .before .before .before .before .before .before .before .args .out .now) (sinkAt (c .before .before .before .before .before .before .before .before .before .before .before .before .before .before .before .before .before .before .args .at) 0))) (prints-list (c .before .before .before .before .before .before .before .before .before .before .before .before .before .before .before .before .before .before .args .layout .now) (c .before .before .before .before .before .before .before .before .before .before .before .before .before .before .before .before .before .before .args .layout-more) (c .before .before .before .before .before .before .before .before .before .before .before .before .before .before .before .before .before .before .args .record .now) (c .before .before .before .before .before .before .before .before .before .before .before .before .before .before .before .before .before .before .args .record-more) (c .before .before .before .before .before .before .before .before .before .before .before .before .read-both .result) _ _ (c .before .before .before .before .before .before .before .before .before .before .before .before .read-both .ensures) (c .before .before .before .before .before .before .before .before .if1 .left)))
+
+pub show-at-spec : {M : Type 1} → statement M
+show-at-spec =
+    tie.close
+    (tie.spec
+    slice-aggregate-read-both
+    slice-aggregate-read-both-2
+    read-both-requires
+    push-refused-requires
+    same-length
+    returns
+    sub-push-items
+    part-push-items-start
+    part-push-items-end
+    sub-push-items-2
+    part-push-items-start-2
+    part-push-items-end-2
+    push-items-requires
+    same-length-2
+    returns-2)

@@ -1,0 +1,5 @@
+-- What `show` prints.
+pub mod Shown
+pub mod Given
+pub mod Sink
+pub mod Worked

@@ -95,7 +95,7 @@ fn single() -> Shape {
 
 /// Seconds for one call, the best of the rounds; `f` and `g` take turns.
 fn race(mut f: impl FnMut(), mut g: impl FnMut()) -> (f64, f64) {
-    let mut time = |h: &mut dyn FnMut(), n: u64| {
+    let time = |h: &mut dyn FnMut(), n: u64| {
         let start = Instant::now();
         (0..n).for_each(|_| h());
         start.elapsed().as_secs_f64()
@@ -125,7 +125,7 @@ fn main() {
         // buffers of just the size that the record needs: nothing is left to clear behind the items, and the counts and the record are cleared
         let (mut items, mut text) = (vec![0u64; 65_536], vec![0u8; 65_536]);
         let (mut a, mut b) = (0u64, 0u64);
-        let mut read = |items: &mut [u64], text: &mut [u8], counts: &mut [i64], a: &mut u64, b: &mut u64| unsafe {
+        let read = |items: &mut [u64], text: &mut [u8], counts: &mut [i64], a: &mut u64, b: &mut u64| unsafe {
             ff_decode_record(
                 words.as_ptr(), words.len(), masks.as_ptr(), masks.len(), shape.page, shape.record.as_ptr(), shape.record.len(), items.as_mut_ptr(), items.len(), text.as_mut_ptr(), text.len(),
                 counts.as_mut_ptr(), counts.len(), a, b,
@@ -136,7 +136,7 @@ fn main() {
         text.truncate(b as usize);
         let mut record = vec![0u8; shape.record.len()];
         let mut length = 0u64;
-        let mut write = |record: &mut [u8], counts: &mut [i64], length: &mut u64, items: &[u64], text: &[u8]| unsafe {
+        let write = |record: &mut [u8], counts: &mut [i64], length: &mut u64, items: &[u64], text: &[u8]| unsafe {
             ff_encode_record(
                 words.as_ptr(), words.len(), masks.as_ptr(), masks.len(), shape.page, items.as_ptr(), items.len(), text.as_ptr(), text.len(), record.as_mut_ptr(), record.len(), counts.as_mut_ptr(),
                 counts.len(), length,

@@ -68,6 +68,9 @@ module _ (v : List ℕ) (i hi : ℕ) where
   unfolding listOk
   ok-end text levels inList h = rw (values-none v i hi h)
 
+  pub end-is : (it : Item) (span en : ℕ) → it ≡ headOf (values v i hi) → span ≡ spanOf it → en ≡ endOf span i hi → en ≡ endOf (spanOf (headOf (values v i hi))) i hi
+  end-is it span en p s q = q ∙ ap (λ n. endOf n i hi) (s ∙ ap spanOf p)
+
   module _ (h : i < hi) (en : ℕ) (q : en ≡ endOf (spanOf (headOf (values v i hi))) i hi) where
     node-is : (it : Item) → it ≡ headOf (values v i hi) → values v i hi ≡ node it (values v (i + 1) en) (values v en hi)
     node-is it p = values-node v i hi it (spanOf (headOf (values v i hi))) en p (ap spanOf (sym p)) q h

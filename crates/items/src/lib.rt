@@ -241,11 +241,15 @@ fn checked(items: &[u64], text: usize, lo: usize, hi: usize, levels: usize, in_l
             return false;
         }
         let it = fetch(items, i, hi);
-        let end = item_end(items, i, hi);
+        let end = end_of(span_of(it), i, hi);
         let below = (end - i - 1) as u64;
         let n = members(items, i + 1, end);
         if !item_ok(text, in_list, it, n, below) {
             return false;
+        }
+        if end == i + 1 {
+            i = end;
+            continue;
         }
         if !checked(items, text, i + 1, end, levels - 1, is_list(it.tag)) {
             return false;

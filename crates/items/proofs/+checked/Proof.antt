@@ -1,9 +1,10 @@
 use mathlib.Core.Path.{_≡_, refl, sym, _∙_}
 use Prim.Native.Nat.{_+_, _-_}
+use native.Mathlib.Omega.{arith}
 use borrow.Author.Needs.{needs}
 use borrow.Author.Tests.{not-true, not-false}
 use Rattle.items.specs.Items.{values, listOk}
-use Rattle.items.proofs.Lawful.{ok-end, ok-deep, ok-item, ok-inner, ok-next}
+use Rattle.items.proofs.Lawful.{end-is, ok-end, ok-deep, ok-item, ok-inner, ok-next}
 use Prim.Native.Nat.{ℕ, _<_}
 use borrow.Fn.Kinds.{In}
 use borrow.Fn.PlainCycle.{Measures, is, falls, and}
@@ -12,9 +13,10 @@ use Rattle.items.proofs.checked.Kinds as checked-kinds
 use Rattle.items.proofs.+checked.Lts-checked as checked-lts
 use Rattle.items.proofs.fetch.Reads as fetch-reads
 use Rattle.items.proofs.is_list.Reads as is-list-reads
-use Rattle.items.proofs.item_end.Reads as item-end-reads
 use Rattle.items.proofs.item_ok.Reads as item-ok-reads
 use Rattle.items.proofs.members.Reads as members-reads
+use Rattle.items.proofs.span_of.Reads as span-of-reads
+use Rattle.spans.proofs.end_of.Reads as end-of-reads
 use Rattle.items.proofs.+checked.{statement}
 use Rattle.items.proofs.+checked.Tie.{close}
 
@@ -28,7 +30,7 @@ abbrev checked-below : ℕ → In 1 checked-kinds.ps
 checked-below t = and 1 checked-kinds.ps (falls 1 checked-kinds.ps _<_ μ-checked t) checked.Pre
 
 abbrev claims : ℕ → checked-lts.Claims
-claims t = (fetch-reads.Asked, fetch-reads.Learnt, item-end-reads.Asked, item-end-reads.Learnt, members-reads.Asked, members-reads.Learnt, item-ok-reads.Asked, item-ok-reads.Learnt, is-list-reads.Asked, is-list-reads.Learnt, checked-below t, checked.Post)
+claims t = (fetch-reads.Asked, fetch-reads.Learnt, span-of-reads.Asked, span-of-reads.Learnt, end-of-reads.Asked, end-of-reads.Learnt, members-reads.Asked, members-reads.Learnt, item-ok-reads.Asked, item-ok-reads.Learnt, is-list-reads.Asked, is-list-reads.Learnt, checked-below t, checked.Post)
 
 abbrev checked-Inv-loop : checked-lts.InvT-loop
 checked-Inv-loop items text lo hi levels in-list i₀ i = listOk text in-list levels (values items lo hi) ≡ listOk text in-list levels (values items i hi)
@@ -45,8 +47,11 @@ checked-returns t c = sym (c .before .before .loop .inv ∙ ok-deep _ _ _ (c .be
 checked-fetch-requires : (t : ℕ) → checked-lts.Need-fetch-requires (claims t) (checked-at t) checked.Post checked-Inv-loop checked-μ-loop
 checked-fetch-requires t c κs = search needs
 
-checked-item-end-requires : (t : ℕ) → checked-lts.Need-item-end-requires (claims t) (checked-at t) checked.Post checked-Inv-loop checked-μ-loop
-checked-item-end-requires t c κs = search needs
+checked-span-of-requires : (t : ℕ) → checked-lts.Need-span-of-requires (claims t) (checked-at t) checked.Post checked-Inv-loop checked-μ-loop
+checked-span-of-requires t c κs = search needs
+
+checked-end-of-requires : (t : ℕ) → checked-lts.Need-end-of-requires (claims t) (checked-at t) checked.Post checked-Inv-loop checked-μ-loop
+checked-end-of-requires t c κs = search needs
 
 checked-sub-below : (t : ℕ) → checked-lts.Need-sub-below (claims t) (checked-at t) checked.Post checked-Inv-loop checked-μ-loop
 checked-sub-below t c = search needs
@@ -64,7 +69,16 @@ checked-item-ok-requires : (t : ℕ) → checked-lts.Need-item-ok-requires (clai
 checked-item-ok-requires t c κs = search needs
 
 checked-returns-2 : (t : ℕ) → checked-lts.Need-returns-2 (claims t) (checked-at t) checked.Post checked-Inv-loop checked-μ-loop
-checked-returns-2 t c = sym (c .before .before .before .before .before .before .before .loop .inv ∙ ok-item _ _ _ (c .before .before .before .before .before .before .loop-test .taken) _ (c .before .before .before .item-end .ensures) _ _ _ (c .before .before .before .before .before .if1 .left) (c .before .before .before .before .fetch .result) (c .before .before .before .before .fetch .ensures) _ _ (c .before .before .members .ensures) refl (sym (c .before .item-ok .ensures) ∙ not-true _ (c .if2 .taken)))
+checked-returns-2 t c = sym (c .before .before .before .before .before .before .before .before .loop .inv ∙ ok-item _ _ _ (c .before .before .before .before .before .before .before .loop-test .taken) _ (end-is _ _ _ (c .before .before .before .before .before .fetch .result) _ _ (c .before .before .before .before .before .fetch .ensures) (c .before .before .before .before .span-of .ensures) (c .before .before .before .end-of .ensures)) _ _ _ (c .before .before .before .before .before .before .if1 .left) (c .before .before .before .before .before .fetch .result) (c .before .before .before .before .before .fetch .ensures) _ _ (c .before .before .members .ensures) refl (sym (c .before .item-ok .ensures) ∙ not-true _ (c .if2 .taken)))
+
+checked-add-if3 : (t : ℕ) → checked-lts.Need-add-if3 (claims t) (checked-at t) checked.Post checked-Inv-loop checked-μ-loop
+checked-add-if3 t c = search needs
+
+checked-loop-less : (t : ℕ) → checked-lts.Need-loop-less (claims t) (checked-at t) checked.Post checked-Inv-loop checked-μ-loop
+checked-loop-less t c = search needs
+
+checked-loop-again : (t : ℕ) → checked-lts.Need-loop-again (claims t) (checked-at t) checked.Post checked-Inv-loop checked-μ-loop
+checked-loop-again t c = c .before .before .before .before .before .before .before .before .before .loop .inv ∙ ok-next _ _ _ (c .before .before .before .before .before .before .before .before .loop-test .taken) _ (end-is _ _ _ (c .before .before .before .before .before .before .fetch .result) _ _ (c .before .before .before .before .before .before .fetch .ensures) (c .before .before .before .before .before .span-of .ensures) (c .before .before .before .before .end-of .ensures)) _ _ _ (c .before .before .before .before .before .before .before .if1 .left) (c .before .before .before .before .before .before .fetch .result) (c .before .before .before .before .before .before .fetch .ensures) _ _ (c .before .before .before .members .ensures) refl (sym (c .before .before .item-ok .ensures) ∙ not-false _ (c .before .if2 .left)) _ refl (ok-end _ _ _ _ _ _ (omega arith))
 
 checked-add-checked : (t : ℕ) → checked-lts.Need-add-checked (claims t) (checked-at t) checked.Post checked-Inv-loop checked-μ-loop
 checked-add-checked t c = search needs
@@ -79,13 +93,13 @@ checked-checked-requires : (t : ℕ) → checked-lts.Need-checked-requires (clai
 checked-checked-requires t c κs = search needs
 
 checked-returns-3 : (t : ℕ) → checked-lts.Need-returns-3 (claims t) (checked-at t) checked.Post checked-Inv-loop checked-μ-loop
-checked-returns-3 t c = sym (c .before .before .before .before .before .before .before .before .before .before .loop .inv ∙ ok-inner _ _ _ (c .before .before .before .before .before .before .before .before .before .loop-test .taken) _ (c .before .before .before .before .before .before .item-end .ensures) _ _ _ (c .before .before .before .before .before .before .before .before .if1 .left) (c .before .before .before .before .before .before .before .fetch .result) (c .before .before .before .before .before .before .before .fetch .ensures) _ _ (c .before .before .before .before .before .members .ensures) refl (sym (c .before .before .before .before .item-ok .ensures) ∙ not-false _ (c .before .before .before .if2 .left)) _ (c .before .before .is-list .ensures) (sym (c .before .checked .ensures) ∙ not-true _ (c .if3 .taken)))
+checked-returns-3 t c = sym (c .before .before .before .before .before .before .before .before .before .before .before .before .loop .inv ∙ ok-inner _ _ _ (c .before .before .before .before .before .before .before .before .before .before .before .loop-test .taken) _ (end-is _ _ _ (c .before .before .before .before .before .before .before .before .before .fetch .result) _ _ (c .before .before .before .before .before .before .before .before .before .fetch .ensures) (c .before .before .before .before .before .before .before .before .span-of .ensures) (c .before .before .before .before .before .before .before .end-of .ensures)) _ _ _ (c .before .before .before .before .before .before .before .before .before .before .if1 .left) (c .before .before .before .before .before .before .before .before .before .fetch .result) (c .before .before .before .before .before .before .before .before .before .fetch .ensures) _ _ (c .before .before .before .before .before .before .members .ensures) refl (sym (c .before .before .before .before .before .item-ok .ensures) ∙ not-false _ (c .before .before .before .before .if2 .left)) _ (c .before .before .is-list .ensures) (sym (c .before .checked .ensures) ∙ not-true _ (c .if4 .taken)))
 
-checked-loop-less : (t : ℕ) → checked-lts.Need-loop-less (claims t) (checked-at t) checked.Post checked-Inv-loop checked-μ-loop
-checked-loop-less t c = search needs
+checked-loop-less-2 : (t : ℕ) → checked-lts.Need-loop-less-2 (claims t) (checked-at t) checked.Post checked-Inv-loop checked-μ-loop
+checked-loop-less-2 t c = search needs
 
-checked-loop-again : (t : ℕ) → checked-lts.Need-loop-again (claims t) (checked-at t) checked.Post checked-Inv-loop checked-μ-loop
-checked-loop-again t c = c .before .before .before .before .before .before .before .before .before .before .loop .inv ∙ ok-next _ _ _ (c .before .before .before .before .before .before .before .before .before .loop-test .taken) _ (c .before .before .before .before .before .before .item-end .ensures) _ _ _ (c .before .before .before .before .before .before .before .before .if1 .left) (c .before .before .before .before .before .before .before .fetch .result) (c .before .before .before .before .before .before .before .fetch .ensures) _ _ (c .before .before .before .before .before .members .ensures) refl (sym (c .before .before .before .before .item-ok .ensures) ∙ not-false _ (c .before .before .before .if2 .left)) _ (c .before .before .is-list .ensures) (sym (c .before .checked .ensures) ∙ not-false _ (c .if3 .left))
+checked-loop-again-2 : (t : ℕ) → checked-lts.Need-loop-again-2 (claims t) (checked-at t) checked.Post checked-Inv-loop checked-μ-loop
+checked-loop-again-2 t c = c .before .before .before .before .before .before .before .before .before .before .before .before .loop .inv ∙ ok-next _ _ _ (c .before .before .before .before .before .before .before .before .before .before .before .loop-test .taken) _ (end-is _ _ _ (c .before .before .before .before .before .before .before .before .before .fetch .result) _ _ (c .before .before .before .before .before .before .before .before .before .fetch .ensures) (c .before .before .before .before .before .before .before .before .span-of .ensures) (c .before .before .before .before .before .before .before .end-of .ensures)) _ _ _ (c .before .before .before .before .before .before .before .before .before .before .if1 .left) (c .before .before .before .before .before .before .before .before .before .fetch .result) (c .before .before .before .before .before .before .before .before .before .fetch .ensures) _ _ (c .before .before .before .before .before .before .members .ensures) refl (sym (c .before .before .before .before .before .item-ok .ensures) ∙ not-false _ (c .before .before .before .before .if2 .left)) _ (c .before .before .is-list .ensures) (sym (c .before .checked .ensures) ∙ not-false _ (c .if4 .left))
 
 checked-returns-4 : (t : ℕ) → checked-lts.Need-returns-4 (claims t) (checked-at t) checked.Post checked-Inv-loop checked-μ-loop
 checked-returns-4 t c = sym (c .before .loop .inv ∙ ok-end _ _ _ _ _ _ (c .loop-test .left))
@@ -99,18 +113,22 @@ pub +checked-spec : {M : Type 1} → statement M
     (checked-loop-holds t)
     (checked-returns t)
     (checked-fetch-requires t)
-    (checked-item-end-requires t)
+    (checked-span-of-requires t)
+    (checked-end-of-requires t)
     (checked-sub-below t)
     (checked-sub-below-2 t)
     (checked-add-members t)
     (checked-members-requires t)
     (checked-item-ok-requires t)
     (checked-returns-2 t)
+    (checked-add-if3 t)
+    (checked-loop-less t)
+    (checked-loop-again t)
     (checked-add-checked t)
     (checked-sub-checked t)
     (checked-is-list-requires t)
     (checked-checked-requires t)
     (checked-returns-3 t)
-    (checked-loop-less t)
-    (checked-loop-again t)
+    (checked-loop-less-2 t)
+    (checked-loop-again-2 t)
     (checked-returns-4 t)

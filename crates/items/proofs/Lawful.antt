@@ -71,6 +71,10 @@ module _ (v : List ℕ) (i hi : ℕ) where
   pub end-is : (it : Item) (span en : ℕ) → it ≡ headOf (values v i hi) → span ≡ spanOf it → en ≡ endOf span i hi → en ≡ endOf (spanOf (headOf (values v i hi))) i hi
   end-is it span en p s q = q ∙ ap (λ n. endOf n i hi) (s ∙ ap spanOf p)
 
+  -- a scalar stands alone
+  pub scalar-end : (it : Item) → it ≡ headOf (values v i hi) → holds (it .tag) ≡ false → i < hi → i + 1 ≡ endOf (spanOf (headOf (values v i hi))) i hi
+  scalar-end it p t h = end-is it 1 (i + 1) p (sym (ap (λ b. cond b (it .b) 1) t)) (omega arith)
+
   module _ (h : i < hi) (en : ℕ) (q : en ≡ endOf (spanOf (headOf (values v i hi))) i hi) where
     node-is : (it : Item) → it ≡ headOf (values v i hi) → values v i hi ≡ node it (values v (i + 1) en) (values v en hi)
     node-is it p = values-node v i hi it (spanOf (headOf (values v i hi))) en p (ap spanOf (sym p)) q h

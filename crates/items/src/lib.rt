@@ -241,6 +241,13 @@ fn checked(items: &[u64], text: usize, lo: usize, hi: usize, levels: usize, in_l
             return false;
         }
         let it = fetch(items, i, hi);
+        if !holding(it.tag) {
+            if !item_ok(text, in_list, it, 0, 0) {
+                return false;
+            }
+            i += 1;
+            continue;
+        }
         let end = end_of(span_of(it), i, hi);
         let below = (end - i - 1) as u64;
         let n = members(items, i + 1, end);

@@ -1,6 +1,6 @@
 -- A List around its elements, a Struct around its members, and the ways of one element.
 use mathlib.Core.Path.{_≡_, refl, sym, ap, ap₂, _∙_}
-use mathlib.Core.Bool.{Bool, true, false, _||_, cond}
+use mathlib.Core.Bool.{Bool, true, false, _||_, _&&_, not, cond, false≢true}
 use mathlib.Core.List.{List, [], _∷_, _++_}
 use Prim.Native.Nat.{ℕ, _+_, _-_, _/_, _<_, _≤_}
 use native.Mathlib.Omega.{arith}
@@ -77,12 +77,27 @@ module _ (k : Codec Held) (r : List ℕ) (e : Entry) (inner : Reader Held) (name
   unfolding one
   one-group p = rw (eq-eqb (e .kind) 9 p) refl
 
-module _ (k : Codec Held) (r : List ℕ) (e : Entry) (inner : Reader Held) (once : Bool) (at room : ℕ) (s : Held) (n : e .kind ≡ 9 → ⊥) where
-  pub leaf-once : once ≡ true → one k r e inner (cond once (e .name) 65536) once at room s ≡ leafAt k r e (e .name) true at room s
-  leaf-once q = rw q (one-leaf k r e inner (e .name) true at room s n)
+  pub leaf-named : {name′ : ℕ} → (e .kind ≡ 9 → ⊥) → name′ ≡ name → one k r e inner name once at room s ≡ leafAt k r e name′ once at room s
+  leaf-named n q = rw q (one-leaf n)
 
-  pub leaf-element : once ≡ false → one k r e inner (cond once (e .name) 65536) once at room s ≡ leafAt k r e 65536 false at room s
-  leaf-element q = rw q (one-leaf k r e inner 65536 false at room s n)
+-- an entry that is one scalar or Pad
+both : (a b : Bool) → (a && b) ≡ true → (a ≡ true) × (b ≡ true)
+both true b q = (refl, q)
+both false b q = absurd (false≢true q)
+
+module _ (k : Codec Held) (r : List ℕ) (e : Entry) (inner : Reader Held) (at room : ℕ) (s : Held) where
+  pub field-lone : (once : Bool) {b : Bool} → once ≡ single e → b ≡ (once && not (eqb (e .kind) 9)) → b ≡ true → field k r e inner at room s ≡ leafAt k r e (e .name) true at room s
+  unfolding field
+  field-lone once o p q =
+      let w = both once (not (eqb (e .kind) 9)) (sym p ∙ q) in
+      rw (sym o ∙ w .0) (one-leaf k r e inner (e .name) true at room s (λ z. false≢true (ap not (sym (eq-eqb (e .kind) 9 z)) ∙ w .1)))
+
+-- the test of such an entry
+pub lone-once : (once : Bool) (kind : ℕ) → once ≡ true → not (eqb kind 9) ≡ (once && not (eqb kind 9))
+lone-once once kind q = rw q refl
+
+pub lone-not : (once : Bool) (kind : ℕ) → once ≡ false → false ≡ (once && not (eqb kind 9))
+lone-not once kind q = rw q refl
 
 -- an element of a walk takes at most 2^63 bytes
 pub element-most : (k : Codec Held) (r : List ℕ) (e : Entry) (t : Tree Entry) (name : ℕ) (once : Bool) (at room : ℕ) (s : Held) → e .width < 4294967296

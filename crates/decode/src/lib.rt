@@ -23,7 +23,8 @@ use layout::record_length;
 use layout::reserved_width;
 use spans::end_of;
 ghost use mathlib.Core.Path.{_≡_};
-ghost use mathlib.Core.Bool.{Bool, true, false, cond};
+ghost use mathlib.Core.Bool.{Bool, true, false, _&&_, not, cond};
+ghost use lib.Dec.{eqb};
 ghost use mathlib.Core.List.{List, []};
 ghost use Prim.Native.Nat.{ℕ, _+_, _≤_};
 ghost use lib.IntN.{pos};
@@ -104,8 +105,18 @@ fn decode_seq(
     }
 }
 
-// An entry whose members are the entries lo up to hi: one element, or the elements of a table. One call of decode_one serves both,
-// so that the frame stays small.
+// Whether an entry is a single scalar or Pad.
+fn is_lone_leaf(once: bool, kind: u32) -> bool
+    ensures { λ r. ⌜ r ≡ (once && not (eqb kind 9)) ⌝ }
+{
+    if once {
+        return kind != 9;
+    }
+    false
+}
+
+// An entry whose members are the entries lo up to hi: one scalar or Pad, read without the loop, or one group, or the elements of a table.
+// One call of decode_one serves the last two, so that the frame stays small.
 fn decode_field(
     layout: &[u32],
     record: &[u8],
@@ -124,6 +135,22 @@ fn decode_field(
     ensures { λ r. ⌜ Met (field (kept (now (layout .entry)) page (length (now (text .entry))) deps) (now («record» .entry)) e (λ b n s. seq (kept (now (layout .entry)) page (length (now (text .entry))) deps) (now («record» .entry)) (part (now (layout .entry)) lo hi) b 0 n s) at (length (now (items .entry))) (state (now (counts .entry)) told (now (text .entry)))) r (now (items .exit)) (now (text .exit)) (now (counts .exit)) ⌝ }
 {
     let once = is_single(e);
+    if is_lone_leaf(once, e.kind) {
+        return decode_leaf(
+            layout,
+            record,
+            items,
+            text,
+            counts,
+            page,
+            deps,
+            e,
+            at,
+            told,
+            e.name as u64,
+            true,
+        );
+    }
     let c = element_count(layout, counts, e);
     if c.refused != 0 {
         return refusal(c.refused);
@@ -190,23 +217,8 @@ fn decode_one(
     requires { ⌜ told ≤ length (now text) ⌝ }
     ensures { λ r. ⌜ Met (one (kept (now (layout .entry)) page (length (now (text .entry))) deps) (now («record» .entry)) e (λ b n s. seq (kept (now (layout .entry)) page (length (now (text .entry))) deps) (now («record» .entry)) (part (now (layout .entry)) lo hi) b 0 n s) (cond once (e .name) 65536) once at (length (now (items .entry))) (state (now (counts .entry)) told (now (text .entry)))) r (now (items .exit)) (now (text .exit)) (now (counts .exit)) ⌝ }
 {
+    let name = element_name(e, once);
     if e.kind != 9 {
-        if once {
-            return decode_leaf(
-                layout,
-                record,
-                items,
-                text,
-                counts,
-                page,
-                deps,
-                e,
-                at,
-                told,
-                e.name as u64,
-                true,
-            );
-        }
         return decode_leaf(
             layout,
             record,
@@ -218,8 +230,8 @@ fn decode_one(
             e,
             at,
             told,
-            65536,
-            false,
+            name,
+            once,
         );
     }
     if items.len() < 4 {
@@ -242,7 +254,6 @@ fn decode_one(
         return refusal(o.refused);
     }
     let used = o.used + 4;
-    let name = element_name(e, once);
     put_header(items, name, 7, o.members, (used / 4) as u64);
     Out {
         refused: 0,

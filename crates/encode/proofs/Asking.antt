@@ -13,11 +13,12 @@ use Rattle.spans.proofs.Tree.{tree-none, tree-at}
 use Rattle.layout.specs.declared.Entry.{Entry}
 use Rattle.layout.specs.Layout.{entryAt, spanOf, part, entries, entryCount, checkedOf, recordLength}
 use Rattle.items.specs.Items as Items
-use Rattle.items.specs.Items.{Values, values, headOf, lookup, wellFormed}
-use Rattle.items.proofs.Items.{values-none, values-node}
+use Rattle.items.specs.declared.Item.{Item}
+use Rattle.items.specs.Items.{Values, values, headOf, restOf, lookup, wellFormed}
+use Rattle.items.proofs.Items.{values-none, values-node, rest-is}
 use Rattle.walks.specs.Walk.{isPad}
 use Rattle.walks.specs.Records.{found, supplied, most, workFor}
-use Rattle.encode.specs.Asked.{askedOf}
+use Rattle.encode.specs.Asked.{askedOf, heads, sought, passed}
 
 -- ---- names supplied
 
@@ -32,19 +33,101 @@ pub supplied-end : (l : List ℕ) (i hi : ℕ) (vs : Values) → hi ≤ i → su
 unfolding supplied
 supplied-end l i hi vs h = rw (tree-none (entryAt l) spanOf i hi h) refl
 
-module _ (l v : List ℕ) (i hi from to : ℕ) (h : i < hi) (e : Entry) (p : e ≡ entryAt l i) (j : ℕ) (q : lookup (e .name) (values v from to) ≡ values v j to)
-    (z : Bool) (y : z ≡ (eqb (e .kind) 6 || ltb j to)) where
-  has : (x : Bool) → z ≡ x → (isPad e || found (lookup (e .name) (values v from to))) ≡ x
-  unfolding isPad
-  has x f = ap (λ b. eqb (e .kind) 6 || b) (ap found q ∙ found-by v j to) ∙ sym y ∙ f
+-- every name of these items is a name of all
+abbrev pub Within : Values → Values → Type 0
+Within vs all = (name : ℕ) → found (lookup name vs) ≡ true → found (lookup name all) ≡ true
 
-  pub supplied-not : z ≡ false → supplied (part l i hi) (values v from to) ≡ false
+-- a name of the items behind the first is a name of all
+rest-in : (vs : Values) (name : ℕ) → found (lookup name (restOf vs)) ≡ true → found (lookup name vs) ≡ true
+unfolding lookup
+rest-in none name h = h
+rest-in (node it members rest) name h = go (eqb (it .name) name)
+  where
+    go : (x : Bool) → found (cond x (node it members rest) (lookup name rest)) ≡ true
+    go true = refl
+    go false = h
+
+-- and so is a name of those from the first of another name on
+lookup-in : (all : Values) (other name : ℕ) → found (lookup name (lookup other all)) ≡ true → found (lookup name all) ≡ true
+unfolding lookup
+lookup-in none other name h = h
+lookup-in (node it members rest) other name h = go (lookup-in rest other name) (eqb (it .name) other) h
+  where
+    go : (found (lookup name (lookup other rest)) ≡ true → found (lookup name rest) ≡ true)
+        → (x : Bool) → found (lookup name (cond x (node it members rest) (lookup other rest))) ≡ true → found (lookup name (node it members rest)) ≡ true
+    go f true k = k
+    go f false k = rest-in (node it members rest) name (f k)
+
+heads-in : (name : ℕ) (vs : Values) → heads name vs ≡ true → (found vs ≡ true) × (found (lookup name vs) ≡ true)
+unfolding lookup
+heads-in name none h = absurd (false≢true h)
+heads-in name (node it members rest) h = (refl, rw h refl)
+
+module _ (e : Entry) (vs all : Values) (w : Within vs all) where
+  pub within-next : Within (passed e (sought e vs all)) all
+  within-next = go (isPad e) (heads (e .name) vs)
+    where
+      go : (x y : Bool) → Within (cond x (cond x vs (cond y vs (lookup (e .name) all))) (restOf (cond x vs (cond y vs (lookup (e .name) all))))) all
+      go true y = w
+      go false true = λ name h. w name (rest-in vs name h)
+      go false false = λ name h. lookup-in all (e .name) name (rest-in (lookup (e .name) all) name h)
+
+  sought-found : (isPad e || found (lookup (e .name) all)) ≡ (isPad e || found (sought e vs all))
+  sought-found = go (isPad e) (heads (e .name) vs) refl
+    where
+      go : (x y : Bool) → heads (e .name) vs ≡ y → (x || found (lookup (e .name) all)) ≡ (x || found (cond x vs (cond y vs (lookup (e .name) all))))
+      go true y h = refl
+      go false true h = w (e .name) (heads-in (e .name) vs h .1) ∙ sym (heads-in (e .name) vs h .0)
+      go false false h = refl
+
+module _ (l v : List ℕ) (i hi next to : ℕ) (w : Within (values v next to) (values v 0 to)) (h : i < hi) (e : Entry) (p : e ≡ entryAt l i)
+    (j : ℕ) (q : values v j to ≡ sought e (values v next to) (values v 0 to)) (z : Bool) (y : z ≡ (eqb (e .kind) 6 || ltb j to)) where
+  has : (x : Bool) → z ≡ x → (isPad e || found (lookup (e .name) (values v 0 to))) ≡ x
+  unfolding isPad
+  has x f = sought-found e (values v next to) (values v 0 to) w ∙ ap (λ b. eqb (e .kind) 6 || b) (ap found (sym q) ∙ found-by v j to) ∙ sym y ∙ f
+
+  pub supplied-not : z ≡ false → supplied (part l i hi) (values v 0 to) ≡ false
   unfolding supplied
   supplied-not f = rw (tree-at (entryAt l) spanOf i hi e (endOf (e .span) i hi) h p refl, has false f) refl
 
-  pub supplied-go : z ≡ true → (en : ℕ) → en ≡ endOf (e .span) i hi → supplied (part l i hi) (values v from to) ≡ supplied (part l en hi) (values v from to)
+  pub supplied-go : z ≡ true → (en : ℕ) → en ≡ endOf (e .span) i hi → supplied (part l i hi) (values v 0 to) ≡ supplied (part l en hi) (values v 0 to)
   unfolding supplied
   supplied-go f en r = rw (tree-at (entryAt l) spanOf i hi e en h p r, has true f) refl
+
+  pub within-behind : (j′ : ℕ) → values v j′ to ≡ passed e (values v j to) → Within (values v j′ to) (values v 0 to)
+  within-behind j′ r name k = within-next e (values v next to) (values v 0 to) w name (ap (λ vs. found (lookup name vs)) (sym (r ∙ ap (passed e) q)) ∙ k)
+
+-- ---- where an item is seen
+
+module _ (v : List ℕ) (e : Entry) (next to : ℕ) where
+  pub sought-pad : e .kind ≡ 6 → values v next to ≡ sought e (values v next to) (values v 0 to)
+  unfolding isPad
+  sought-pad k = rw (eq-eqb (e .kind) 6 k) refl
+
+  module _ (k : e .kind ≡ 6 → ⊥) where
+    module _ (h : next < to) (it : Item) (p : it ≡ headOf (values v next to)) where
+      heads-is : (x : Bool) → eqb (it .name) (e .name) ≡ x → heads (e .name) (values v next to) ≡ x
+      heads-is x f = ap (heads (e .name)) (values-node v next to it (Items.spanOf it) (endOf (Items.spanOf it) next to) p refl refl h) ∙ f
+
+      pub sought-here : it .name ≡ e .name → values v next to ≡ sought e (values v next to) (values v 0 to)
+      unfolding isPad
+      sought-here f = rw (ne-eqb (e .kind) 6 k, heads-is true (eq-eqb (it .name) (e .name) f)) refl
+
+      pub sought-there : (it .name ≡ e .name → ⊥) → (r : ℕ) → lookup (e .name) (values v 0 to) ≡ values v r to → values v r to ≡ sought e (values v next to) (values v 0 to)
+      unfolding isPad
+      sought-there f r g = rw (ne-eqb (e .kind) 6 k, heads-is false (ne-eqb (it .name) (e .name) f)) (sym g)
+
+    pub sought-end : to ≤ next → (r : ℕ) → lookup (e .name) (values v 0 to) ≡ values v r to → values v r to ≡ sought e (values v next to) (values v 0 to)
+    unfolding isPad
+    sought-end h r g = rw (ne-eqb (e .kind) 6 k, values-none v next to h) (sym g)
+
+pub passed-pad : (v : List ℕ) (e : Entry) (j to : ℕ) → e .kind ≡ 6 → values v j to ≡ passed e (values v j to)
+unfolding isPad
+passed-pad v e j to k = rw (eq-eqb (e .kind) 6 k) refl
+
+pub passed-item : (v : List ℕ) (e : Entry) (j to : ℕ) → (e .kind ≡ 6 → ⊥) → (r : ℕ) → r ≡ endOf (Items.spanOf (headOf (values v j to))) j to → values v r to ≡ passed e (values v j to)
+unfolding isPad
+passed-item v e j to k r q = rw (ne-eqb (e .kind) 6 k) (sym (rest-is v j to (headOf (values v j to)) (Items.spanOf (headOf (values v j to))) r refl refl q))
 
 -- ---- the first question that fails
 

@@ -1,6 +1,6 @@
 -- The laws by which a step of the writer's walk goes.
 use mathlib.Core.Path.{_≡_, refl, sym, ap, ap₂, _∙_}
-use mathlib.Core.Bool.{Bool, true, false, cond}
+use mathlib.Core.Bool.{Bool, true, false, not, _&&_, cond, false≢true}
 use mathlib.Core.List.{List}
 use Prim.Native.Nat.{ℕ, suc, _+_, _-_, _*_, _<_, _≤_, min, max}
 use native.Mathlib.Omega.{arith}
@@ -28,6 +28,16 @@ module _ {S : Type 0} (k : Codec S) (room : ℕ) (e : Entry) (inner : Layer) (v 
   pub one-leaf : (e .kind ≡ 9 → ⊥) → one k room e inner (values v i to) at b ≡ leaf k room e it at b
   unfolding one
   one-leaf h = rw (ne-eqb (e .kind) 9 h, p) refl
+
+  pub field-leaf : (z : Bool) → z ≡ (not (isGroup e) && single e) → z ≡ true → field k room e inner (values v i to) at b ≡ leaf k room e it at b
+  unfolding field one
+  field-leaf z y f = go (isGroup e) (single e) (sym y ∙ f)
+    where
+      go : (g s : Bool) → (not g && s) ≡ true
+          → cond s (cond g (inside 7 (λ ms. inner ms at b) (values v i to)) (leaf k room e (headOf (values v i to)) at b)) (table e (one k room e inner) (values v i to) at b) ≡ leaf k room e it at b
+      go true s h = absurd (false≢true h)
+      go false true h = ap (λ x. leaf k room e x at b) (sym p)
+      go false false h = absurd (false≢true h)
 
   pub one-not : e .kind ≡ 9 → (t : Bool) → t ≡ taking (it .tag) 7 → t ≡ false → one k room e inner (values v i to) at b ≡ refused 13
   unfolding one

@@ -3,6 +3,7 @@ use encode_leaf::Out;
 use encode_leaf::clear;
 use encode_leaf::elements_of;
 use encode_leaf::encode_leaf;
+use encode_leaf::is_single;
 use encode_leaf::larger;
 use encode_leaf::less;
 use encode_leaf::no_item;
@@ -26,16 +27,17 @@ use lists::fill;
 use spans::end_of;
 ghost use mathlib.Core.Path.{_≡_};
 ghost use Prim.Native.Nat.{ℕ, _/_};
-ghost use mathlib.Core.Bool.{_||_};
+ghost use mathlib.Core.Bool.{not, _&&_, _||_};
 ghost use lib.Dec.{eqb, ltb};
 ghost use lib.IntN.{pos};
 ghost use lib.ListN.{length, replicate};
-ghost use Rattle.layout.specs.Layout.{part, entries};
+ghost use Rattle.layout.specs.Layout.{part, entries, isGroup};
 ghost use Rattle.items.specs.Items.{values};
+ghost use Rattle.walks.specs.Walk.{single};
 ghost use Rattle.walks.specs.Records.{encodeRecord, refusalOf, bytesOf, filled, supplied};
 ghost use Rattle.encode_leaf.specs.Laying.{one, field, start};
 ghost use Rattle.encode_leaf.specs.Machine.{Met, codec, roomIn};
-ghost use Rattle.encode.specs.Asked.{askedOf};
+ghost use Rattle.encode.specs.Asked.{askedOf, sought, passed};
 
 // What writing a record answers: the number that refuses it, or 0 with the record's length.
 pub struct Written {
@@ -99,8 +101,18 @@ fn encode_seq(
     }
 }
 
-// An entry whose members are the entries lo up to hi, by the first of the items i..to: one element, or the elements of a table. One call
-// of encode_one serves both, so that the frame stays small.
+// Whether an entry is one scalar or Pad, so no table and no group.
+fn is_lone_leaf(e: Entry) -> bool
+    ensures { λ r. ⌜ r ≡ (not (isGroup e) && single e) ⌝ }
+{
+    if e.kind == 9 {
+        return false;
+    }
+    is_single(e)
+}
+
+// An entry whose members are the entries lo up to hi, by the first of the items i..to: one scalar or Pad at once; or one element, or the
+// elements of a table. One call of encode_one serves both, so that the frame stays small.
 fn encode_field(
     layout: &[u32],
     masks: &[u8],
@@ -117,6 +129,9 @@ fn encode_field(
 ) -> Out
     ensures { λ r. ⌜ Met (field (codec (now (masks .entry)) page (now (text .entry))) (roomIn (now (rec .entry))) e (start (codec (now (masks .entry)) page (now (text .entry))) (roomIn (now (rec .entry))) (part (now (layout .entry)) lo hi)) (values (now (items .entry)) i to) at (now (rec .entry))) r (now (rec .exit)) ⌝ }
 {
+    if is_lone_leaf(e) {
+        return encode_leaf(masks, text, rec, page, e, fetch(items, i, to), at);
+    }
     let s = elements_of(items, e, i, to);
     if s.refused != 0 {
         return refusal(s.refused);
@@ -208,6 +223,33 @@ fn has_value(e: Entry, j: usize, to: usize) -> bool
     j < to
 }
 
+// Where the item of an entry is seen, items in the entries' order being seen at once: at `next` if the item there has the name, or else at the
+// first item that has it. For a Pad nothing is looked for.
+fn seek(items: &[u64], e: Entry, next: usize, to: usize) -> usize
+    ensures { λ r. ⌜ values (now (items .entry)) r to ≡ sought e (values (now (items .entry)) next to) (values (now (items .entry)) 0 to) ⌝ }
+{
+    if e.kind == 6 {
+        return next;
+    }
+    if next < to {
+        let it = fetch(items, next, to);
+        if it.name == e.name as u64 {
+            return next;
+        }
+    }
+    find(items, e.name as u64, 0, to)
+}
+
+// The place behind the item of an entry, which is at j; a Pad has none.
+fn behind(items: &[u64], e: Entry, j: usize, to: usize) -> usize
+    ensures { λ r. ⌜ values (now (items .entry)) r to ≡ passed e (values (now (items .entry)) j to) ⌝ }
+{
+    if e.kind == 6 {
+        return j;
+    }
+    item_end(items, j, to)
+}
+
 // Whether every top-level name but those of Pads is in the list.
 fn supplies(layout: &[u32], items: &[u64]) -> bool
     ensures { λ r. ⌜ r ≡ supplied (entries (now (layout .entry))) (values (now (items .entry)) 0 (length (now (items .entry)) / 4)) ⌝ }
@@ -215,12 +257,14 @@ fn supplies(layout: &[u32], items: &[u64]) -> bool
     let n = layout.len() / 12;
     let to = items.len() / 4;
     let mut i = 0;
+    let mut next = 0;
     while i < n {
         let e = load(layout, i);
-        let j = find(items, e.name as u64, 0, to);
+        let j = seek(items, e, next, to);
         if !has_value(e, j, to) {
             return false;
         }
+        next = behind(items, e, j, to);
         i = end_of(e.span as u64, i, n);
     }
     true

@@ -13,7 +13,7 @@ use Rattle.encode.proofs.+encode_field+encode_one+encode_seq.Lts-encode
 use Rattle.encode.proofs.+encode_field+encode_one+encode_seq.{statement}
 use Rattle.encode.proofs.+encode_field+encode_one+encode_seq.Tie.{close}
 use Rattle.encode.proofs.+encode_field+encode_one+encode_seq.Proof.Common.{μ-encode-field, μ-encode-one, μ-encode-seq, encode-field-at, encode-field-below, encode-one-at, encode-one-below, encode-seq-at, encode-seq-below}
-use Rattle.encode.proofs.+encode_field+encode_one+encode_seq.Proof.Field.{encode-field-claims, encode-field-Inv-loop, encode-field-μ-loop, encode-field-elements-of-requires, encode-field-refusal-requires, encode-field-returns, encode-field-loop-holds, encode-field-encode-one-requires, encode-field-refusal-requires-2, encode-field-same-length, encode-field-returns-2, encode-field-larger-requires, encode-field-settles-requires, encode-field-sat-mul-requires, encode-field-sat-add-requires, encode-field-same-length-2, encode-field-returns-3, encode-field-sat-add-requires-2, encode-field-sat-add-requires-3, encode-field-item-end-requires, encode-field-sub-left, encode-field-loop-less, encode-field-loop-again, encode-field-same-length-3, encode-field-returns-4}
+use Rattle.encode.proofs.+encode_field+encode_one+encode_seq.Proof.Field.{encode-field-claims, encode-field-Inv-loop, encode-field-μ-loop, encode-field-is-lone-leaf-requires, encode-field-fetch-requires, encode-field-encode-leaf-requires, encode-field-same-length, encode-field-returns, encode-field-elements-of-requires, encode-field-refusal-requires, encode-field-returns-2, encode-field-loop-holds, encode-field-encode-one-requires, encode-field-refusal-requires-2, encode-field-same-length-2, encode-field-returns-3, encode-field-larger-requires, encode-field-settles-requires, encode-field-sat-mul-requires, encode-field-sat-add-requires, encode-field-same-length-3, encode-field-returns-4, encode-field-sat-add-requires-2, encode-field-sat-add-requires-3, encode-field-item-end-requires, encode-field-sub-left, encode-field-loop-less, encode-field-loop-again, encode-field-same-length-4, encode-field-returns-5}
 use Rattle.encode.proofs.+encode_field+encode_one+encode_seq.Proof.One.{encode-one-claims, encode-one-no-item-requires, encode-one-encode-leaf-requires, encode-one-same-length, encode-one-returns, encode-one-fetch-requires, encode-one-encode-leaf-requires-2, encode-one-same-length-2, encode-one-returns-2, encode-one-takes-requires, encode-one-refusal-requires, encode-one-returns-3, encode-one-item-end-requires, encode-one-after-requires, encode-one-encode-seq-requires, encode-one-same-length-3, encode-one-returns-4}
 use Rattle.encode.proofs.+encode_field+encode_one+encode_seq.Proof.Seq.{encode-seq-claims, encode-seq-Inv-loop, encode-seq-μ-loop, encode-seq-loop-holds, encode-seq-load-requires, encode-seq-cast-end-of, encode-seq-end-of-requires, encode-seq-cast-sat-add, encode-seq-sat-add-requires, encode-seq-sat-add-requires-2, encode-seq-cast-find, encode-seq-find-requires, encode-seq-add-encode-field, encode-seq-encode-field-requires, encode-seq-refusal-requires, encode-seq-same-length, encode-seq-returns, encode-seq-reserved-width-requires, encode-seq-less-requires, encode-seq-sat-add-requires-3, encode-seq-sat-add-requires-4, encode-seq-larger-requires, encode-seq-larger-requires-2, encode-seq-loop-less, encode-seq-loop-again, encode-seq-same-length-2, encode-seq-returns-2}
 mod Common
@@ -28,28 +28,33 @@ pub +encode-field+encode-one+encode-seq-spec : {M : Type 1} → statement M
     encode-field.Post
     encode-field-Inv-loop
     encode-field-μ-loop
+    (encode-field-is-lone-leaf-requires t)
+    (encode-field-fetch-requires t)
+    (encode-field-encode-leaf-requires t)
+    (encode-field-same-length t)
+    (encode-field-returns t)
     (encode-field-elements-of-requires t)
     (encode-field-refusal-requires t)
-    (encode-field-returns t)
+    (encode-field-returns-2 t)
     (encode-field-loop-holds t)
     (encode-field-encode-one-requires t)
     (encode-field-refusal-requires-2 t)
-    (encode-field-same-length t)
-    (encode-field-returns-2 t)
+    (encode-field-same-length-2 t)
+    (encode-field-returns-3 t)
     (encode-field-larger-requires t)
     (encode-field-settles-requires t)
     (encode-field-sat-mul-requires t)
     (encode-field-sat-add-requires t)
-    (encode-field-same-length-2 t)
-    (encode-field-returns-3 t)
+    (encode-field-same-length-3 t)
+    (encode-field-returns-4 t)
     (encode-field-sat-add-requires-2 t)
     (encode-field-sat-add-requires-3 t)
     (encode-field-item-end-requires t)
     (encode-field-sub-left t)
     (encode-field-loop-less t)
     (encode-field-loop-again t)
-    (encode-field-same-length-3 t)
-    (encode-field-returns-4 t))
+    (encode-field-same-length-4 t)
+    (encode-field-returns-5 t))
     (λ t. encode-one-lts.spec (encode-one-claims t)
     (encode-one-at t)
     encode-one.Post

@@ -13,33 +13,33 @@ use borrow.Author.Tests.{not-true, not-false}
 use Rattle.layout.specs.Layout.{part}
 use Rattle.items.specs.Items.{values}
 use Rattle.walks.specs.Records.{supplied}
-use Rattle.encode.proofs.Asking.{supplied-end, supplied-not, supplied-go}
+use Rattle.encode.proofs.Asking.{Within, supplied-end, supplied-not, supplied-go, within-behind}
 use Rattle.encode.proofs.supplies.Statement.{statement}
 use Rattle.encode.proofs.supplies.Tie as tie
 
 abbrev Inv-loop : tie.InvT-loop
-Inv-loop layout items n to i₀ i = supplied (part layout 0 n) (values items 0 to) ≡ supplied (part layout i n) (values items 0 to)
+Inv-loop layout items n to i₀ next₀ i next = (supplied (part layout 0 n) (values items 0 to) ≡ supplied (part layout i n) (values items 0 to)) × Within (values items next to) (values items 0 to)
 
 abbrev μ-loop : tie.MeasureT-loop
-μ-loop layout items n to i₀ i = n - i
+μ-loop layout items n to i₀ next₀ i next = n - i
 
 loop-holds : tie.Need-loop-holds Inv-loop μ-loop
-loop-holds c = refl
+loop-holds c = (refl, λ name h. h)
 
 load-requires : tie.Need-load-requires Inv-loop μ-loop
 load-requires c κs = search needs
 
-cast-find : tie.Need-cast-find Inv-loop μ-loop
-cast-find c = search needs
-
-find-requires : tie.Need-find-requires Inv-loop μ-loop
-find-requires c κs = search needs
+seek-requires : tie.Need-seek-requires Inv-loop μ-loop
+seek-requires c κs = search needs
 
 has-value-requires : tie.Need-has-value-requires Inv-loop μ-loop
 has-value-requires c κs = search needs
 
 returns : tie.Need-returns Inv-loop μ-loop
-returns c = sym (c .before .before .before .before .before .before .loop .inv ∙ supplied-not _ _ _ _ _ _ (c .before .before .before .before .before .loop-test .taken) (c .before .before .before .before .load .result) (c .before .before .before .before .load .ensures) _ (c .before .before .find .ensures .1) _ (c .before .has-value .ensures) (not-true _ (c .if1 .taken)))
+returns c = sym (c .before .before .before .before .before .loop .inv .0 ∙ supplied-not _ _ _ _ _ _ (c .before .before .before .before .before .loop .inv .1) (c .before .before .before .before .loop-test .taken) (c .before .before .before .load .result) (c .before .before .before .load .ensures) _ (c .before .before .seek .ensures) _ (c .before .has-value .ensures) (not-true _ (c .if1 .taken)))
+
+behind-requires : tie.Need-behind-requires Inv-loop μ-loop
+behind-requires c κs = search needs
 
 cast-end-of : tie.Need-cast-end-of Inv-loop μ-loop
 cast-end-of c = search needs
@@ -51,10 +51,10 @@ loop-less : tie.Need-loop-less Inv-loop μ-loop
 loop-less c = omega (arith, c .end-of .ensures, c .before .before .before .before .before .before .before .loop-test .taken)
 
 loop-again : tie.Need-loop-again Inv-loop μ-loop
-loop-again c = c .before .before .before .before .before .before .before .before .loop .inv ∙ supplied-go _ _ _ _ _ _ (c .before .before .before .before .before .before .before .loop-test .taken) (c .before .before .before .before .before .before .load .result) (c .before .before .before .before .before .before .load .ensures) _ (c .before .before .before .before .find .ensures .1) _ (c .before .before .before .has-value .ensures) (not-false _ (c .before .before .if1 .left)) _ (c .end-of .ensures)
+loop-again c = (c .before .before .before .before .before .before .before .before .loop .inv .0 ∙ supplied-go _ _ _ _ _ _ (c .before .before .before .before .before .before .before .before .loop .inv .1) (c .before .before .before .before .before .before .before .loop-test .taken) (c .before .before .before .before .before .before .load .result) (c .before .before .before .before .before .before .load .ensures) _ (c .before .before .before .before .before .seek .ensures) _ (c .before .before .before .before .has-value .ensures) (not-false _ (c .before .before .before .if1 .left)) _ (c .end-of .ensures), within-behind _ _ _ _ _ _ (c .before .before .before .before .before .before .before .before .loop .inv .1) (c .before .before .before .before .before .before .before .loop-test .taken) (c .before .before .before .before .before .before .load .result) (c .before .before .before .before .before .before .load .ensures) _ (c .before .before .before .before .before .seek .ensures) _ (c .before .before .before .before .has-value .ensures) _ (c .before .before .behind .ensures))
 
 returns-2 : tie.Need-returns-2 Inv-loop μ-loop
-returns-2 c = sym (c .before .loop .inv ∙ supplied-end _ _ _ _ (c .loop-test .left))
+returns-2 c = sym (c .before .loop .inv .0 ∙ supplied-end _ _ _ _ (c .loop-test .left))
 
 pub supplies-spec : {M : Type 1} → statement M
 supplies-spec =
@@ -64,10 +64,10 @@ supplies-spec =
     μ-loop
     loop-holds
     load-requires
-    cast-find
-    find-requires
+    seek-requires
     has-value-requires
     returns
+    behind-requires
     cast-end-of
     end-of-requires
     loop-less

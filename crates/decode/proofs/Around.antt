@@ -16,9 +16,9 @@ use Rattle.walks.specs.Reading.{Outcome, refused, read, Reader, wrap, inside, o
 use Rattle.decode_leaf.specs.declared.Out.{Out}
 use Rattle.decode_leaf.specs.declared.Count.{Count}
 use Rattle.decode_leaf.specs.Counts.{heldIn}
-use Rattle.decode_leaf.specs.Capped.{field, seq}
-use Rattle.decode_leaf.specs.Machine.{Held, state, kept, leafAt, bare, headOf, headed, Listed, Counted, Fine, Met}
-use Rattle.decode_leaf.proofs.Meets.{refuse, fine, out}
+use Rattle.decode_leaf.specs.Capped.{table, field, seq}
+use Rattle.decode_leaf.specs.Machine.{Held, out, state, kept, leafAt, bare, headOf, headed, Listed, Counted, Fine, Met}
+use Rattle.decode_leaf.proofs.Meets.{refuse, fine}
 use Rattle.decode.proofs.Steps.{inside-room, turns, counts-to, field-is, field-refused, Capped, seq-most, one-most}
 use Rattle.decode.proofs.Tail.{lent, back}
 use Rattle.decode.proofs.Turns.{Written, tail, returned, returned-same, room-left, TurnsInv, turns-done, wrap-is, wrap-drop}
@@ -73,31 +73,48 @@ module _ (k : Codec Held) (r : List ℕ) (e : Entry) (inner : Reader Held) (name
   unfolding one
   one-leaf n = rw (ne-eqb (e .kind) 9 n) refl
 
-  pub one-group : e .kind ≡ 9 → one k r e inner name once at room s ≡ inside name 7 inner at room s
+  -- a group under a name
+  pub one-group : {name′ : ℕ} → e .kind ≡ 9 → name′ ≡ name → one k r e inner name once at room s ≡ inside name′ 7 inner at room s
   unfolding one
-  one-group p = rw (eq-eqb (e .kind) 9 p) refl
+  one-group p q = rw (eq-eqb (e .kind) 9 p, q) refl
 
-  pub leaf-named : {name′ : ℕ} → (e .kind ≡ 9 → ⊥) → name′ ≡ name → one k r e inner name once at room s ≡ leafAt k r e name′ once at room s
-  leaf-named n q = rw q (one-leaf n)
+-- ---- the ways of an entry: a single scalar or Pad, a table of them, a group
 
--- an entry that is one scalar or Pad
+-- the test of a single scalar or Pad
+pub lone-group : (kind : ℕ) (b : Bool) → kind ≡ 9 → false ≡ (not (eqb kind 9) && b)
+lone-group kind b p = rw (eq-eqb kind 9 p) refl
+
+pub lone-single : (kind : ℕ) (b : Bool) → (kind ≡ 9 → ⊥) → b ≡ (not (eqb kind 9) && b)
+lone-single kind b n = rw (ne-eqb kind 9 n) refl
+
 both : (a b : Bool) → (a && b) ≡ true → (a ≡ true) × (b ≡ true)
 both true b q = (refl, q)
 both false b q = absurd (false≢true q)
 
-module _ (k : Codec Held) (r : List ℕ) (e : Entry) (inner : Reader Held) (at room : ℕ) (s : Held) where
-  pub field-lone : (once : Bool) {b : Bool} → once ≡ single e → b ≡ (once && not (eqb (e .kind) 9)) → b ≡ true → field k r e inner at room s ≡ leafAt k r e (e .name) true at room s
+module _ (e : Entry) {b : Bool} (p : b ≡ (not (eqb (e .kind) 9) && single e)) where
+  pub lone-is : b ≡ true → single e ≡ true
+  lone-is q = both (not (eqb (e .kind) 9)) (single e) (sym p ∙ q) .1
+
+  pub lone-kind : b ≡ true → e .kind ≡ 9 → ⊥
+  lone-kind q z = false≢true (ap not (sym (eq-eqb (e .kind) 9 z)) ∙ both (not (eqb (e .kind) 9)) (single e) (sym p ∙ q) .0)
+
+pub not-lone : (e : Entry) → (not (eqb (e .kind) 9) && single e) ≡ false → (e .kind ≡ 9 → ⊥) → single e ≡ false
+not-lone e p n = lone-single (e .kind) (single e) n ∙ p
+
+module _ (k : Codec Held) (r : List ℕ) (e : Entry) (inner : Reader Held) (at room : ℕ) (s : Held) (n : e .kind ≡ 9 → ⊥) where
+  pub field-lone : single e ≡ true → field k r e inner at room s ≡ leafAt k r e (e .name) true at room s
   unfolding field
-  field-lone once o p q =
-      let w = both once (not (eqb (e .kind) 9)) (sym p ∙ q) in
-      rw (sym o ∙ w .0) (one-leaf k r e inner (e .name) true at room s (λ z. false≢true (ap not (sym (eq-eqb (e .kind) 9 z)) ∙ w .1)))
+  field-lone q = rw q (one-leaf k r e inner (e .name) true at room s n)
 
--- the test of such an entry
-pub lone-once : (once : Bool) (kind : ℕ) → once ≡ true → not (eqb kind 9) ≡ (once && not (eqb kind 9))
-lone-once once kind q = rw q refl
+  field-table : single e ≡ false → field k r e inner at room s ≡ table e (leafAt k r e 65536 false) (howMany (k .held) e s) at room s
+  unfolding field
+  field-table q = rw q (ap (λ f. table e f (howMany (k .held) e s) at room s) (λ i a b c. one-leaf k r e inner 65536 false a b c n i))
 
-pub lone-not : (once : Bool) (kind : ℕ) → once ≡ false → false ≡ (once && not (eqb kind 9))
-lone-not once kind q = rw q refl
+pub scalars-table : (l : List ℕ) (page : ℕ) (deps : Bool) (r : List ℕ) (e : Entry) (inner : Reader Held) (at room : ℕ) (counts : List ℤ) (told : ℕ) (text : List ℕ) → (e .kind ≡ 9 → ⊥) → single e ≡ false
+    → field (kept l page (length text) deps) r e inner at room (state counts told text)
+    ≡ table e (leafAt (kept l page (length text) deps) r e 65536 false) (howMany (λ name run. heldIn l name run) e counts) at room (state counts told text)
+unfolding howMany
+scalars-table l page deps r e inner at room counts told text n q = field-table (kept l page (length text) deps) r e inner at room (state counts told text) n q
 
 -- an element of a walk takes at most 2^63 bytes
 pub element-most : (k : Codec Held) (r : List ℕ) (e : Entry) (t : Tree Entry) (name : ℕ) (once : Bool) (at room : ℕ) (s : Held) → e .width < 4294967296

@@ -1,8 +1,8 @@
 -- The laws by which a turn of a loop goes on in the definition.
 use mathlib.Core.Path.{_≡_, refl, sym, ap, ap₂, _∙_, subst}
-use mathlib.Core.Bool.{Bool, true, false, _||_, _&&_, not, cond}
+use mathlib.Core.Bool.{Bool, true, false, _||_, _&&_, not, cond, false≢true}
 use mathlib.Core.List.{List, [], _∷_, _++_, append-nil, append-assoc}
-use Prim.Native.Nat.{ℕ, zero, suc, _+_, _-_, _/_, _≤_, _<_, max}
+use Prim.Native.Nat.{ℕ, zero, suc, _+_, _-_, _*_, _/_, _≤_, _<_, max}
 use native.Mathlib.Omega.{arith}
 use lib.Dec.{eqb, leb}
 use lib.ListN.{length, take, drop}
@@ -156,6 +156,48 @@ module _ {S : Type 0} where
   unfolding inside
   inside-small name tag inner at room s h = rw (lt-leb 4 room h) refl
 
+  -- ---- a table of n elements behind head words
+
+  module _ (e : Entry) (f : Reader S) (n at room : ℕ) (s : S) (head : ℕ) (g : single e ≡ false) (p : head ≡ headOf e) where
+    abbrev Turned : Outcome S
+    Turned = turns false f n at (room - head) s
+
+    abbrev Table : Bool → Outcome S
+    Table c = cond c (elements f n at room s) (inside (e .name) 6 (elements f n) at room s)
+
+    table-ways : table e f (times n) at room s ≡ Table (eqb (e .kind) 6)
+    unfolding isPad
+    table-ways = refl
+
+    bare-is : bare e ≡ eqb (e .kind) 6
+    bare-is = ap (λ b. b || eqb (e .kind) 6) g
+
+    head-is : head ≡ cond (eqb (e .kind) 6) 0 4
+    head-is = p ∙ ap (λ b. cond {A = ℕ} b 0 4) bare-is
+
+    pub table-small : room < head → table e f (times n) at room s ≡ refused 16
+    table-small h = table-ways ∙ go (eqb (e .kind) 6) head-is
+      where
+        go : (c : Bool) → head ≡ cond c 0 4 → Table c ≡ refused 16
+        go true q = absurd (omega arith)
+        go false q = inside-small (e .name) 6 (elements f n) at room s (omega arith)
+
+    pub table-is : head ≤ room → table e f (times n) at room s ≡ cond (bare e) Turned (wrap (e .name) 6 Turned)
+    table-is h = table-ways ∙ go (eqb (e .kind) 6) head-is ∙ ap (λ c. cond c Turned (wrap (e .name) 6 Turned)) (sym bare-is)
+      where
+        go : (c : Bool) → head ≡ cond c 0 4 → Table c ≡ cond c Turned (wrap (e .name) 6 Turned)
+        go true q = let y : room ≡ room - head = omega arith in ap (λ x. elements f n at x s) y ∙ sym (turns-table f n at (room - head) s)
+        go false q = inside-room (e .name) 6 (elements f n) at room s (omega arith)
+            ∙ (let y : room - 4 ≡ room - head = omega arith in ap (λ x. wrap (e .name) 6 (elements f n at x s)) y)
+            ∙ ap (wrap (e .name) 6) (sym (turns-table f n at (room - head) s))
+
+    pub table-refused : head ≤ room → (m : ℕ) → Turned ≡ refused m → table e f (times n) at room s ≡ refused m
+    table-refused h m q = table-is h ∙ rw q (go (bare e))
+      where
+        go : (b : Bool) → cond {A = Outcome S} b (refused m) (refused m) ≡ refused m
+        go true = refl
+        go false = refl
+
   -- ---- the ways of a field: once is whether the entry is single
 
   abbrev pub counts-to : Codec S → Entry → S → Many
@@ -183,44 +225,30 @@ module _ {S : Type 0} where
         go false q = ap (λ m. table e (one k r e inner 65536 false) m at room s) q
 
     module _ (head : ℕ) (p : head ≡ headOf e) (n : ℕ) (z : counts-to k e s ≡ times n) where
-      abbrev Table : Reader S → Outcome S
-      Table f = cond (eqb (e .kind) 6) (elements f n at room s) (inside (e .name) 6 (elements f n) at room s)
-
-      table-ways : table e (one k r e inner 65536 false) (times n) at room s ≡ Table (one k r e inner 65536 false)
-      unfolding isPad
-      table-ways = refl
-
       pub field-small : room < head → Field ≡ refused 16
-      field-small h = ways ∙ go (single e) (eqb (e .kind) 6) refl z p
+      field-small h = ways ∙ go (single e) refl z
         where
-          small : (c : Bool) → head ≡ cond c 0 4 → cond c (elements (one k r e inner 65536 false) n at room s) (inside (e .name) 6 (elements (one k r e inner 65536 false) n) at room s) ≡ refused 16
-          small true q = absurd (omega arith)
-          small false q = inside-small (e .name) 6 (elements (one k r e inner 65536 false) n) at room s (omega arith)
-
-          go : (b c : Bool) → eqb (e .kind) 6 ≡ c → cond b (times 1) (howMany (k .held) e s) ≡ times n → head ≡ cond (b || c) 0 4 → Ways b (howMany (k .held) e s) ≡ refused 16
-          go true c w q y = absurd (omega arith)
-          go false c w q y = ap (λ m. table e (one k r e inner 65536 false) m at room s) q ∙ table-ways ∙ rw w (small c y)
+          go : (b : Bool) → single e ≡ b → cond b (times 1) (howMany (k .held) e s) ≡ times n → Ways b (howMany (k .held) e s) ≡ refused 16
+          go true w q = absurd (omega (arith, p ∙ ap (λ b. cond {A = ℕ} (b || eqb (e .kind) 6) 0 4) w))
+          go false w q = ap (λ m. table e (one k r e inner 65536 false) m at room s) q ∙ table-small e (one k r e inner 65536 false) n at room s head w p h
 
       -- what the turns read, with a table's own item around it
       abbrev pub All : Bool → Outcome S
       All once = turns once (Element once) n at (room - head) s
 
       pub field-is : (once : Bool) → once ≡ single e → head ≤ room → Capped (Element once at room s) → Field ≡ cond (bare e) (All once) (wrap (e .name) 6 (All once))
-      field-is once o h g = ways ∙ go once (eqb (e .kind) 6) refl (sym o) z p g
+      field-is once o h g = ways ∙ go once (sym o) g
         where
-          lists : (c : Bool) → head ≡ cond c 0 4 → cond c (elements (one k r e inner 65536 false) n at room s) (inside (e .name) 6 (elements (one k r e inner 65536 false) n) at room s) ≡ cond c (All false) (wrap (e .name) 6 (All false))
-          lists true q = let y : room ≡ room - head = omega arith in ap (λ x. elements (one k r e inner 65536 false) n at x s) y ∙ sym (turns-table (Element false) n at (room - head) s)
-          lists false q = inside-room (e .name) 6 (elements (one k r e inner 65536 false) n) at room s (omega arith)
-              ∙ (let y : room - 4 ≡ room - head = omega arith in ap (λ x. wrap (e .name) 6 (elements (one k r e inner 65536 false) n at x s)) y)
-              ∙ ap (wrap (e .name) 6) (sym (turns-table (Element false) n at (room - head) s))
-
           alone : n ≡ 1 → head ≡ 0 → Capped (Element true at room s) → one k r e inner (e .name) true at room s ≡ All true
           alone u v g = let y : room ≡ room - head = omega arith in sym (turns-once (Element true) at room s g) ∙ ap₂ (λ a x. turns true (Element true) a at x s) (sym u) y
 
-          go : (once c : Bool) → eqb (e .kind) 6 ≡ c → single e ≡ once → cond (single e) (times 1) (howMany (k .held) e s) ≡ times n → head ≡ cond (single e || eqb (e .kind) 6) 0 4 → Capped (Element once at room s)
-              → Ways (single e) (howMany (k .held) e s) ≡ cond (single e || eqb (e .kind) 6) (All once) (wrap (e .name) 6 (All once))
-          go true c w o q y g = rw o (alone (sym (same-times (sym (ap (λ b. cond b (times 1) (howMany (k .held) e s)) o) ∙ q))) (y ∙ ap (λ b. cond {A = ℕ} (b || eqb (e .kind) 6) 0 4) o) g)
-          go false c w o q y g = rw (o, w) (ap (λ m. table e (one k r e inner 65536 false) m at room s) (sym (ap (λ b. cond b (times 1) (howMany (k .held) e s)) o) ∙ q) ∙ table-ways ∙ rw w (lists c (y ∙ ap₂ (λ b c. cond {A = ℕ} (b || c) 0 4) o w)))
+          counted : (once : Bool) → single e ≡ once → cond once (times 1) (howMany (k .held) e s) ≡ times n
+          counted once o = sym (ap (λ b. cond b (times 1) (howMany (k .held) e s)) o) ∙ z
+
+          go : (once : Bool) → single e ≡ once → Capped (Element once at room s) → Ways (single e) (howMany (k .held) e s) ≡ cond (bare e) (All once) (wrap (e .name) 6 (All once))
+          go true o g = rw o (alone (sym (same-times (counted true o))) (p ∙ ap (λ b. cond {A = ℕ} (b || eqb (e .kind) 6) 0 4) o) g)
+          go false o g = ap (λ b. Ways b (howMany (k .held) e s)) o ∙ ap (λ m. table e (one k r e inner 65536 false) m at room s) (counted false o)
+              ∙ table-is e (one k r e inner 65536 false) n at room s head o p h
 
       pub field-refused : (once : Bool) → once ≡ single e → head ≤ room → Capped (Element once at room s) → (m : ℕ) → All once ≡ refused m → Field ≡ refused m
       field-refused once o h g m q = field-is once o h g ∙ rw q (go (bare e))
@@ -246,9 +274,12 @@ module _ {S : Type 0} where
       (λ ws m t s′. follow ws m (sat (sat (e .offset + shift) + t)) (seq k r rest base (sat (shift + (t - reservedWidth e))) (room - length ws) s′))
       (λ ws m t s′. follow-most ws m (sat (sat (e .offset + shift) + t)) (seq k r rest base (sat (shift + (t - reservedWidth e))) (room - length ws) s′) (omega arith) (seq-most k r rest base (sat (shift + (t - reservedWidth e))) (room - length ws) s′))
 
+  either : (P : Outcome S → Type 0) (b : Bool) (o p : Outcome S) → P o → P p → P (cond b o p)
+  either P true o p g h = g
+  either P false o p g h = h
+
   cond-most : (b : Bool) (o p : Outcome S) → Capped o → Capped p → Capped (cond b o p)
-  cond-most true o p g h = g
-  cond-most false o p g h = h
+  cond-most = either Capped
 
   wrap-most : (name tag : ℕ) (o : Outcome S) → Capped o → Capped (wrap name tag o)
   wrap-most name tag (refused n) g = tt
@@ -268,3 +299,36 @@ module _ {S : Type 0} where
       (cond-most (isPad e) (pad r e at room s) (scalar k r e name once at room s)
       (cond-most (leb (at + e .width) (length r)) (read [] 0 (e .width) s) (refused 7) h tt)
       (cond-most (leb (at + e .width) (length r)) (placed name once (e .width) room (k .dec e once (take (e .width) (drop at r)) s)) (refused 7) (placed-most name once (e .width) room (k .dec e once (take (e .width) (drop at r)) s) h) tt))
+
+  -- ---- a scalar or Pad takes its width
+
+  abbrev Took : ℕ → Outcome S → Type 0
+  Took w (refused n) = Unit {0}
+  Took w (read ws m t s) = t ≡ w
+
+  placed-took : (name : ℕ) (once : Bool) (width room : ℕ) (v : Leaf S) → Took width (placed name once width room v)
+  placed-took name once width room (bad n) = tt
+  placed-took name once width room (leaf tag a b s) =
+      either (Took width) (once || leb 1 width) (cond (leb 4 room) (read (name ∷ tag ∷ a ∷ b ∷ []) 1 width s) (refused 16)) (refused 10)
+      (either (Took width) (leb 4 room) (read (name ∷ tag ∷ a ∷ b ∷ []) 1 width s) (refused 16) refl tt) tt
+
+  leaf-took : (k : Codec S) (r : List ℕ) (e : Entry) (name : ℕ) (once : Bool) (at room : ℕ) (s : S) → Took (e .width) (cond (isPad e) (pad r e at room s) (scalar k r e name once at room s))
+  unfolding pad scalar
+  leaf-took k r e name once at room s = either (Took (e .width)) (isPad e) (pad r e at room s) (scalar k r e name once at room s)
+      (either (Took (e .width)) (leb (at + e .width) (length r)) (read [] 0 (e .width) s) (refused 7) refl tt)
+      (either (Took (e .width)) (leb (at + e .width) (length r)) (placed name once (e .width) room (k .dec e once (take (e .width) (drop at r)) s)) (refused 7) (placed-took name once (e .width) room (k .dec e once (take (e .width) (drop at r)) s)) tt)
+
+  pub leaf-takes : (k : Codec S) (r : List ℕ) (e : Entry) (name : ℕ) (once : Bool) (at room : ℕ) (s : S) (ws : List ℕ) (m t : ℕ) (s′ : S)
+      → cond (isPad e) (pad r e at room s) (scalar k r e name once at room s) ≡ read ws m t s′ → t ≡ e .width
+  leaf-takes k r e name once at room s ws m t s′ q = subst (Took (e .width)) q (leaf-took k r e name once at room s)
+
+-- a single entry reserves its width
+pub single-reserves : (e : Entry) → single e ≡ true → reservedWidth e ≡ e .width
+unfolding single reservedWidth
+single-reserves e q = go (eqb (e .occurs) 4294967295) (eqb (e .depending) 4294967295) refl refl q
+  where
+    go : (a b : Bool) → eqb (e .occurs) 4294967295 ≡ a → eqb (e .depending) 4294967295 ≡ b → (not (not a) && not (not b)) ≡ true
+        → cond {A = ℕ} (not (eqb (e .depending) 4294967295)) 0 (e .width * cond (eqb (e .occurs) 4294967295) 1 (e .occurs)) ≡ e .width
+    go true true p q z = rw (p, q) (omega arith)
+    go true false p q z = absurd (false≢true z)
+    go false b p q z = absurd (false≢true z)

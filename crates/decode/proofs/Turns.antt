@@ -12,13 +12,13 @@ use lib.Seq.{length-take-le, drop-append-le, drop-at}
 use Rattle.layout.specs.declared.Entry.{Entry}
 use Rattle.layout.specs.Layout.{entryAt, part, reservedWidth}
 use Rattle.spans.specs.Tree.{endOf}
-use Rattle.walks.specs.Walk.{Codec, Many, never, times, howMany}
+use Rattle.walks.specs.Walk.{single, Codec, Many, never, times, howMany}
 use Rattle.walks.specs.Reading.{Outcome, refused, read, Reader, wrap, inside, one, follow}
 use Rattle.decode_leaf.specs.declared.Out.{Out}
 use Rattle.decode_leaf.specs.Capped.{sat, behind, field, seq}
-use Rattle.decode_leaf.specs.Machine.{Held, state, headOf, headed, Listed, Fine, Met}
-use Rattle.decode_leaf.proofs.Meets.{refuse, fine, out}
-use Rattle.decode.proofs.Steps.{follow-none, follow-end, follow-follow, behind-none, behind-end, behind-behind, seq-end, seq-refused, seq-read, turns, turns-end, turns-refused, turns-empty, turns-read}
+use Rattle.decode_leaf.specs.Machine.{Held, out, state, leafAt, headOf, headed, Listed, Fine, Met}
+use Rattle.decode_leaf.proofs.Meets.{refuse, fine}
+use Rattle.decode.proofs.Steps.{follow-none, follow-end, follow-follow, behind-none, behind-end, behind-behind, seq-end, seq-refused, seq-read, turns, turns-end, turns-refused, turns-empty, turns-read, leaf-takes, single-reserves}
 use Rattle.decode.proofs.Tail.{lent, back, back-length, back-take}
 
 -- ---- a tail lent and come back
@@ -68,6 +68,7 @@ pub record SeqInv (K : ℕ → Codec Held) (r l i₀ t₀ : List ℕ) (c₀ : Li
   pub fits : told₁ ≤ length text
   pub few : members ≤ used
   pub past : lo ≤ i
+  pub capped : shift ≤ 9223372036854775808
 
 pub seq-starts : (K : ℕ → Codec Held) (r l i₀ t₀ : List ℕ) (c₀ : List ℤ) (lo hi base told : ℕ) → told ≤ length t₀ → SeqInv K r l i₀ t₀ c₀ lo hi base told i₀ t₀ c₀ lo 0 0 0 0 told
 seq-starts K r l i₀ t₀ c₀ lo hi base told h = record {
@@ -78,6 +79,7 @@ seq-starts K r l i₀ t₀ c₀ lo hi base told h = record {
   fits = h;
   few = omega arith;
   past = omega arith;
+  capped = omega arith;
 }
 
 module _ {K : ℕ → Codec Held} {r l i₀ t₀ : List ℕ} {c₀ : List ℤ} {lo hi base told : ℕ} {items text : List ℕ} {counts : List ℤ} {i used members shift far told₁ : ℕ}
@@ -133,7 +135,16 @@ module _ {K : ℕ → Codec Held} {r l i₀ t₀ : List ℕ} {c₀ : List ℤ} {
             fits = f .told;
             few = omega (arith, v .few, f .few);
             past = omega (arith, v .past, h);
+            capped = omega (arith, r3);
           }
+
+      -- one scalar or Pad takes its reserved bytes, and the shift stays
+      pub seq-passes : single e ≡ true → called ≡ leafAt (K (length text)) r e (e .name) true at (length (tail items used)) (state counts told₁ text)
+          → (end′ far′ : ℕ) → length text′ ≡ length text → length counts′ ≡ length counts → end′ ≡ sat (off + o .taken) → far′ ≡ max far end′
+          → SeqInv K r l i₀ t₀ c₀ lo hi base told (returned items used ys) text′ counts′ en (used + o .used) (members + o .members) shift far′ (o .told)
+      seq-passes sg q end′ far′ ht hc r4 r5 =
+          let w : o .taken ≡ e .width = leaf-takes (K (length text)) r e (e .name) true at (length (tail items used)) (state counts told₁ text) (take (o .used) ys) (o .members) (o .taken) (state counts′ (o .told) text′) (sym q ∙ f .is) in
+          seq-goes (reservedWidth e) (o .taken - reservedWidth e) shift end′ far′ ht hc refl refl (omega (arith, w, single-reserves e sg, v .capped)) r4 r5
 
 -- ---- the loop of an entry, whose elements stand behind `head` words
 

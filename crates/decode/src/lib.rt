@@ -3,10 +3,12 @@ use decode_leaf::Out;
 use decode_leaf::clear_counts;
 use decode_leaf::clear_items;
 use decode_leaf::clear_text;
-use decode_leaf::decode_leaf;
+use decode_leaf::decode_element;
+use decode_leaf::decode_lone;
 use decode_leaf::element_count;
 use decode_leaf::element_name;
 use decode_leaf::head_words;
+use decode_leaf::how_many;
 use decode_leaf::is_single;
 use decode_leaf::larger;
 use decode_leaf::less;
@@ -30,10 +32,12 @@ ghost use Prim.Native.Nat.{ℕ, _+_, _≤_};
 ghost use lib.IntN.{pos};
 ghost use lib.ListN.{length, replicate};
 ghost use Rattle.layout.specs.Layout.{part};
-ghost use Rattle.walks.specs.Reading.{one};
+ghost use Rattle.walks.specs.Walk.{single, howMany};
+ghost use Rattle.walks.specs.Reading.{inside};
 ghost use Rattle.walks.specs.Records.{decodeRecord, numberOf, itemsOf, textsOf, filled};
-ghost use Rattle.decode_leaf.specs.Capped.{seq, field};
-ghost use Rattle.decode_leaf.specs.Machine.{kept, state, Met};
+ghost use Rattle.decode_leaf.specs.Capped.{seq, field, table};
+ghost use Rattle.decode_leaf.specs.Counts.{heldIn};
+ghost use Rattle.decode_leaf.specs.Machine.{kept, state, leafAt, Met, Elements};
 ghost use Rattle.decode.specs.Asked.{askedOf};
 
 // What reading a record answers: the number that refuses it, or 0 with the item words and the text bytes used.
@@ -41,6 +45,16 @@ pub struct Reading {
     pub number: u32,
     pub items: usize,
     pub text: usize,
+}
+
+// Whether an entry is one scalar or Pad, so no table and no group.
+fn is_lone(e: Entry) -> bool
+    ensures { λ r. ⌜ r ≡ (not (eqb (e .kind) 9) && single e) ⌝ }
+{
+    if e.kind == 9 {
+        return false;
+    }
+    is_single(e)
 }
 
 // The entries lo up to hi, one after the other, from a base on.
@@ -71,6 +85,29 @@ fn decode_seq(
         let end = end_of(e.span as u64, i, hi);
         let off = sat_add(e.offset as u64, shift);
         let at = sat_add(base, off);
+        if is_lone(e) {
+            let o = decode_lone(
+                layout,
+                record,
+                &mut items[used..],
+                text,
+                counts,
+                page,
+                deps,
+                e,
+                at,
+                behind,
+            );
+            if o.refused != 0 {
+                return refusal(o.refused);
+            }
+            far = larger(far, sat_add(off, o.taken));
+            used = used + o.used;
+            members = members + o.members;
+            behind = o.told;
+            i = end;
+            continue;
+        }
         let o = decode_field(
             layout,
             record,
@@ -105,18 +142,56 @@ fn decode_seq(
     }
 }
 
-// Whether an entry is a single scalar or Pad.
-fn is_lone_leaf(once: bool, kind: u32) -> bool
-    ensures { λ r. ⌜ r ≡ (once && not (eqb kind 9)) ⌝ }
+// A table of scalars or Pads: outside the cycle, so that its elements are read without a call of it.
+fn decode_table(
+    layout: &[u32],
+    record: &[u8],
+    items: &mut [u64],
+    text: &mut [u8],
+    counts: &[i64],
+    page: u32,
+    e: Entry,
+    at: u64,
+    told: usize,
+) -> Out
+    requires { ⌜ told ≤ length (now text) ⌝ }
+    requires { ⌜ single e ≡ false ⌝ }
+    ensures { λ r. ⌜ Elements (λ deps. table e (leafAt (kept (now (layout .entry)) page (length (now (text .entry))) deps) (now («record» .entry)) e 65536 false) (howMany (λ name run. heldIn (now (layout .entry)) name run) e (now (counts .entry))) at (length (now (items .entry))) (state (now (counts .entry)) told (now (text .entry)))) r (now (items .exit)) (now (text .exit)) (now (counts .entry)) ⌝ }
 {
-    if once {
-        return kind != 9;
+    let c = how_many(layout, counts, e);
+    if c.refused != 0 {
+        return refusal(c.refused);
     }
-    false
+    let head = head_words(false, e.kind == 6);
+    if items.len() < head {
+        return refusal(16);
+    }
+    let n = c.n;
+    let mut k: u64 = 0;
+    let mut used = head;
+    let mut members: u64 = 0;
+    let mut place = at;
+    let mut taken: u64 = 0;
+    let mut behind = told;
+    while k < n {
+        let o = decode_element(record, &mut items[used..], text, page, e, place, behind);
+        if o.refused != 0 {
+            return refusal(o.refused);
+        }
+        if o.taken == 0 {
+            return refusal(10);
+        }
+        place = sat_add(place, o.taken);
+        taken = sat_add(taken, o.taken);
+        used = used + o.used;
+        members = members + o.members;
+        behind = o.told;
+        k = k + 1;
+    }
+    listed(items, e, head, used, members, taken, behind)
 }
 
-// An entry whose members are the entries lo up to hi: one scalar or Pad, read without the loop, or one group, or the elements of a table.
-// One call of decode_one serves the last two, so that the frame stays small.
+// An entry that is a table, or a group of the entries lo up to hi: the elements of a group, or the one.
 fn decode_field(
     layout: &[u32],
     record: &[u8],
@@ -132,25 +207,14 @@ fn decode_field(
     told: usize,
 ) -> Out
     requires { ⌜ told ≤ length (now text) ⌝ }
+    requires { ⌜ (not (eqb (e .kind) 9) && single e) ≡ false ⌝ }
     ensures { λ r. ⌜ Met (field (kept (now (layout .entry)) page (length (now (text .entry))) deps) (now («record» .entry)) e (λ b n s. seq (kept (now (layout .entry)) page (length (now (text .entry))) deps) (now («record» .entry)) (part (now (layout .entry)) lo hi) b 0 n s) at (length (now (items .entry))) (state (now (counts .entry)) told (now (text .entry)))) r (now (items .exit)) (now (text .exit)) (now (counts .exit)) ⌝ }
 {
-    let once = is_single(e);
-    if is_lone_leaf(once, e.kind) {
-        return decode_leaf(
-            layout,
-            record,
-            items,
-            text,
-            counts,
-            page,
-            deps,
-            e,
-            at,
-            told,
-            e.name as u64,
-            true,
-        );
+    if e.kind != 9 {
+        return decode_table(layout, record, items, text, counts, page, e, at, told);
     }
+    let once = is_single(e);
+    let name = element_name(e, once);
     let c = element_count(layout, counts, e);
     if c.refused != 0 {
         return refusal(c.refused);
@@ -175,12 +239,11 @@ fn decode_field(
             counts,
             page,
             deps,
-            e,
+            name,
             lo,
             hi,
             place,
             behind,
-            once,
         );
         if o.refused != 0 {
             return refusal(o.refused);
@@ -198,7 +261,7 @@ fn decode_field(
     listed(items, e, head, used, members, taken, behind)
 }
 
-// One element: a group of the entries lo up to hi, or a scalar or Pad.
+// One group of the entries lo up to hi, under a name.
 fn decode_one(
     layout: &[u32],
     record: &[u8],
@@ -207,33 +270,15 @@ fn decode_one(
     counts: &mut [i64],
     page: u32,
     deps: bool,
-    e: Entry,
+    name: u64,
     lo: usize,
     hi: usize,
     at: u64,
     told: usize,
-    once: bool,
 ) -> Out
     requires { ⌜ told ≤ length (now text) ⌝ }
-    ensures { λ r. ⌜ Met (one (kept (now (layout .entry)) page (length (now (text .entry))) deps) (now («record» .entry)) e (λ b n s. seq (kept (now (layout .entry)) page (length (now (text .entry))) deps) (now («record» .entry)) (part (now (layout .entry)) lo hi) b 0 n s) (cond once (e .name) 65536) once at (length (now (items .entry))) (state (now (counts .entry)) told (now (text .entry)))) r (now (items .exit)) (now (text .exit)) (now (counts .exit)) ⌝ }
+    ensures { λ r. ⌜ Met (inside name 7 (λ b n s. seq (kept (now (layout .entry)) page (length (now (text .entry))) deps) (now («record» .entry)) (part (now (layout .entry)) lo hi) b 0 n s) at (length (now (items .entry))) (state (now (counts .entry)) told (now (text .entry)))) r (now (items .exit)) (now (text .exit)) (now (counts .exit)) ⌝ }
 {
-    let name = element_name(e, once);
-    if e.kind != 9 {
-        return decode_leaf(
-            layout,
-            record,
-            items,
-            text,
-            counts,
-            page,
-            deps,
-            e,
-            at,
-            told,
-            name,
-            once,
-        );
-    }
     if items.len() < 4 {
         return refusal(16);
     }

@@ -12,10 +12,7 @@ use Rattle.value.specs.declared.Scalar.{Scalar}
 use Rattle.value.specs.Scalar.{putOf, itemOf}
 use Rattle.walks.specs.Reading.{Outcome, refused, read, placed}
 use Rattle.decode_leaf.specs.declared.Out.{Out}
-use Rattle.decode_leaf.specs.Machine.{Held, state, leafIn, Fine, Met, Item, Placed}
-
-abbrev pub out : ℕ → ℕ → ℕ → ℕ → Out
-out used members taken told = record { refused = 0; used = used; members = members; taken = taken; told = told }
+use Rattle.decode_leaf.specs.Machine.{Held, out, state, leafIn, Fine, Met, Item, Placed}
 
 pub refuse : {o : Outcome Held} {r : Out} {items buffer : List ℕ} {run : List ℤ} (n : ℕ) → r .refused ≡ n → (n ≡ 0 → ⊥) → o ≡ refused n → Met o r items buffer run
 refuse n p f q = record { fine = λ z. absurd (f (sym p ∙ z)); refuses = λ _. q ∙ ap refused (sym p) }
@@ -82,6 +79,10 @@ module _ (name : ℕ) (once : Bool) (width : ℕ) (i : List ℕ) (v : Scalar) (b
       go : (x : Bool) → not x ≡ false → x ≡ true
       go true e = refl
       go false e = sym e
+
+-- an item that sets no count
+pub placed-any : {O : Held → Outcome Held} {behind width : ℕ} {r : Out} {items : List ℕ} {noted run : List ℤ} → run ≡ noted → Placed O [] behind width r items [] → Placed O noted behind width r items run
+placed-any q p = record { fine = λ z. (p .fine z .0, q); refuses = p .refuses }
 
 -- an item in a state that is known
 pub value-met : {o : Outcome Held} {O : Held → Outcome Held} {noted run : List ℤ} {behind width : ℕ} {r : Out} {items : List ℕ} (buffer : List ℕ)

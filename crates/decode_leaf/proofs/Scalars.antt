@@ -17,9 +17,15 @@ use Rattle.walks.specs.Walk.{isPad}
 use Rattle.walks.specs.Reading.{Outcome, refused, read, placed, scalar, pad}
 use Rattle.decode_leaf.specs.declared.Out.{Out}
 use Rattle.decode_leaf.specs.Counts.{noteIn}
-use Rattle.decode_leaf.specs.Machine.{Held, state, leafIn, leafOf, leafAt, dec, kept, movedIn, toldIn, Fine, Met, Placed}
-use Rattle.decode_leaf.proofs.Meets.{refuse, fine, same-as, value-met, out}
+use Rattle.decode_leaf.specs.Machine.{Held, out, state, leafIn, leafOf, leafAt, dec, kept, movedIn, toldIn, Fine, Met, Element, Placed}
+use Rattle.decode_leaf.proofs.Meets.{refuse, fine, same-as, value-met}
 use Rattle.decode_leaf.proofs.Said.{Read, matches, refused-leaf, read-leaf}
+
+-- an element of a table sets no count
+pub note-none : (l : List ℕ) (deps : Bool) (e : Entry) (v : Scalar) (run : List ℤ) → run ≡ noteIn l deps e false v run
+unfolding noteIn
+note-none l true e v run = refl
+note-none l false e v run = refl
 
 module _ (l bytes : List ℕ) (page : ℕ) (deps : Bool) (e : Entry) (name : ℕ) (once : Bool) (at room : ℕ) (run : List ℤ) (told : ℕ) (buffer : List ℕ) where
   abbrev Said : Says
@@ -77,9 +83,9 @@ module _ (l bytes : List ℕ) (page : ℕ) (deps : Bool) (e : Entry) (name : ℕ
     pub leaf-inside : not b ≡ false → at + e .width ≤ length bytes
     leaf-inside q = leb-true (at + e .width) (length bytes) (yes q)
 
-    pub leaf-pad : not b ≡ false → e .kind ≡ 6 → told ≤ length buffer → {items : List ℕ} → Met Leaf-at (out 0 0 (e .width) told) items buffer run
+    pub leaf-pad : not b ≡ false → e .kind ≡ 6 → told ≤ length buffer → {r : Out} {items : List ℕ} → r ≡ out 0 0 (e .width) told → Met Leaf-at r items buffer run
     unfolding pad isPad
-    leaf-pad q k h = fine (record { is = rw (eq-eqb (e .kind) 6 k, yes q) refl; within = omega arith; told = h; few = omega arith }) refl
+    leaf-pad q k h z = rw z (fine (record { is = rw (eq-eqb (e .kind) 6 k, yes q) refl; within = omega arith; told = h; few = omega arith }) refl)
 
     pub leaf-scalar : (e .kind ≡ 6 → ⊥) → {r : Out} {items after : List ℕ} {run′ : List ℤ} → Met Scalar-at r items after run′ → Met Leaf-at r items after run′
     unfolding isPad

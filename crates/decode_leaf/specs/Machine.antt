@@ -81,6 +81,10 @@ toldIn kind told v = cond (isText kind) (told + sizeIn v) told
 
 -- ---- promises: by the answer's own number
 
+-- an answer that refuses nothing
+abbrev pub out : ℕ → ℕ → ℕ → ℕ → Out
+out used members taken told = record { refused = 0; used = used; members = members; taken = taken; told = told }
+
 pub record Fine (o : Outcome Held) (r : Out) (items buffer : List ℕ) (run : List ℤ) : Type 0 where
   pub is : o ≡ read (take (r .used) items) (r .members) (r .taken) (state run (r .told) buffer)
   pub within : r .used ≤ length items
@@ -90,6 +94,14 @@ pub record Fine (o : Outcome Held) (r : Out) (items buffer : List ℕ) (run : Li
 pub record Met (o : Outcome Held) (r : Out) (items buffer : List ℕ) (run : List ℤ) : Type 0 where
   pub fine : r .refused ≡ 0 → Fine o r items buffer run
   pub refuses : (r .refused ≡ 0 → ⊥) → o ≡ R.refused (r .refused)
+
+-- an element of a table, whatever the layout and the counts are, which it leaves alone
+pub record Element (o : List ℕ → Bool → Held → Outcome Held) (told : ℕ) (before : List ℕ) (r : Out) (items buffer : List ℕ) : Type 0 where
+  pub met : (l : List ℕ) (deps : Bool) (run : List ℤ) → Met (o l deps (state run told before)) r items buffer run
+
+-- a table of such elements, whether or not some table of the layout depends on a count
+pub record Elements (o : Bool → Outcome Held) (r : Out) (items buffer : List ℕ) (run : List ℤ) : Type 0 where
+  pub met : (deps : Bool) → Met (o deps) r items buffer run
 
 -- an item of four words, whatever the state behind it
 pub record Item (o : Held → Outcome Held) (behind width : ℕ) (r : Out) (items : List ℕ) : Type 0 where

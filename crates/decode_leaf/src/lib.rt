@@ -14,7 +14,7 @@ ghost use Rattle.walks.specs.Reading.{placed, scalar};
 ghost use Rattle.decode_scalar.specs.Decode.{says, answerOf, textAfter};
 ghost use Rattle.decode_leaf.specs.Counts.{natOf, first, statusOf, heldIn, noteIn, setIn};
 ghost use Rattle.decode_leaf.specs.Capped.{sat};
-ghost use Rattle.decode_leaf.specs.Machine.{kept, state, leafIn, leafAt, Met, Placed, Listed, Counted, headOf, movedIn, toldIn, sizeIn};
+ghost use Rattle.decode_leaf.specs.Machine.{out, kept, state, leafIn, leafAt, Met, Element, Placed, Listed, Counted, headOf, movedIn, toldIn, sizeIn};
 
 // What a part of the walk came to: the number that refuses it, or 0 with the item words written, how many items these are at
 // their own level, the bytes taken, and the text bytes so far.
@@ -164,14 +164,11 @@ fn set_count(layout: &[u32], counts: &mut [i64], name: u32, negative: bool, size
     put_word(counts, j * 2 + 1, stored(size));
 }
 
-// An unrepeated Int or Binary sets the count for its name, where some table depends on one.
-fn sets_count(deps: bool, once: bool, kind: u32) -> bool
-    ensures { λ r. ⌜ r ≡ (deps && (once && (eqb kind 1 || eqb kind 2))) ⌝ }
+// Int and Binary set the count for their name, where some table depends on one.
+fn sets_count(deps: bool, kind: u32) -> bool
+    ensures { λ r. ⌜ r ≡ (deps && (eqb kind 1 || eqb kind 2)) ⌝ }
 {
     if !deps {
-        return false;
-    }
-    if !once {
         return false;
     }
     if kind == 1 {
@@ -180,10 +177,11 @@ fn sets_count(deps: bool, once: bool, kind: u32) -> bool
     kind == 2
 }
 
-pub fn note(layout: &[u32], counts: &mut [i64], deps: bool, e: Entry, once: bool, v: Scalar)
-    ensures { λ _. ⌜ now (counts .exit) ≡ noteIn (now (layout .entry)) deps e once v (now (counts .entry)) ⌝ }
+// The count that an unrepeated scalar sets.
+pub fn note(layout: &[u32], counts: &mut [i64], deps: bool, e: Entry, v: Scalar)
+    ensures { λ _. ⌜ now (counts .exit) ≡ noteIn (now (layout .entry)) deps e true v (now (counts .entry)) ⌝ }
 {
-    if sets_count(deps, once, e.kind) {
+    if sets_count(deps, e.kind) {
         match v {
             Scalar::Int(negative, size) => set_count(layout, counts, e.name, negative, size),
             _ => {}
@@ -353,16 +351,6 @@ fn text_size(v: Scalar) -> u64
     }
 }
 
-// Whether a repeated element takes no byte.
-fn takes_none(once: bool, width: u32) -> bool
-    ensures { λ r. ⌜ r ≡ not (once || leb 1 width) ⌝ }
-{
-    if once {
-        return false;
-    }
-    width == 0
-}
-
 // A scalar as its item holds it: a text starts behind the texts so far.
 fn moved(kind: u32, told: usize, v: Scalar) -> Scalar
     ensures { λ r. ⌜ r ≡ movedIn kind told v ⌝ }
@@ -384,29 +372,24 @@ fn told_after(kind: u32, told: usize, v: Scalar) -> usize
     told
 }
 
-// A scalar's item at the front, and the count that it sets.
-fn place(
+// The item of a single scalar at the front, and the count that it sets.
+fn place_lone(
     layout: &[u32],
     items: &mut [u64],
     counts: &mut [i64],
     deps: bool,
     e: Entry,
     told: usize,
-    name: u64,
-    once: bool,
     v: Scalar,
 ) -> Out
     requires { ⌜ toldIn (e .kind) told v < 9223372036854775808 ⌝ }
-    ensures { λ r. ⌜ Placed (λ st. placed name once (e .width) (length (now (items .entry))) (leafIn (movedIn (e .kind) told v) st)) (noteIn (now (layout .entry)) deps e once v (now (counts .entry))) (toldIn (e .kind) told v) (e .width) r (now (items .exit)) (now (counts .exit)) ⌝ }
+    ensures { λ r. ⌜ Placed (λ st. placed (e .name) true (e .width) (length (now (items .entry))) (leafIn (movedIn (e .kind) told v) st)) (noteIn (now (layout .entry)) deps e true v (now (counts .entry))) (toldIn (e .kind) told v) (e .width) r (now (items .exit)) (now (counts .exit)) ⌝ }
 {
-    if takes_none(once, e.width) {
-        return refusal(10);
-    }
     let s = moved(e.kind, told, v);
-    if !value::put_item(items, name, s) {
+    if !value::put_item(items, e.name as u64, s) {
         return refusal(16);
     }
-    note(layout, counts, deps, e, once, v);
+    note(layout, counts, deps, e, v);
     Out {
         refused: 0,
         used: 4,
@@ -416,53 +399,65 @@ fn place(
     }
 }
 
-// What the bytes of a field say; a text goes behind the texts so far.
-fn read_part(record: &[u8], text: &mut [u8], page: u32, e: Entry, at: u64, told: usize) -> Decoded
-    requires { ⌜ at + e .width ≤ length (now «record») ⌝ }
-    requires { ⌜ told ≤ length (now text) ⌝ }
-    ensures { λ r. ⌜ r ≡ answerOf (says (e .kind) (e .p) (e .q) (e .r) page (take (e .width) (drop at (now («record» .entry))))) (length (now (text .entry)) - told) ⌝ }
-    ensures { λ _. ⌜ now (text .exit) ≡ take told (now (text .entry)) ++ textAfter (says (e .kind) (e .p) (e .q) (e .r) page (take (e .width) (drop at (now («record» .entry))))) (drop told (now (text .entry))) ⌝ }
+// The item of a table's element at the front.
+fn place_element(items: &mut [u64], e: Entry, told: usize, v: Scalar) -> Out
+    requires { ⌜ toldIn (e .kind) told v < 9223372036854775808 ⌝ }
+    ensures { λ r. ⌜ Placed (λ st. placed 65536 false (e .width) (length (now (items .entry))) (leafIn (movedIn (e .kind) told v) st)) [] (toldIn (e .kind) told v) (e .width) r (now (items .exit)) [] ⌝ }
 {
-    let from = at as usize;
-    let end = from + e.width as usize;
-    decode_scalar::decode_scalar(
-        e.kind,
-        e.p,
-        e.q,
-        e.r,
-        page,
-        &record[from..end],
-        &mut text[told..],
-    )
-}
-
-// A scalar that is inside the record.
-fn decode_value(
-    layout: &[u32],
-    record: &[u8],
-    items: &mut [u64],
-    text: &mut [u8],
-    counts: &mut [i64],
-    page: u32,
-    deps: bool,
-    e: Entry,
-    at: u64,
-    told: usize,
-    name: u64,
-    once: bool,
-) -> Out
-    requires { ⌜ at + e .width ≤ length (now «record») ⌝ }
-    requires { ⌜ told ≤ length (now text) ⌝ }
-    ensures { λ r. ⌜ Met (scalar (kept (now (layout .entry)) page (length (now (text .entry))) deps) (now («record» .entry)) e name once at (length (now (items .entry))) (state (now (counts .entry)) told (now (text .entry)))) r (now (items .exit)) (now (text .exit)) (now (counts .exit)) ⌝ }
-{
-    match read_part(record, text, page, e, at, told) {
-        Decoded::Refused(n) => refusal(n),
-        Decoded::Value(v) => place(layout, items, counts, deps, e, told, name, once, v),
+    if e.width == 0 {
+        return refusal(10);
+    }
+    let s = moved(e.kind, told, v);
+    if !value::put_item(items, 65536, s) {
+        return refusal(16);
+    }
+    Out {
+        refused: 0,
+        used: 4,
+        members: 1,
+        taken: e.width as u64,
+        told: told_after(e.kind, told, v),
     }
 }
 
-// One scalar or Pad: every entry but a group.
-pub fn decode_leaf(
+// What the bytes of a field say; a text goes behind the texts so far. An entry is told by its words, so that no caller keeps one in memory.
+fn read_part(
+    record: &[u8],
+    text: &mut [u8],
+    page: u32,
+    kind: u32,
+    p: u32,
+    q: u32,
+    r: u32,
+    width: u32,
+    at: u64,
+    told: usize,
+) -> Decoded
+    requires { ⌜ at + width ≤ length (now «record») ⌝ }
+    requires { ⌜ told ≤ length (now text) ⌝ }
+    ensures { λ a. ⌜ a ≡ answerOf (says kind p q r page (take width (drop at (now («record» .entry))))) (length (now (text .entry)) - told) ⌝ }
+    ensures { λ _. ⌜ now (text .exit) ≡ take told (now (text .entry)) ++ textAfter (says kind p q r page (take width (drop at (now («record» .entry))))) (drop told (now (text .entry))) ⌝ }
+{
+    let from = at as usize;
+    let end = from + width as usize;
+    decode_scalar::decode_scalar(kind, p, q, r, page, &record[from..end], &mut text[told..])
+}
+
+// A Pad yields no item.
+fn passed(width: u32, told: usize) -> Out
+    ensures { λ r. ⌜ r ≡ out 0 0 width told ⌝ }
+{
+    Out {
+        refused: 0,
+        used: 0,
+        members: 0,
+        taken: width as u64,
+        told,
+    }
+}
+
+// A single scalar that is inside the record.
+fn lone_value(
     layout: &[u32],
     record: &[u8],
     items: &mut [u64],
@@ -473,38 +468,82 @@ pub fn decode_leaf(
     e: Entry,
     at: u64,
     told: usize,
-    name: u64,
-    once: bool,
+) -> Out
+    requires { ⌜ at + e .width ≤ length (now «record») ⌝ }
+    requires { ⌜ told ≤ length (now text) ⌝ }
+    ensures { λ r. ⌜ Met (scalar (kept (now (layout .entry)) page (length (now (text .entry))) deps) (now («record» .entry)) e (e .name) true at (length (now (items .entry))) (state (now (counts .entry)) told (now (text .entry)))) r (now (items .exit)) (now (text .exit)) (now (counts .exit)) ⌝ }
+{
+    match read_part(record, text, page, e.kind, e.p, e.q, e.r, e.width, at, told) {
+        Decoded::Refused(n) => refusal(n),
+        Decoded::Value(v) => place_lone(layout, items, counts, deps, e, told, v),
+    }
+}
+
+// One scalar or Pad that is no element of a table.
+pub fn decode_lone(
+    layout: &[u32],
+    record: &[u8],
+    items: &mut [u64],
+    text: &mut [u8],
+    counts: &mut [i64],
+    page: u32,
+    deps: bool,
+    e: Entry,
+    at: u64,
+    told: usize,
 ) -> Out
     requires { ⌜ told ≤ length (now text) ⌝ }
-    ensures { λ r. ⌜ Met (leafAt (kept (now (layout .entry)) page (length (now (text .entry))) deps) (now («record» .entry)) e name once at (length (now (items .entry))) (state (now (counts .entry)) told (now (text .entry)))) r (now (items .exit)) (now (text .exit)) (now (counts .exit)) ⌝ }
+    ensures { λ r. ⌜ Met (leafAt (kept (now (layout .entry)) page (length (now (text .entry))) deps) (now («record» .entry)) e (e .name) true at (length (now (items .entry))) (state (now (counts .entry)) told (now (text .entry)))) r (now (items .exit)) (now (text .exit)) (now (counts .exit)) ⌝ }
 {
     if !inside_record(record.len(), at, e.width) {
         return refusal(7);
     }
     if e.kind == 6 {
-        return Out {
-            refused: 0,
-            used: 0,
-            members: 0,
-            taken: e.width as u64,
-            told,
-        };
+        return passed(e.width, told);
     }
-    decode_value(
-        layout,
-        record,
-        items,
-        text,
-        counts,
-        page,
-        deps,
-        e,
-        at,
-        told,
-        name,
-        once,
-    )
+    lone_value(layout, record, items, text, counts, page, deps, e, at, told)
+}
+
+// A scalar of a table that is inside the record.
+fn element_value(
+    record: &[u8],
+    items: &mut [u64],
+    text: &mut [u8],
+    page: u32,
+    e: Entry,
+    at: u64,
+    told: usize,
+) -> Out
+    requires { ⌜ at + e .width ≤ length (now «record») ⌝ }
+    requires { ⌜ told ≤ length (now text) ⌝ }
+    ensures { λ r. ⌜ Element (λ l deps. scalar (kept l page (length (now (text .entry))) deps) (now («record» .entry)) e 65536 false at (length (now (items .entry)))) told (now (text .entry)) r (now (items .exit)) (now (text .exit)) ⌝ }
+{
+    match read_part(record, text, page, e.kind, e.p, e.q, e.r, e.width, at, told) {
+        Decoded::Refused(n) => refusal(n),
+        Decoded::Value(v) => place_element(items, e, told, v),
+    }
+}
+
+// One scalar or Pad that is an element of a table: it sets no count.
+pub fn decode_element(
+    record: &[u8],
+    items: &mut [u64],
+    text: &mut [u8],
+    page: u32,
+    e: Entry,
+    at: u64,
+    told: usize,
+) -> Out
+    requires { ⌜ told ≤ length (now text) ⌝ }
+    ensures { λ r. ⌜ Element (λ l deps. leafAt (kept l page (length (now (text .entry))) deps) (now («record» .entry)) e 65536 false at (length (now (items .entry)))) told (now (text .entry)) r (now (items .exit)) (now (text .exit)) ⌝ }
+{
+    if !inside_record(record.len(), at, e.width) {
+        return refusal(7);
+    }
+    if e.kind == 6 {
+        return passed(e.width, told);
+    }
+    element_value(record, items, text, page, e, at, told)
 }
 
 // ---- zeros

@@ -14,9 +14,6 @@ use borrow.Author.Needs.{needs}
 use Rattle.decode_leaf.proofs.read_part.Statement.{statement}
 use Rattle.decode_leaf.proofs.read_part.Tie as tie
 
-cast-end : tie.Need-cast-end
-cast-end c = search needs
-
 add-end : tie.Need-add-end
 add-end c = search needs
 
@@ -45,13 +42,12 @@ same-length : tie.Need-same-length
 same-length c = search needs
 
 returns : tie.Need-returns
-returns c = (read-answer _ _ _ _ _ (c .before .before .before .before .before .before .before .before .args .at) (c .before .before .before .before .before .before .before .before .args .e .width) (c .before .before .before .before .before .before .before .before .args .told) (c .before .before .before .before .before .before .before .before .args .«record» .now) (c .before .before .before .before .before .before .before .before .args .text .now) _ (c .before .before .decode-scalar .ensures .0), read-text _ _ _ _ _ (c .before .before .before .before .before .before .before .before .args .at) (c .before .before .before .before .before .before .before .before .args .e .width) (c .before .before .before .before .before .before .before .before .args .told) (c .before .before .before .before .before .before .before .before .args .«record» .now) (c .before .before .before .before .before .before .before .before .args .text .now) (c .before .before .decode-scalar .last .1 .1 .1 .1 .1 .1 .0) (c .before .before .decode-scalar .ensures .1))
+returns c = (read-answer _ _ _ _ _ (c .before .before .before .before .before .before .before .args .at) (c .before .before .before .before .before .before .before .args .width) (c .before .before .before .before .before .before .before .args .told) (c .before .before .before .before .before .before .before .args .«record» .now) (c .before .before .before .before .before .before .before .args .text .now) _ (c .before .before .decode-scalar .ensures .0), read-text _ _ _ _ _ (c .before .before .before .before .before .before .before .args .at) (c .before .before .before .before .before .before .before .args .width) (c .before .before .before .before .before .before .before .args .told) (c .before .before .before .before .before .before .before .args .«record» .now) (c .before .before .before .before .before .before .before .args .text .now) (c .before .before .decode-scalar .last .1 .1 .1 .1 .1 .1 .0) (c .before .before .decode-scalar .ensures .1))
 
 pub read-part-spec : {M : Type 1} → statement M
 read-part-spec =
     tie.close
     (tie.spec
-    cast-end
     add-end
     sub-decode-scalar
     part-decode-scalar-start

@@ -8,12 +8,13 @@ use Rattle.decode.proofs.decode_one.Reads as decode-one
 use Rattle.decode.proofs.decode_one.Kinds as decode-one-kinds
 use Rattle.decode.proofs.decode_seq.Reads as decode-seq
 use Rattle.decode.proofs.decode_seq.Kinds as decode-seq-kinds
-use Rattle.decode_leaf.proofs.decode_leaf.Reads as decode-leaf-reads
+use Rattle.decode.proofs.decode_table.Reads as decode-table-reads
+use Rattle.decode.proofs.is_lone.Reads as is-lone-reads
+use Rattle.decode_leaf.proofs.decode_lone.Reads as decode-lone-reads
 use Rattle.decode_leaf.proofs.element_count.Reads as element-count-reads
 use Rattle.decode_leaf.proofs.element_name.Reads as element-name-reads
 use Rattle.decode_leaf.proofs.head_words.Reads as head-words-reads
 use Rattle.decode_leaf.proofs.is_single.Reads as is-single-reads
-use Rattle.decode.proofs.is_lone_leaf.Reads as is-lone-leaf-reads
 use Rattle.decode_leaf.proofs.larger.Reads as larger-reads
 use Rattle.decode_leaf.proofs.less.Reads as less-reads
 use Rattle.decode_leaf.proofs.listed.Reads as listed-reads
@@ -26,54 +27,50 @@ use Rattle.layout.proofs.reserved_width.Reads as reserved-width-reads
 use Rattle.spans.proofs.end_of.Reads as end-of-reads
 use Rattle.decode.proofs.+decode_field+decode_one+decode_seq.Proof.Common.{μ-decode-field, μ-decode-one, μ-decode-seq, decode-field-at, decode-field-below, decode-one-at, decode-one-below, decode-seq-at, decode-seq-below}
 use mathlib.Core.Path.{_≡_, refl, sym, ap, _∙_}
-use mathlib.Core.Bool.{true, false}
+use mathlib.Core.Bool.{true, false, cond}
 use mathlib.Core.List.{List, [], _∷_, _++_}
 use Prim.Native.Nat.{_+_, _-_, _*_, _≤_}
 use native.Mathlib.Omega.{arith}
 use borrow.Author.Needs.{needs}
 use lib.ListN.{length, take, drop}
 use Rattle.layout.specs.Layout.{part}
+use Rattle.walks.specs.Reading.{one}
 use Rattle.decode_leaf.specs.Capped.{seq}
 use Rattle.decode_leaf.specs.Machine.{kept}
 use Rattle.decode_leaf.proofs.Meets.{refuse, same-as}
-use mathlib.Core.Bool.{cond}
-use Rattle.walks.specs.Reading.{one}
-use Rattle.decode.proofs.Steps.{field-never, field-small}
-use Rattle.decode.proofs.Turns.{TurnsInv, turns-starts, turns-stop, turns-nothing, turns-go, returned-same, returned-written}
-use Rattle.decode.proofs.Around.{listed-met, head-is, counted-is, entry-is, entry-refused, field-lone}
+use Rattle.decode.proofs.Steps.{field-never, field-small, inside-small}
+use Rattle.decode.proofs.Turns.{SeqInv, seq-starts, seq-stops, seq-goes, seq-passes, seq-done, TurnsInv, turns-starts, turns-stop, turns-nothing, turns-go, returned-same, returned-written}
+use Rattle.decode.proofs.Around.{listed-met, head-is, counted-is, entry-is, entry-refused, one-group, field-lone, lone-is, lone-kind, not-lone, scalars-table, header-same, used-fits, inside-stops, inside-done}
 
 abbrev pub decode-field-claims : ℕ → decode-field-lts.Claims
-decode-field-claims t = (is-single-reads.Asked, is-single-reads.Learnt, is-lone-leaf-reads.Asked, is-lone-leaf-reads.Learnt, decode-leaf-reads.Asked, decode-leaf-reads.Learnt, element-count-reads.Asked, element-count-reads.Learnt, refusal-reads.Asked, refusal-reads.Learnt, head-words-reads.Asked, head-words-reads.Learnt, decode-one-below t, decode-one.Post, took-none-reads.Asked, took-none-reads.Learnt, sat-add-reads.Asked, sat-add-reads.Learnt, listed-reads.Asked, listed-reads.Learnt)
+decode-field-claims t = (decode-table-reads.Asked, decode-table-reads.Learnt, is-single-reads.Asked, is-single-reads.Learnt, element-name-reads.Asked, element-name-reads.Learnt, element-count-reads.Asked, element-count-reads.Learnt, refusal-reads.Asked, refusal-reads.Learnt, head-words-reads.Asked, head-words-reads.Learnt, decode-one-below t, decode-one.Post, took-none-reads.Asked, took-none-reads.Learnt, sat-add-reads.Asked, sat-add-reads.Learnt, listed-reads.Asked, listed-reads.Learnt)
 
 abbrev pub decode-field-Inv-loop : decode-field-lts.InvT-loop
-decode-field-Inv-loop layout «record» items₀ text₀ counts₀ page deps e lo hi at told once head n k₀ used₀ members₀ place₀ taken₀ behind₀ items text counts k used members place taken behind = TurnsInv once (λ m. one (kept layout page m deps) «record» e (λ b x s. seq (kept layout page m deps) «record» (part layout lo hi) b 0 x s) (cond once (e .name) 65536) once) items₀ text₀ counts₀ n at told head items text counts k used members place taken behind
+decode-field-Inv-loop layout «record» items₀ text₀ counts₀ page deps e lo hi at told once name head n k₀ used₀ members₀ place₀ taken₀ behind₀ items text counts k used members place taken behind = TurnsInv once (λ m. one (kept layout page m deps) «record» e (λ b x s. seq (kept layout page m deps) «record» (part layout lo hi) b 0 x s) (cond once (e .name) 65536) once) items₀ text₀ counts₀ n at told head items text counts k used members place taken behind
 
 abbrev pub decode-field-μ-loop : decode-field-lts.MeasureT-loop
-decode-field-μ-loop layout «record» items₀ text₀ counts₀ page deps e lo hi at told once head n k₀ used₀ members₀ place₀ taken₀ behind₀ items text counts k used members place taken behind = n - k
+decode-field-μ-loop layout «record» items₀ text₀ counts₀ page deps e lo hi at told once name head n k₀ used₀ members₀ place₀ taken₀ behind₀ items text counts k used members place taken behind = n - k
+
+pub decode-field-decode-table-requires : (t : ℕ) → decode-field-lts.Need-decode-table-requires (decode-field-claims t) (decode-field-at t) decode-field.Post decode-field-Inv-loop decode-field-μ-loop
+decode-field-decode-table-requires t c κs = (c .before .before .before .before .before .before .before .before .before .pre .1 .0, (not-lone (c .before .before .before .before .before .before .before .before .before .args .e) (c .before .before .before .before .before .before .before .before .before .pre .1 .1) (c .before .before .before .if1 .taken)))
+
+pub decode-field-same-length : (t : ℕ) → decode-field-lts.Need-same-length (decode-field-claims t) (decode-field-at t) decode-field.Post decode-field-Inv-loop decode-field-μ-loop
+decode-field-same-length t c = (c .before .before .before .before .decode-table .kept .1 .1 .0)
+
+pub decode-field-same-length-2 : (t : ℕ) → decode-field-lts.Need-same-length-2 (decode-field-claims t) (decode-field-at t) decode-field.Post decode-field-Inv-loop decode-field-μ-loop
+decode-field-same-length-2 t c = (c .before .before .before .before .decode-table .kept .1 .1 .1 .0)
+
+pub decode-field-same-length-3 : (t : ℕ) → decode-field-lts.Need-same-length-3 (decode-field-claims t) (decode-field-at t) decode-field.Post decode-field-Inv-loop decode-field-μ-loop
+decode-field-same-length-3 t c = search needs
+
+pub decode-field-returns : (t : ℕ) → decode-field-lts.Need-returns (decode-field-claims t) (decode-field-at t) decode-field.Post decode-field-Inv-loop decode-field-μ-loop
+decode-field-returns t c = same-as (scalars-table (c .before .before .before .before .before .before .before .before .before .before .before .before .before .before .args .layout .now) (c .before .before .before .before .before .before .before .before .before .before .before .before .before .before .args .page) (c .before .before .before .before .before .before .before .before .before .before .before .before .before .before .args .deps) (c .before .before .before .before .before .before .before .before .before .before .before .before .before .before .args .«record» .now) (c .before .before .before .before .before .before .before .before .before .before .before .before .before .before .args .e) _ (c .before .before .before .before .before .before .before .before .before .before .before .before .before .before .args .at) (length (c .before .before .before .before .before .before .before .before .before .before .before .before .before .before .args .items .now)) (c .before .before .before .before .before .before .before .before .before .before .before .before .before .before .args .counts .now) (c .before .before .before .before .before .before .before .before .before .before .before .before .before .before .args .told) (c .before .before .before .before .before .before .before .before .before .before .before .before .before .before .args .text .now) (c .before .before .before .before .before .before .before .before .if1 .taken) (not-lone (c .before .before .before .before .before .before .before .before .before .before .before .before .before .before .args .e) (c .before .before .before .before .before .before .before .before .before .before .before .before .before .before .pre .1 .1) (c .before .before .before .before .before .before .before .before .if1 .taken))) (c .before .before .before .before .decode-table .ensures .met (c .before .before .before .before .before .before .before .before .before .before .before .before .before .before .args .deps))
 
 pub decode-field-is-single-requires : (t : ℕ) → decode-field-lts.Need-is-single-requires (decode-field-claims t) (decode-field-at t) decode-field.Post decode-field-Inv-loop decode-field-μ-loop
 decode-field-is-single-requires t c κs = search needs
 
-pub decode-field-is-lone-leaf-requires : (t : ℕ) → decode-field-lts.Need-is-lone-leaf-requires (decode-field-claims t) (decode-field-at t) decode-field.Post decode-field-Inv-loop decode-field-μ-loop
-decode-field-is-lone-leaf-requires t c κs = search needs
-
-pub decode-field-cast-decode-leaf : (t : ℕ) → decode-field-lts.Need-cast-decode-leaf (decode-field-claims t) (decode-field-at t) decode-field.Post decode-field-Inv-loop decode-field-μ-loop
-decode-field-cast-decode-leaf t c = search needs
-
-pub decode-field-decode-leaf-requires : (t : ℕ) → decode-field-lts.Need-decode-leaf-requires (decode-field-claims t) (decode-field-at t) decode-field.Post decode-field-Inv-loop decode-field-μ-loop
-decode-field-decode-leaf-requires t c κs = c .before .before .before .before .before .before .before .before .before .before .before .pre .1
-
-pub decode-field-same-length : (t : ℕ) → decode-field-lts.Need-same-length (decode-field-claims t) (decode-field-at t) decode-field.Post decode-field-Inv-loop decode-field-μ-loop
-decode-field-same-length t c = (c .before .before .before .before .before .decode-leaf .kept .1 .1 .0)
-
-pub decode-field-same-length-2 : (t : ℕ) → decode-field-lts.Need-same-length-2 (decode-field-claims t) (decode-field-at t) decode-field.Post decode-field-Inv-loop decode-field-μ-loop
-decode-field-same-length-2 t c = (c .before .before .before .before .before .decode-leaf .kept .1 .1 .1 .0)
-
-pub decode-field-same-length-3 : (t : ℕ) → decode-field-lts.Need-same-length-3 (decode-field-claims t) (decode-field-at t) decode-field.Post decode-field-Inv-loop decode-field-μ-loop
-decode-field-same-length-3 t c = (c .before .before .before .before .before .decode-leaf .kept .1 .1 .1 .1 .0)
-
-pub decode-field-returns : (t : ℕ) → decode-field-lts.Need-returns (decode-field-claims t) (decode-field-at t) decode-field.Post decode-field-Inv-loop decode-field-μ-loop
-decode-field-returns t c = same-as (field-lone _ _ _ _ _ _ _ _ (c .before .before .before .before .before .before .before .before .before .before .before .before .is-single .ensures) (c .before .before .before .before .before .before .before .before .before .before .before .is-lone-leaf .ensures) (c .before .before .before .before .before .before .before .before .before .before .if1 .taken)) (c .before .before .before .before .before .decode-leaf .ensures)
+pub decode-field-element-name-requires : (t : ℕ) → decode-field-lts.Need-element-name-requires (decode-field-claims t) (decode-field-at t) decode-field.Post decode-field-Inv-loop decode-field-μ-loop
+decode-field-element-name-requires t c κs = search needs
 
 pub decode-field-element-count-requires : (t : ℕ) → decode-field-lts.Need-element-count-requires (decode-field-claims t) (decode-field-at t) decode-field.Post decode-field-Inv-loop decode-field-μ-loop
 decode-field-element-count-requires t c κs = search needs
@@ -85,7 +82,7 @@ pub decode-field-same-length-4 : (t : ℕ) → decode-field-lts.Need-same-length
 decode-field-same-length-4 t c = search needs
 
 pub decode-field-returns-2 : (t : ℕ) → decode-field-lts.Need-returns-2 (decode-field-claims t) (decode-field-at t) decode-field.Post decode-field-Inv-loop decode-field-μ-loop
-decode-field-returns-2 t c = refuse (c .before .before .before .element-count .result .refused) (c .refusal .ensures) (c .before .if2 .taken) (field-never _ _ _ _ _ _ _ _ (counted-is (c .before .before .before .before .before .before .before .before .before .before .before .before .args .layout .now) (c .before .before .before .before .before .before .before .before .before .before .before .before .args .page) (length (c .before .before .before .before .before .before .before .before .before .before .before .before .args .text .now)) (c .before .before .before .before .before .before .before .before .before .before .before .before .args .deps) (c .before .before .before .before .before .before .before .before .before .before .before .before .args .e) (c .before .before .before .before .before .before .before .before .before .before .before .before .args .counts .now) (c .before .before .before .before .before .before .before .before .before .before .before .before .args .told) (c .before .before .before .before .before .before .before .before .before .before .before .before .args .text .now) ∙ c .before .before .before .element-count .ensures .refuses (c .before .if2 .taken)))
+decode-field-returns-2 t c = refuse (c .before .before .before .element-count .result .refused) (c .refusal .ensures) (c .before .if2 .taken) (field-never _ _ _ _ _ _ _ _ (counted-is (c .before .before .before .before .before .before .before .before .before .before .before .before .before .args .layout .now) (c .before .before .before .before .before .before .before .before .before .before .before .before .before .args .page) (length (c .before .before .before .before .before .before .before .before .before .before .before .before .before .args .text .now)) (c .before .before .before .before .before .before .before .before .before .before .before .before .before .args .deps) (c .before .before .before .before .before .before .before .before .before .before .before .before .before .args .e) (c .before .before .before .before .before .before .before .before .before .before .before .before .before .args .counts .now) (c .before .before .before .before .before .before .before .before .before .before .before .before .before .args .told) (c .before .before .before .before .before .before .before .before .before .before .before .before .before .args .text .now) ∙ c .before .before .before .element-count .ensures .refuses (c .before .if2 .taken)))
 
 pub decode-field-head-words-requires : (t : ℕ) → decode-field-lts.Need-head-words-requires (decode-field-claims t) (decode-field-at t) decode-field.Post decode-field-Inv-loop decode-field-μ-loop
 decode-field-head-words-requires t c κs = search needs
@@ -97,13 +94,13 @@ pub decode-field-same-length-5 : (t : ℕ) → decode-field-lts.Need-same-length
 decode-field-same-length-5 t c = search needs
 
 pub decode-field-returns-3 : (t : ℕ) → decode-field-lts.Need-returns-3 (decode-field-claims t) (decode-field-at t) decode-field.Post decode-field-Inv-loop decode-field-μ-loop
-decode-field-returns-3 t c = refuse 16 (c .refusal2 .ensures) (λ e. omega arith) (field-small _ _ _ _ _ _ _ _ (head-is (c .before .before .before .before .before .before .before .before .before .before .before .before .before .before .before .args .e) (c .before .before .before .before .before .before .before .before .before .before .is-single .result) (c .before .before .head-words .result) (c .before .before .before .before .before .before .before .before .before .before .is-single .ensures) (c .before .before .head-words .ensures)) _ (counted-is (c .before .before .before .before .before .before .before .before .before .before .before .before .before .before .before .args .layout .now) (c .before .before .before .before .before .before .before .before .before .before .before .before .before .before .before .args .page) (length (c .before .before .before .before .before .before .before .before .before .before .before .before .before .before .before .args .text .now)) (c .before .before .before .before .before .before .before .before .before .before .before .before .before .before .before .args .deps) (c .before .before .before .before .before .before .before .before .before .before .before .before .before .before .before .args .e) (c .before .before .before .before .before .before .before .before .before .before .before .before .before .before .before .args .counts .now) (c .before .before .before .before .before .before .before .before .before .before .before .before .before .before .before .args .told) (c .before .before .before .before .before .before .before .before .before .before .before .before .before .before .before .args .text .now) ∙ c .before .before .before .before .before .before .element-count .ensures .fine (c .before .before .before .before .if2 .left)) (c .before .if3 .taken))
+decode-field-returns-3 t c = refuse 16 (c .refusal2 .ensures) (λ e. omega arith) (field-small _ _ _ _ _ _ _ _ (head-is (c .before .before .before .before .before .before .before .before .before .before .before .before .before .before .before .before .args .e) (c .before .before .before .before .before .before .before .before .before .is-single .result) (c .before .before .head-words .result) (c .before .before .before .before .before .before .before .before .before .is-single .ensures) (c .before .before .head-words .ensures)) _ (counted-is (c .before .before .before .before .before .before .before .before .before .before .before .before .before .before .before .before .args .layout .now) (c .before .before .before .before .before .before .before .before .before .before .before .before .before .before .before .before .args .page) (length (c .before .before .before .before .before .before .before .before .before .before .before .before .before .before .before .before .args .text .now)) (c .before .before .before .before .before .before .before .before .before .before .before .before .before .before .before .before .args .deps) (c .before .before .before .before .before .before .before .before .before .before .before .before .before .before .before .before .args .e) (c .before .before .before .before .before .before .before .before .before .before .before .before .before .before .before .before .args .counts .now) (c .before .before .before .before .before .before .before .before .before .before .before .before .before .before .before .before .args .told) (c .before .before .before .before .before .before .before .before .before .before .before .before .before .before .before .before .args .text .now) ∙ c .before .before .before .before .before .before .element-count .ensures .fine (c .before .before .before .before .if2 .left)) (c .before .if3 .taken))
 
 pub decode-field-loop-holds : (t : ℕ) → decode-field-lts.Need-loop-holds (decode-field-claims t) (decode-field-at t) decode-field.Post decode-field-Inv-loop decode-field-μ-loop
-decode-field-loop-holds t c = turns-starts _ _ _ _ _ _ _ _ _ (c .before .before .before .before .before .before .before .before .before .before .before .before .before .before .pre .1) (c .if3 .left)
+decode-field-loop-holds t c = turns-starts _ _ _ _ _ _ _ _ _ (c .before .before .before .before .before .before .before .before .before .before .before .before .before .before .before .pre .1 .0) (c .if3 .left)
 
 pub decode-field-mul-decode-one : (t : ℕ) → decode-field-lts.Need-mul-decode-one (decode-field-claims t) (decode-field-at t) decode-field.Post decode-field-Inv-loop decode-field-μ-loop
-decode-field-mul-decode-one t c = omega (arith, c .before .loop .inv .written .within, c .before .loop .inv .written .same, c .before .before .before .before .before .before .before .before .before .before .before .before .before .before .before .before .good .1 .1 .0 .0)
+decode-field-mul-decode-one t c = omega (arith, c .before .loop .inv .written .within, c .before .loop .inv .written .same, c .before .before .before .before .before .before .before .before .before .before .before .before .before .before .before .before .before .good .1 .1 .0 .0, c .before .before .before .before .before .before .before .before .before .before .before .before .before .before .before .before .before .good .1 .1 .0 .1)
 
 pub decode-field-sub-decode-one : (t : ℕ) → decode-field-lts.Need-sub-decode-one (decode-field-claims t) (decode-field-at t) decode-field.Post decode-field-Inv-loop decode-field-μ-loop
 decode-field-sub-decode-one t c = omega (arith, c .before .loop .inv .written .within, c .before .loop .inv .written .same)
@@ -115,7 +112,7 @@ pub decode-field-part-decode-one-end : (t : ℕ) → decode-field-lts.Need-part-
 decode-field-part-decode-one-end t c = omega arith
 
 pub decode-field-decode-one-requires : (t : ℕ) → decode-field-lts.Need-decode-one-requires (decode-field-claims t) (decode-field-at t) decode-field.Post decode-field-Inv-loop decode-field-μ-loop
-decode-field-decode-one-requires t c κs = (omega (arith, c .before .before .before .before .before .before .before .before .before .before .before .before .before .before .before .before .before .before .before .pre .0), c .before .before .before .before .loop .inv .fits)
+decode-field-decode-one-requires t c κs = (omega (arith, c .before .before .before .before .before .before .before .before .before .before .before .before .before .before .before .before .before .before .before .before .pre .0), c .before .before .before .before .loop .inv .fits)
 
 pub decode-field-refusal-requires-3 : (t : ℕ) → decode-field-lts.Need-refusal-requires-3 (decode-field-claims t) (decode-field-at t) decode-field.Post decode-field-Inv-loop decode-field-μ-loop
 decode-field-refusal-requires-3 t c κs = search needs
@@ -130,7 +127,7 @@ pub decode-field-same-length-8 : (t : ℕ) → decode-field-lts.Need-same-length
 decode-field-same-length-8 t c = (c .before .before .before .before .before .before .before .before .decode-one .kept .1 .1 .1 .1 .0) ∙ c .before .before .before .before .before .before .before .before .before .before .before .before .before .loop .inv .kept
 
 pub decode-field-returns-4 : (t : ℕ) → decode-field-lts.Need-returns-4 (decode-field-claims t) (decode-field-at t) decode-field.Post decode-field-Inv-loop decode-field-μ-loop
-decode-field-returns-4 t c = refuse (c .before .before .before .before .before .before .before .before .decode-one .result .refused) (c .refusal3 .ensures) (c .before .if4 .taken) (entry-refused _ _ _ _ _ _ _ _ (head-is (c .before .before .before .before .before .before .before .before .before .before .before .before .before .before .before .before .before .before .before .before .before .before .before .before .before .before .before .before .args .e) (c .before .before .before .before .before .before .before .before .before .before .before .before .before .before .before .before .before .before .before .before .before .before .before .is-single .result) (c .before .before .before .before .before .before .before .before .before .before .before .before .before .before .before .head-words .result) (c .before .before .before .before .before .before .before .before .before .before .before .before .before .before .before .before .before .before .before .before .before .before .before .is-single .ensures) (c .before .before .before .before .before .before .before .before .before .before .before .before .before .before .before .head-words .ensures)) _ (counted-is (c .before .before .before .before .before .before .before .before .before .before .before .before .before .before .before .before .before .before .before .before .before .before .before .before .before .before .before .before .args .layout .now) (c .before .before .before .before .before .before .before .before .before .before .before .before .before .before .before .before .before .before .before .before .before .before .before .before .before .before .before .before .args .page) (length (c .before .before .before .before .before .before .before .before .before .before .before .before .before .before .before .before .before .before .before .before .before .before .before .before .before .before .before .before .args .text .now)) (c .before .before .before .before .before .before .before .before .before .before .before .before .before .before .before .before .before .before .before .before .before .before .before .before .before .before .before .before .args .deps) (c .before .before .before .before .before .before .before .before .before .before .before .before .before .before .before .before .before .before .before .before .before .before .before .before .before .before .before .before .args .e) (c .before .before .before .before .before .before .before .before .before .before .before .before .before .before .before .before .before .before .before .before .before .before .before .before .before .before .before .before .args .counts .now) (c .before .before .before .before .before .before .before .before .before .before .before .before .before .before .before .before .before .before .before .before .before .before .before .before .before .before .before .before .args .told) (c .before .before .before .before .before .before .before .before .before .before .before .before .before .before .before .before .before .before .before .before .before .before .before .before .before .before .before .before .args .text .now) ∙ c .before .before .before .before .before .before .before .before .before .before .before .before .before .before .before .before .before .before .before .element-count .ensures .fine (c .before .before .before .before .before .before .before .before .before .before .before .before .before .before .before .before .before .if2 .left)) _ (c .before .before .before .before .before .before .before .before .before .before .before .before .before .before .before .before .before .before .before .before .before .before .before .is-single .ensures) (c .before .before .before .before .before .before .before .before .before .before .before .before .before .before .if3 .left) (omega (arith, c .before .before .before .before .before .before .before .before .before .before .before .before .before .before .before .before .struct-known3 .given .1 .1 .0)) _ (turns-stop (c .before .before .before .before .before .before .before .before .before .before .before .before .before .loop .inv) (c .before .before .before .before .before .before .before .before .before .before .before .before .loop-test .taken) (c .before .before .before .before .before .before .before .before .decode-one .last .1 .1 .0) (c .before .before .before .before .before .before .before .before .decode-one .kept .1 .1 .0) _ (c .before .before .before .before .before .before .before .before .decode-one .ensures .refuses (c .before .if4 .taken))))
+decode-field-returns-4 t c = refuse (c .before .before .before .before .before .before .before .before .decode-one .result .refused) (c .refusal3 .ensures) (c .before .if4 .taken) (entry-refused _ _ _ _ _ _ _ _ (head-is (c .before .before .before .before .before .before .before .before .before .before .before .before .before .before .before .before .before .before .before .before .before .before .before .before .before .before .before .before .before .args .e) (c .before .before .before .before .before .before .before .before .before .before .before .before .before .before .before .before .before .before .before .before .before .before .is-single .result) (c .before .before .before .before .before .before .before .before .before .before .before .before .before .before .before .head-words .result) (c .before .before .before .before .before .before .before .before .before .before .before .before .before .before .before .before .before .before .before .before .before .before .is-single .ensures) (c .before .before .before .before .before .before .before .before .before .before .before .before .before .before .before .head-words .ensures)) _ (counted-is (c .before .before .before .before .before .before .before .before .before .before .before .before .before .before .before .before .before .before .before .before .before .before .before .before .before .before .before .before .before .args .layout .now) (c .before .before .before .before .before .before .before .before .before .before .before .before .before .before .before .before .before .before .before .before .before .before .before .before .before .before .before .before .before .args .page) (length (c .before .before .before .before .before .before .before .before .before .before .before .before .before .before .before .before .before .before .before .before .before .before .before .before .before .before .before .before .before .args .text .now)) (c .before .before .before .before .before .before .before .before .before .before .before .before .before .before .before .before .before .before .before .before .before .before .before .before .before .before .before .before .before .args .deps) (c .before .before .before .before .before .before .before .before .before .before .before .before .before .before .before .before .before .before .before .before .before .before .before .before .before .before .before .before .before .args .e) (c .before .before .before .before .before .before .before .before .before .before .before .before .before .before .before .before .before .before .before .before .before .before .before .before .before .before .before .before .before .args .counts .now) (c .before .before .before .before .before .before .before .before .before .before .before .before .before .before .before .before .before .before .before .before .before .before .before .before .before .before .before .before .before .args .told) (c .before .before .before .before .before .before .before .before .before .before .before .before .before .before .before .before .before .before .before .before .before .before .before .before .before .before .before .before .before .args .text .now) ∙ c .before .before .before .before .before .before .before .before .before .before .before .before .before .before .before .before .before .before .before .element-count .ensures .fine (c .before .before .before .before .before .before .before .before .before .before .before .before .before .before .before .before .before .if2 .left)) _ (c .before .before .before .before .before .before .before .before .before .before .before .before .before .before .before .before .before .before .before .before .before .before .is-single .ensures) (c .before .before .before .before .before .before .before .before .before .before .before .before .before .before .if3 .left) (omega (arith, c .before .before .before .before .before .before .before .before .before .before .before .before .before .before .before .before .struct-known3 .given .1 .1 .0)) _ (turns-stop (c .before .before .before .before .before .before .before .before .before .before .before .before .before .loop .inv) (c .before .before .before .before .before .before .before .before .before .before .before .before .loop-test .taken) (c .before .before .before .before .before .before .before .before .decode-one .last .1 .1 .0) (c .before .before .before .before .before .before .before .before .decode-one .kept .1 .1 .0) _ ((same-as (one-group _ _ _ _ _ _ _ _ _ (c .before .before .before .before .before .before .before .before .before .before .before .before .before .before .before .before .before .before .before .before .before .before .before .if1 .left) (c .before .before .before .before .before .before .before .before .before .before .before .before .before .before .before .before .before .before .before .before .before .element-name .ensures)) (c .before .before .before .before .before .before .before .before .decode-one .ensures)) .refuses (c .before .if4 .taken))))
 
 pub decode-field-took-none-requires : (t : ℕ) → decode-field-lts.Need-took-none-requires (decode-field-claims t) (decode-field-at t) decode-field.Post decode-field-Inv-loop decode-field-μ-loop
 decode-field-took-none-requires t c κs = search needs
@@ -148,7 +145,7 @@ pub decode-field-same-length-11 : (t : ℕ) → decode-field-lts.Need-same-lengt
 decode-field-same-length-11 t c = (c .before .before .before .before .before .before .before .before .before .before .decode-one .kept .1 .1 .1 .1 .0) ∙ c .before .before .before .before .before .before .before .before .before .before .before .before .before .before .before .loop .inv .kept
 
 pub decode-field-returns-5 : (t : ℕ) → decode-field-lts.Need-returns-5 (decode-field-claims t) (decode-field-at t) decode-field.Post decode-field-Inv-loop decode-field-μ-loop
-decode-field-returns-5 t c = refuse 10 (c .refusal4 .ensures) (λ e. omega arith) (entry-refused _ _ _ _ _ _ _ _ (head-is (c .before .before .before .before .before .before .before .before .before .before .before .before .before .before .before .before .before .before .before .before .before .before .before .before .before .before .before .before .before .before .args .e) (c .before .before .before .before .before .before .before .before .before .before .before .before .before .before .before .before .before .before .before .before .before .before .before .before .before .is-single .result) (c .before .before .before .before .before .before .before .before .before .before .before .before .before .before .before .before .before .head-words .result) (c .before .before .before .before .before .before .before .before .before .before .before .before .before .before .before .before .before .before .before .before .before .before .before .before .before .is-single .ensures) (c .before .before .before .before .before .before .before .before .before .before .before .before .before .before .before .before .before .head-words .ensures)) _ (counted-is (c .before .before .before .before .before .before .before .before .before .before .before .before .before .before .before .before .before .before .before .before .before .before .before .before .before .before .before .before .before .before .args .layout .now) (c .before .before .before .before .before .before .before .before .before .before .before .before .before .before .before .before .before .before .before .before .before .before .before .before .before .before .before .before .before .before .args .page) (length (c .before .before .before .before .before .before .before .before .before .before .before .before .before .before .before .before .before .before .before .before .before .before .before .before .before .before .before .before .before .before .args .text .now)) (c .before .before .before .before .before .before .before .before .before .before .before .before .before .before .before .before .before .before .before .before .before .before .before .before .before .before .before .before .before .before .args .deps) (c .before .before .before .before .before .before .before .before .before .before .before .before .before .before .before .before .before .before .before .before .before .before .before .before .before .before .before .before .before .before .args .e) (c .before .before .before .before .before .before .before .before .before .before .before .before .before .before .before .before .before .before .before .before .before .before .before .before .before .before .before .before .before .before .args .counts .now) (c .before .before .before .before .before .before .before .before .before .before .before .before .before .before .before .before .before .before .before .before .before .before .before .before .before .before .before .before .before .before .args .told) (c .before .before .before .before .before .before .before .before .before .before .before .before .before .before .before .before .before .before .before .before .before .before .before .before .before .before .before .before .before .before .args .text .now) ∙ c .before .before .before .before .before .before .before .before .before .before .before .before .before .before .before .before .before .before .before .before .before .element-count .ensures .fine (c .before .before .before .before .before .before .before .before .before .before .before .before .before .before .before .before .before .before .before .if2 .left)) _ (c .before .before .before .before .before .before .before .before .before .before .before .before .before .before .before .before .before .before .before .before .before .before .before .before .before .is-single .ensures) (c .before .before .before .before .before .before .before .before .before .before .before .before .before .before .before .before .if3 .left) (omega (arith, c .before .before .before .before .before .before .before .before .before .before .before .before .before .before .before .before .before .before .struct-known3 .given .1 .1 .0)) _ (turns-nothing (c .before .before .before .before .before .before .before .before .before .before .before .before .before .before .before .loop .inv) (c .before .before .before .before .before .before .before .before .before .before .before .before .before .before .loop-test .taken) (c .before .before .before .before .before .before .before .before .before .before .decode-one .last .1 .1 .0) (c .before .before .before .before .before .before .before .before .before .before .decode-one .kept .1 .1 .0) (c .before .before .before .before .before .before .before .before .before .before .decode-one .result) (c .before .before .before .before .before .before .before .before .before .before .decode-one .last .1 .1 .1 .0) (c .before .before .before .before .before .before .before .before .before .before .decode-one .last .1 .1 .1 .1 .0) (c .before .before .before .before .before .before .before .before .before .before .decode-one .ensures .fine (c .before .before .before .if4 .left)) (c .before .before .took-none .result) (c .before .before .took-none .ensures) (c .before .if5 .taken)))
+decode-field-returns-5 t c = refuse 10 (c .refusal4 .ensures) (λ e. omega arith) (entry-refused _ _ _ _ _ _ _ _ (head-is (c .before .before .before .before .before .before .before .before .before .before .before .before .before .before .before .before .before .before .before .before .before .before .before .before .before .before .before .before .before .before .before .args .e) (c .before .before .before .before .before .before .before .before .before .before .before .before .before .before .before .before .before .before .before .before .before .before .before .before .is-single .result) (c .before .before .before .before .before .before .before .before .before .before .before .before .before .before .before .before .before .head-words .result) (c .before .before .before .before .before .before .before .before .before .before .before .before .before .before .before .before .before .before .before .before .before .before .before .before .is-single .ensures) (c .before .before .before .before .before .before .before .before .before .before .before .before .before .before .before .before .before .head-words .ensures)) _ (counted-is (c .before .before .before .before .before .before .before .before .before .before .before .before .before .before .before .before .before .before .before .before .before .before .before .before .before .before .before .before .before .before .before .args .layout .now) (c .before .before .before .before .before .before .before .before .before .before .before .before .before .before .before .before .before .before .before .before .before .before .before .before .before .before .before .before .before .before .before .args .page) (length (c .before .before .before .before .before .before .before .before .before .before .before .before .before .before .before .before .before .before .before .before .before .before .before .before .before .before .before .before .before .before .before .args .text .now)) (c .before .before .before .before .before .before .before .before .before .before .before .before .before .before .before .before .before .before .before .before .before .before .before .before .before .before .before .before .before .before .before .args .deps) (c .before .before .before .before .before .before .before .before .before .before .before .before .before .before .before .before .before .before .before .before .before .before .before .before .before .before .before .before .before .before .before .args .e) (c .before .before .before .before .before .before .before .before .before .before .before .before .before .before .before .before .before .before .before .before .before .before .before .before .before .before .before .before .before .before .before .args .counts .now) (c .before .before .before .before .before .before .before .before .before .before .before .before .before .before .before .before .before .before .before .before .before .before .before .before .before .before .before .before .before .before .before .args .told) (c .before .before .before .before .before .before .before .before .before .before .before .before .before .before .before .before .before .before .before .before .before .before .before .before .before .before .before .before .before .before .before .args .text .now) ∙ c .before .before .before .before .before .before .before .before .before .before .before .before .before .before .before .before .before .before .before .before .before .element-count .ensures .fine (c .before .before .before .before .before .before .before .before .before .before .before .before .before .before .before .before .before .before .before .if2 .left)) _ (c .before .before .before .before .before .before .before .before .before .before .before .before .before .before .before .before .before .before .before .before .before .before .before .before .is-single .ensures) (c .before .before .before .before .before .before .before .before .before .before .before .before .before .before .before .before .if3 .left) (omega (arith, c .before .before .before .before .before .before .before .before .before .before .before .before .before .before .before .before .before .before .struct-known3 .given .1 .1 .0)) _ (turns-nothing (c .before .before .before .before .before .before .before .before .before .before .before .before .before .before .before .loop .inv) (c .before .before .before .before .before .before .before .before .before .before .before .before .before .before .loop-test .taken) (c .before .before .before .before .before .before .before .before .before .before .decode-one .last .1 .1 .0) (c .before .before .before .before .before .before .before .before .before .before .decode-one .kept .1 .1 .0) (c .before .before .before .before .before .before .before .before .before .before .decode-one .result) (c .before .before .before .before .before .before .before .before .before .before .decode-one .last .1 .1 .1 .0) (c .before .before .before .before .before .before .before .before .before .before .decode-one .last .1 .1 .1 .1 .0) ((same-as (one-group _ _ _ _ _ _ _ _ _ (c .before .before .before .before .before .before .before .before .before .before .before .before .before .before .before .before .before .before .before .before .before .before .before .before .before .if1 .left) (c .before .before .before .before .before .before .before .before .before .before .before .before .before .before .before .before .before .before .before .before .before .before .before .element-name .ensures)) (c .before .before .before .before .before .before .before .before .before .before .decode-one .ensures)) .fine (c .before .before .before .if4 .left)) (c .before .before .took-none .result) (c .before .before .took-none .ensures) (c .before .if5 .taken)))
 
 pub decode-field-sat-add-requires : (t : ℕ) → decode-field-lts.Need-sat-add-requires (decode-field-claims t) (decode-field-at t) decode-field.Post decode-field-Inv-loop decode-field-μ-loop
 decode-field-sat-add-requires t c κs = search needs
@@ -157,10 +154,10 @@ pub decode-field-sat-add-requires-2 : (t : ℕ) → decode-field-lts.Need-sat-ad
 decode-field-sat-add-requires-2 t c κs = search needs
 
 pub decode-field-add-used : (t : ℕ) → decode-field-lts.Need-add-used (decode-field-claims t) (decode-field-at t) decode-field.Post decode-field-Inv-loop decode-field-μ-loop
-decode-field-add-used t c = omega (arith, returned-written (c .before .before .before .before .before .before .before .before .before .before .before .before .before .before .before .before .before .loop .inv .written) (c .before .before .before .before .before .before .before .before .before .before .before .before .decode-one .last .1 .1 .0) (c .before .before .before .before .before .before .before .before .before .before .before .before .decode-one .kept .1 .1 .0) _ ((c .before .before .before .before .before .before .before .before .before .before .before .before .decode-one .ensures .fine (c .before .before .before .before .before .if4 .left)) .within) .within, c .before .before .before .before .before .before .before .before .before .before .before .before .before .before .before .before .before .before .before .before .before .before .before .before .before .before .before .before .before .before .before .before .good .1 .1 .0 .0)
+decode-field-add-used t c = omega (arith, returned-written (c .before .before .before .before .before .before .before .before .before .before .before .before .before .before .before .before .before .loop .inv .written) (c .before .before .before .before .before .before .before .before .before .before .before .before .decode-one .last .1 .1 .0) (c .before .before .before .before .before .before .before .before .before .before .before .before .decode-one .kept .1 .1 .0) _ ((c .before .before .before .before .before .before .before .before .before .before .before .before .decode-one .ensures .fine (c .before .before .before .before .before .if4 .left)) .within) .within, c .before .before .before .before .before .before .before .before .before .before .before .before .before .before .before .before .before .before .before .before .before .before .before .before .before .before .before .before .before .before .before .before .before .good .1 .1 .0 .0)
 
 pub decode-field-add-members : (t : ℕ) → decode-field-lts.Need-add-members (decode-field-claims t) (decode-field-at t) decode-field.Post decode-field-Inv-loop decode-field-μ-loop
-decode-field-add-members t c = omega (arith, returned-written (c .before .before .before .before .before .before .before .before .before .before .before .before .before .before .before .before .before .before .loop .inv .written) (c .before .before .before .before .before .before .before .before .before .before .before .before .before .decode-one .last .1 .1 .0) (c .before .before .before .before .before .before .before .before .before .before .before .before .before .decode-one .kept .1 .1 .0) _ ((c .before .before .before .before .before .before .before .before .before .before .before .before .before .decode-one .ensures .fine (c .before .before .before .before .before .before .if4 .left)) .within) .within, c .before .before .before .before .before .before .before .before .before .before .before .before .before .before .before .before .before .before .before .before .before .before .before .before .before .before .before .before .before .before .before .before .before .good .1 .1 .0 .0, c .before .before .before .before .before .before .before .before .before .before .before .before .before .before .before .before .before .before .loop .inv .few, (c .before .before .before .before .before .before .before .before .before .before .before .before .before .decode-one .ensures .fine (c .before .before .before .before .before .before .if4 .left)) .few)
+decode-field-add-members t c = omega (arith, returned-written (c .before .before .before .before .before .before .before .before .before .before .before .before .before .before .before .before .before .before .loop .inv .written) (c .before .before .before .before .before .before .before .before .before .before .before .before .before .decode-one .last .1 .1 .0) (c .before .before .before .before .before .before .before .before .before .before .before .before .before .decode-one .kept .1 .1 .0) _ ((c .before .before .before .before .before .before .before .before .before .before .before .before .before .decode-one .ensures .fine (c .before .before .before .before .before .before .if4 .left)) .within) .within, c .before .before .before .before .before .before .before .before .before .before .before .before .before .before .before .before .before .before .before .before .before .before .before .before .before .before .before .before .before .before .before .before .before .before .good .1 .1 .0 .0, c .before .before .before .before .before .before .before .before .before .before .before .before .before .before .before .before .before .before .loop .inv .few, (c .before .before .before .before .before .before .before .before .before .before .before .before .before .decode-one .ensures .fine (c .before .before .before .before .before .before .if4 .left)) .few)
 
 pub decode-field-add-k : (t : ℕ) → decode-field-lts.Need-add-k (decode-field-claims t) (decode-field-at t) decode-field.Post decode-field-Inv-loop decode-field-μ-loop
 decode-field-add-k t c = omega (arith, c .before .before .before .before .before .before .before .before .before .before .before .before .before .before .before .before .before .loop-test .taken, c .before .before .before .before .before .before .before .before .before .before .before .before .before .before .before .before .before .before .before .before .before .before .before .before .element-count .ok)
@@ -169,10 +166,10 @@ pub decode-field-loop-less : (t : ℕ) → decode-field-lts.Need-loop-less (deco
 decode-field-loop-less t c = omega (arith, c .before .before .before .before .before .before .before .before .before .before .before .before .before .before .before .before .before .loop-test .taken)
 
 pub decode-field-loop-again : (t : ℕ) → decode-field-lts.Need-loop-again (decode-field-claims t) (decode-field-at t) decode-field.Post decode-field-Inv-loop decode-field-μ-loop
-decode-field-loop-again t c = turns-go (c .before .before .before .before .before .before .before .before .before .before .before .before .before .before .before .before .before .before .loop .inv) (c .before .before .before .before .before .before .before .before .before .before .before .before .before .before .before .before .before .loop-test .taken) (c .before .before .before .before .before .before .before .before .before .before .before .before .before .decode-one .last .1 .1 .0) (c .before .before .before .before .before .before .before .before .before .before .before .before .before .decode-one .kept .1 .1 .0) (c .before .before .before .before .before .before .before .before .before .before .before .before .before .decode-one .result) (c .before .before .before .before .before .before .before .before .before .before .before .before .before .decode-one .last .1 .1 .1 .0) (c .before .before .before .before .before .before .before .before .before .before .before .before .before .decode-one .last .1 .1 .1 .1 .0) (c .before .before .before .before .before .before .before .before .before .before .before .before .before .decode-one .ensures .fine (c .before .before .before .before .before .before .if4 .left)) (c .before .before .before .before .before .took-none .result) (c .before .before .before .before .before .took-none .ensures) _ _ (c .before .before .before .before .before .before .before .before .before .before .before .before .before .decode-one .kept .1 .1 .1 .0) (c .before .before .before .before .before .before .before .before .before .before .before .before .before .decode-one .kept .1 .1 .1 .1 .0) (c .before .before .before .before .if5 .left) (c .before .before .before .sat-add .ensures) (c .before .before .sat-add2 .ensures)
+decode-field-loop-again t c = turns-go (c .before .before .before .before .before .before .before .before .before .before .before .before .before .before .before .before .before .before .loop .inv) (c .before .before .before .before .before .before .before .before .before .before .before .before .before .before .before .before .before .loop-test .taken) (c .before .before .before .before .before .before .before .before .before .before .before .before .before .decode-one .last .1 .1 .0) (c .before .before .before .before .before .before .before .before .before .before .before .before .before .decode-one .kept .1 .1 .0) (c .before .before .before .before .before .before .before .before .before .before .before .before .before .decode-one .result) (c .before .before .before .before .before .before .before .before .before .before .before .before .before .decode-one .last .1 .1 .1 .0) (c .before .before .before .before .before .before .before .before .before .before .before .before .before .decode-one .last .1 .1 .1 .1 .0) ((same-as (one-group _ _ _ _ _ _ _ _ _ (c .before .before .before .before .before .before .before .before .before .before .before .before .before .before .before .before .before .before .before .before .before .before .before .before .before .before .before .before .if1 .left) (c .before .before .before .before .before .before .before .before .before .before .before .before .before .before .before .before .before .before .before .before .before .before .before .before .before .before .element-name .ensures)) (c .before .before .before .before .before .before .before .before .before .before .before .before .before .decode-one .ensures)) .fine (c .before .before .before .before .before .before .if4 .left)) (c .before .before .before .before .before .took-none .result) (c .before .before .before .before .before .took-none .ensures) _ _ (c .before .before .before .before .before .before .before .before .before .before .before .before .before .decode-one .kept .1 .1 .1 .0) (c .before .before .before .before .before .before .before .before .before .before .before .before .before .decode-one .kept .1 .1 .1 .1 .0) (c .before .before .before .before .if5 .left) (c .before .before .before .sat-add .ensures) (c .before .before .sat-add2 .ensures)
 
 pub decode-field-listed-requires : (t : ℕ) → decode-field-lts.Need-listed-requires (decode-field-claims t) (decode-field-at t) decode-field.Post decode-field-Inv-loop decode-field-μ-loop
-decode-field-listed-requires t c κs = ((head-is (c .before .before .before .before .before .before .before .before .before .before .before .before .before .before .before .before .before .args .e) (c .before .before .before .before .before .before .before .before .before .before .before .before .is-single .result) (c .before .before .before .before .head-words .result) (c .before .before .before .before .before .before .before .before .before .before .before .before .is-single .ensures) (c .before .before .before .before .head-words .ensures)), (omega (arith, c .before .before .loop .inv .few), omega (arith, c .before .before .loop .inv .written .within, c .before .before .loop .inv .written .same)))
+decode-field-listed-requires t c κs = ((head-is (c .before .before .before .before .before .before .before .before .before .before .before .before .before .before .before .before .before .before .args .e) (c .before .before .before .before .before .before .before .before .before .before .before .is-single .result) (c .before .before .before .before .head-words .result) (c .before .before .before .before .before .before .before .before .before .before .before .is-single .ensures) (c .before .before .before .before .head-words .ensures)), (omega (arith, c .before .before .loop .inv .few), omega (arith, c .before .before .loop .inv .written .within, c .before .before .loop .inv .written .same)))
 
 pub decode-field-same-length-12 : (t : ℕ) → decode-field-lts.Need-same-length-12 (decode-field-claims t) (decode-field-at t) decode-field.Post decode-field-Inv-loop decode-field-μ-loop
 decode-field-same-length-12 t c = c .before .before .listed .kept .0 ∙ c .before .before .before .before .before .loop .inv .written .same
@@ -184,4 +181,4 @@ pub decode-field-same-length-14 : (t : ℕ) → decode-field-lts.Need-same-lengt
 decode-field-same-length-14 t c = c .before .before .before .before .before .loop .inv .kept
 
 pub decode-field-returns-6 : (t : ℕ) → decode-field-lts.Need-returns-6 (decode-field-claims t) (decode-field-at t) decode-field.Post decode-field-Inv-loop decode-field-μ-loop
-decode-field-returns-6 t c = listed-met (c .before .before .before .before .before .before .before .before .before .before .before .before .before .before .before .before .before .before .before .before .args .e) (c .before .before .before .before .before .loop .inv) (c .before .before .before .before .loop-test .left) (head-is (c .before .before .before .before .before .before .before .before .before .before .before .before .before .before .before .before .before .before .before .before .args .e) (c .before .before .before .before .before .before .before .before .before .before .before .before .before .before .before .is-single .result) (c .before .before .before .before .before .before .before .head-words .result) (c .before .before .before .before .before .before .before .before .before .before .before .before .before .before .before .is-single .ensures) (c .before .before .before .before .before .before .before .head-words .ensures)) (entry-is _ _ _ _ _ _ _ _ (head-is (c .before .before .before .before .before .before .before .before .before .before .before .before .before .before .before .before .before .before .before .before .args .e) (c .before .before .before .before .before .before .before .before .before .before .before .before .before .before .before .is-single .result) (c .before .before .before .before .before .before .before .head-words .result) (c .before .before .before .before .before .before .before .before .before .before .before .before .before .before .before .is-single .ensures) (c .before .before .before .before .before .before .before .head-words .ensures)) _ (counted-is (c .before .before .before .before .before .before .before .before .before .before .before .before .before .before .before .before .before .before .before .before .args .layout .now) (c .before .before .before .before .before .before .before .before .before .before .before .before .before .before .before .before .before .before .before .before .args .page) (length (c .before .before .before .before .before .before .before .before .before .before .before .before .before .before .before .before .before .before .before .before .args .text .now)) (c .before .before .before .before .before .before .before .before .before .before .before .before .before .before .before .before .before .before .before .before .args .deps) (c .before .before .before .before .before .before .before .before .before .before .before .before .before .before .before .before .before .before .before .before .args .e) (c .before .before .before .before .before .before .before .before .before .before .before .before .before .before .before .before .before .before .before .before .args .counts .now) (c .before .before .before .before .before .before .before .before .before .before .before .before .before .before .before .before .before .before .before .before .args .told) (c .before .before .before .before .before .before .before .before .before .before .before .before .before .before .before .before .before .before .before .before .args .text .now) ∙ c .before .before .before .before .before .before .before .before .before .before .before .element-count .ensures .fine (c .before .before .before .before .before .before .before .before .before .if2 .left)) _ (c .before .before .before .before .before .before .before .before .before .before .before .before .before .before .before .is-single .ensures) (c .before .before .before .before .before .before .if3 .left) (omega (arith, c .before .before .before .before .before .before .before .before .struct-known3 .given .1 .1 .0))) (c .before .before .listed .ensures)
+decode-field-returns-6 t c = listed-met (c .before .before .before .before .before .before .before .before .before .before .before .before .before .before .before .before .before .before .before .before .before .args .e) (c .before .before .before .before .before .loop .inv) (c .before .before .before .before .loop-test .left) (head-is (c .before .before .before .before .before .before .before .before .before .before .before .before .before .before .before .before .before .before .before .before .before .args .e) (c .before .before .before .before .before .before .before .before .before .before .before .before .before .before .is-single .result) (c .before .before .before .before .before .before .before .head-words .result) (c .before .before .before .before .before .before .before .before .before .before .before .before .before .before .is-single .ensures) (c .before .before .before .before .before .before .before .head-words .ensures)) (entry-is _ _ _ _ _ _ _ _ (head-is (c .before .before .before .before .before .before .before .before .before .before .before .before .before .before .before .before .before .before .before .before .before .args .e) (c .before .before .before .before .before .before .before .before .before .before .before .before .before .before .is-single .result) (c .before .before .before .before .before .before .before .head-words .result) (c .before .before .before .before .before .before .before .before .before .before .before .before .before .before .is-single .ensures) (c .before .before .before .before .before .before .before .head-words .ensures)) _ (counted-is (c .before .before .before .before .before .before .before .before .before .before .before .before .before .before .before .before .before .before .before .before .before .args .layout .now) (c .before .before .before .before .before .before .before .before .before .before .before .before .before .before .before .before .before .before .before .before .before .args .page) (length (c .before .before .before .before .before .before .before .before .before .before .before .before .before .before .before .before .before .before .before .before .before .args .text .now)) (c .before .before .before .before .before .before .before .before .before .before .before .before .before .before .before .before .before .before .before .before .before .args .deps) (c .before .before .before .before .before .before .before .before .before .before .before .before .before .before .before .before .before .before .before .before .before .args .e) (c .before .before .before .before .before .before .before .before .before .before .before .before .before .before .before .before .before .before .before .before .before .args .counts .now) (c .before .before .before .before .before .before .before .before .before .before .before .before .before .before .before .before .before .before .before .before .before .args .told) (c .before .before .before .before .before .before .before .before .before .before .before .before .before .before .before .before .before .before .before .before .before .args .text .now) ∙ c .before .before .before .before .before .before .before .before .before .before .before .element-count .ensures .fine (c .before .before .before .before .before .before .before .before .before .if2 .left)) _ (c .before .before .before .before .before .before .before .before .before .before .before .before .before .before .is-single .ensures) (c .before .before .before .before .before .before .if3 .left) (omega (arith, c .before .before .before .before .before .before .before .before .struct-known3 .given .1 .1 .0))) (c .before .before .listed .ensures)

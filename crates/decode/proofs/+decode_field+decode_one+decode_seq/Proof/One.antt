@@ -8,7 +8,9 @@ use Rattle.decode.proofs.decode_one.Kinds as decode-one-kinds
 use Rattle.decode.proofs.+decode_field+decode_one+decode_seq.Lts-decode_one as decode-one-lts
 use Rattle.decode.proofs.decode_seq.Reads as decode-seq
 use Rattle.decode.proofs.decode_seq.Kinds as decode-seq-kinds
-use Rattle.decode_leaf.proofs.decode_leaf.Reads as decode-leaf-reads
+use Rattle.decode.proofs.decode_table.Reads as decode-table-reads
+use Rattle.decode.proofs.is_lone.Reads as is-lone-reads
+use Rattle.decode_leaf.proofs.decode_lone.Reads as decode-lone-reads
 use Rattle.decode_leaf.proofs.element_count.Reads as element-count-reads
 use Rattle.decode_leaf.proofs.element_name.Reads as element-name-reads
 use Rattle.decode_leaf.proofs.head_words.Reads as head-words-reads
@@ -25,45 +27,29 @@ use Rattle.layout.proofs.reserved_width.Reads as reserved-width-reads
 use Rattle.spans.proofs.end_of.Reads as end-of-reads
 use Rattle.decode.proofs.+decode_field+decode_one+decode_seq.Proof.Common.{μ-decode-field, μ-decode-one, μ-decode-seq, decode-field-at, decode-field-below, decode-one-at, decode-one-below, decode-seq-at, decode-seq-below}
 use mathlib.Core.Path.{_≡_, refl, sym, ap, _∙_}
-use mathlib.Core.Bool.{true, false}
+use mathlib.Core.Bool.{true, false, cond}
 use mathlib.Core.List.{List, [], _∷_, _++_}
 use Prim.Native.Nat.{_+_, _-_, _*_, _≤_}
 use native.Mathlib.Omega.{arith}
 use borrow.Author.Needs.{needs}
 use lib.ListN.{length, take, drop}
 use Rattle.layout.specs.Layout.{part}
+use Rattle.walks.specs.Reading.{one}
 use Rattle.decode_leaf.specs.Capped.{seq}
 use Rattle.decode_leaf.specs.Machine.{kept}
 use Rattle.decode_leaf.proofs.Meets.{refuse, same-as}
-use Rattle.decode.proofs.Steps.{inside-small}
-use Rattle.decode.proofs.Around.{leaf-named, one-group, header-same, used-fits, inside-stops, inside-done}
+use Rattle.decode.proofs.Steps.{field-never, field-small, inside-small}
+use Rattle.decode.proofs.Turns.{SeqInv, seq-starts, seq-stops, seq-goes, seq-passes, seq-done, TurnsInv, turns-starts, turns-stop, turns-nothing, turns-go, returned-same, returned-written}
+use Rattle.decode.proofs.Around.{listed-met, head-is, counted-is, entry-is, entry-refused, one-group, field-lone, lone-is, lone-kind, not-lone, scalars-table, header-same, used-fits, inside-stops, inside-done}
 
 abbrev pub decode-one-claims : ℕ → decode-one-lts.Claims
-decode-one-claims t = (element-name-reads.Asked, element-name-reads.Learnt, decode-leaf-reads.Asked, decode-leaf-reads.Learnt, refusal-reads.Asked, refusal-reads.Learnt, decode-seq-below t, decode-seq.Post, put-header-reads.Asked, put-header-reads.Learnt)
-
-pub decode-one-element-name-requires : (t : ℕ) → decode-one-lts.Need-element-name-requires (decode-one-claims t) (decode-one-at t) decode-one.Post
-decode-one-element-name-requires t c κs = search needs
-
-pub decode-one-decode-leaf-requires : (t : ℕ) → decode-one-lts.Need-decode-leaf-requires (decode-one-claims t) (decode-one-at t) decode-one.Post
-decode-one-decode-leaf-requires t c κs = c .before .before .before .before .before .before .before .before .before .before .pre .1
-
-pub decode-one-same-length : (t : ℕ) → decode-one-lts.Need-same-length (decode-one-claims t) (decode-one-at t) decode-one.Post
-decode-one-same-length t c = (c .before .before .before .before .before .decode-leaf .kept .1 .1 .0)
-
-pub decode-one-same-length-2 : (t : ℕ) → decode-one-lts.Need-same-length-2 (decode-one-claims t) (decode-one-at t) decode-one.Post
-decode-one-same-length-2 t c = (c .before .before .before .before .before .decode-leaf .kept .1 .1 .1 .0)
-
-pub decode-one-same-length-3 : (t : ℕ) → decode-one-lts.Need-same-length-3 (decode-one-claims t) (decode-one-at t) decode-one.Post
-decode-one-same-length-3 t c = (c .before .before .before .before .before .decode-leaf .kept .1 .1 .1 .1 .0)
-
-pub decode-one-returns : (t : ℕ) → decode-one-lts.Need-returns (decode-one-claims t) (decode-one-at t) decode-one.Post
-decode-one-returns t c = same-as (leaf-named _ _ _ _ _ _ _ _ _ (c .before .before .before .before .before .before .before .before .before .if1 .taken) (c .before .before .before .before .before .before .before .before .before .before .before .element-name .ensures)) (c .before .before .before .before .before .decode-leaf .ensures)
+decode-one-claims t = (refusal-reads.Asked, refusal-reads.Learnt, decode-seq-below t, decode-seq.Post, put-header-reads.Asked, put-header-reads.Learnt)
 
 pub decode-one-refusal-requires : (t : ℕ) → decode-one-lts.Need-refusal-requires (decode-one-claims t) (decode-one-at t) decode-one.Post
 decode-one-refusal-requires t c κs = search needs
 
-pub decode-one-returns-2 : (t : ℕ) → decode-one-lts.Need-returns-2 (decode-one-claims t) (decode-one-at t) decode-one.Post
-decode-one-returns-2 t c = refuse 16 (c .refusal .ensures) (λ e. omega arith) (one-group _ _ _ _ _ _ _ _ _ (c .before .before .if1 .left) ∙ inside-small _ _ _ _ _ _ (c .before .if2 .taken))
+pub decode-one-returns : (t : ℕ) → decode-one-lts.Need-returns (decode-one-claims t) (decode-one-at t) decode-one.Post
+decode-one-returns t c = refuse 16 (c .refusal .ensures) (λ e. omega arith) (inside-small _ _ _ _ _ _ (c .before .if1 .taken))
 
 pub decode-one-sub-decode-seq : (t : ℕ) → decode-one-lts.Need-sub-decode-seq (decode-one-claims t) (decode-one-at t) decode-one.Post
 decode-one-sub-decode-seq t c = omega arith
@@ -75,37 +61,37 @@ pub decode-one-part-decode-seq-end : (t : ℕ) → decode-one-lts.Need-part-deco
 decode-one-part-decode-seq-end t c = omega arith
 
 pub decode-one-decode-seq-requires : (t : ℕ) → decode-one-lts.Need-decode-seq-requires (decode-one-claims t) (decode-one-at t) decode-one.Post
-decode-one-decode-seq-requires t c κs = (omega (arith, c .before .before .before .before .before .before .before .before .before .before .before .pre .0), c .before .before .before .before .before .before .before .before .before .before .before .pre .1)
+decode-one-decode-seq-requires t c κs = (omega (arith, c .before .before .before .before .before .before .before .before .pre .0), c .before .before .before .before .before .before .before .before .pre .1)
 
 pub decode-one-refusal-requires-2 : (t : ℕ) → decode-one-lts.Need-refusal-requires-2 (decode-one-claims t) (decode-one-at t) decode-one.Post
 decode-one-refusal-requires-2 t c κs = search needs
 
-pub decode-one-same-length-4 : (t : ℕ) → decode-one-lts.Need-same-length-4 (decode-one-claims t) (decode-one-at t) decode-one.Post
-decode-one-same-length-4 t c = header-same (c .before .before .before .before .before .before .before .before .before .before .before .before .before .before .before .before .before .before .before .before .args .items .now) (c .before .before .before .before .before .before .before .before .before .before .before .before .if2 .left) (c .before .before .before .before .before .before .before .before .decode-seq .last .1 .1 .0) (c .before .before .before .before .before .before .before .before .decode-seq .kept .1 .1 .0)
+pub decode-one-same-length : (t : ℕ) → decode-one-lts.Need-same-length (decode-one-claims t) (decode-one-at t) decode-one.Post
+decode-one-same-length t c = header-same (c .before .before .before .before .before .before .before .before .before .before .before .before .before .before .before .before .before .args .items .now) (c .before .before .before .before .before .before .before .before .before .before .before .before .if1 .left) (c .before .before .before .before .before .before .before .before .decode-seq .last .1 .1 .0) (c .before .before .before .before .before .before .before .before .decode-seq .kept .1 .1 .0)
 
-pub decode-one-same-length-5 : (t : ℕ) → decode-one-lts.Need-same-length-5 (decode-one-claims t) (decode-one-at t) decode-one.Post
-decode-one-same-length-5 t c = (c .before .before .before .before .before .before .before .before .decode-seq .kept .1 .1 .1 .0)
+pub decode-one-same-length-2 : (t : ℕ) → decode-one-lts.Need-same-length-2 (decode-one-claims t) (decode-one-at t) decode-one.Post
+decode-one-same-length-2 t c = (c .before .before .before .before .before .before .before .before .decode-seq .kept .1 .1 .1 .0)
 
-pub decode-one-same-length-6 : (t : ℕ) → decode-one-lts.Need-same-length-6 (decode-one-claims t) (decode-one-at t) decode-one.Post
-decode-one-same-length-6 t c = (c .before .before .before .before .before .before .before .before .decode-seq .kept .1 .1 .1 .1 .0)
+pub decode-one-same-length-3 : (t : ℕ) → decode-one-lts.Need-same-length-3 (decode-one-claims t) (decode-one-at t) decode-one.Post
+decode-one-same-length-3 t c = (c .before .before .before .before .before .before .before .before .decode-seq .kept .1 .1 .1 .1 .0)
 
-pub decode-one-returns-3 : (t : ℕ) → decode-one-lts.Need-returns-3 (decode-one-claims t) (decode-one-at t) decode-one.Post
-decode-one-returns-3 t c = refuse (c .before .before .before .before .before .before .before .before .decode-seq .result .refused) (c .refusal2 .ensures) (c .before .if3 .taken) (one-group _ _ _ _ _ _ _ _ _ (c .before .before .before .before .before .before .before .before .before .before .before .before .before .if1 .left) ∙ inside-stops (c .before .before .before .before .before .before .before .before .before .before .before .before .before .before .before .before .before .before .before .before .args .items .now) (c .before .before .before .before .before .before .before .before .before .before .before .before .if2 .left) (c .before .before .before .before .before .before .before .before .decode-seq .last .1 .1 .0) (c .before .before .before .before .before .before .before .before .decode-seq .kept .1 .1 .0) _ _ _ _ _ (c .before .before .before .before .before .before .before .before .decode-seq .ensures .refuses (c .before .if3 .taken)))
+pub decode-one-returns-2 : (t : ℕ) → decode-one-lts.Need-returns-2 (decode-one-claims t) (decode-one-at t) decode-one.Post
+decode-one-returns-2 t c = refuse (c .before .before .before .before .before .before .before .before .decode-seq .result .refused) (c .refusal2 .ensures) (c .before .if2 .taken) (inside-stops (c .before .before .before .before .before .before .before .before .before .before .before .before .before .before .before .before .before .args .items .now) (c .before .before .before .before .before .before .before .before .before .before .before .before .if1 .left) (c .before .before .before .before .before .before .before .before .decode-seq .last .1 .1 .0) (c .before .before .before .before .before .before .before .before .decode-seq .kept .1 .1 .0) _ _ _ _ _ (c .before .before .before .before .before .before .before .before .decode-seq .ensures .refuses (c .before .if2 .taken)))
 
 pub decode-one-add-used : (t : ℕ) → decode-one-lts.Need-add-used (decode-one-claims t) (decode-one-at t) decode-one.Post
-decode-one-add-used t c = omega (arith, used-fits (c .before .before .before .before .before .before .before .before .before .before .before .before .before .before .before .before .before .before .before .before .args .items .now) (c .before .before .before .before .before .before .before .before .before .before .before .before .if2 .left) (c .before .before .before .before .before .before .before .before .decode-seq .last .1 .1 .0) (c .before .before .before .before .before .before .before .before .decode-seq .kept .1 .1 .0) ((c .before .before .before .before .before .before .before .before .decode-seq .ensures .fine (c .before .if3 .left)) .within), c .before .before .before .before .before .before .before .before .before .before .before .before .before .before .before .before .before .before .before .before .good .1 .1 .0 .0)
+decode-one-add-used t c = omega (arith, used-fits (c .before .before .before .before .before .before .before .before .before .before .before .before .before .before .before .before .before .args .items .now) (c .before .before .before .before .before .before .before .before .before .before .before .before .if1 .left) (c .before .before .before .before .before .before .before .before .decode-seq .last .1 .1 .0) (c .before .before .before .before .before .before .before .before .decode-seq .kept .1 .1 .0) ((c .before .before .before .before .before .before .before .before .decode-seq .ensures .fine (c .before .if2 .left)) .within), c .before .before .before .before .before .before .before .before .before .before .before .before .before .before .before .before .before .good .1 .1 .0 .0)
 
 pub decode-one-put-header-requires : (t : ℕ) → decode-one-lts.Need-put-header-requires (decode-one-claims t) (decode-one-at t) decode-one.Post
-decode-one-put-header-requires t c κs = omega (arith, header-same (c .before .before .before .before .before .before .before .before .before .before .before .before .before .before .before .before .before .before .before .before .before .args .items .now) (c .before .before .before .before .before .before .before .before .before .before .before .before .before .if2 .left) (c .before .before .before .before .before .before .before .before .before .decode-seq .last .1 .1 .0) (c .before .before .before .before .before .before .before .before .before .decode-seq .kept .1 .1 .0), c .before .before .before .before .before .before .before .before .before .before .before .before .before .if2 .left)
+decode-one-put-header-requires t c κs = omega (arith, header-same (c .before .before .before .before .before .before .before .before .before .before .before .before .before .before .before .before .before .before .args .items .now) (c .before .before .before .before .before .before .before .before .before .before .before .before .before .if1 .left) (c .before .before .before .before .before .before .before .before .before .decode-seq .last .1 .1 .0) (c .before .before .before .before .before .before .before .before .before .decode-seq .kept .1 .1 .0), c .before .before .before .before .before .before .before .before .before .before .before .before .before .if1 .left)
 
-pub decode-one-same-length-7 : (t : ℕ) → decode-one-lts.Need-same-length-7 (decode-one-claims t) (decode-one-at t) decode-one.Post
-decode-one-same-length-7 t c = c .before .before .put-header .kept .0 ∙ header-same (c .before .before .before .before .before .before .before .before .before .before .before .before .before .before .before .before .before .before .before .before .before .before .before .before .args .items .now) (c .before .before .before .before .before .before .before .before .before .before .before .before .before .before .before .before .if2 .left) (c .before .before .before .before .before .before .before .before .before .before .before .before .decode-seq .last .1 .1 .0) (c .before .before .before .before .before .before .before .before .before .before .before .before .decode-seq .kept .1 .1 .0)
+pub decode-one-same-length-4 : (t : ℕ) → decode-one-lts.Need-same-length-4 (decode-one-claims t) (decode-one-at t) decode-one.Post
+decode-one-same-length-4 t c = c .before .before .put-header .kept .0 ∙ header-same (c .before .before .before .before .before .before .before .before .before .before .before .before .before .before .before .before .before .before .before .before .before .args .items .now) (c .before .before .before .before .before .before .before .before .before .before .before .before .before .before .before .before .if1 .left) (c .before .before .before .before .before .before .before .before .before .before .before .before .decode-seq .last .1 .1 .0) (c .before .before .before .before .before .before .before .before .before .before .before .before .decode-seq .kept .1 .1 .0)
 
-pub decode-one-same-length-8 : (t : ℕ) → decode-one-lts.Need-same-length-8 (decode-one-claims t) (decode-one-at t) decode-one.Post
-decode-one-same-length-8 t c = (c .before .before .before .before .before .before .before .before .before .before .before .before .decode-seq .kept .1 .1 .1 .0)
+pub decode-one-same-length-5 : (t : ℕ) → decode-one-lts.Need-same-length-5 (decode-one-claims t) (decode-one-at t) decode-one.Post
+decode-one-same-length-5 t c = (c .before .before .before .before .before .before .before .before .before .before .before .before .decode-seq .kept .1 .1 .1 .0)
 
-pub decode-one-same-length-9 : (t : ℕ) → decode-one-lts.Need-same-length-9 (decode-one-claims t) (decode-one-at t) decode-one.Post
-decode-one-same-length-9 t c = (c .before .before .before .before .before .before .before .before .before .before .before .before .decode-seq .kept .1 .1 .1 .1 .0)
+pub decode-one-same-length-6 : (t : ℕ) → decode-one-lts.Need-same-length-6 (decode-one-claims t) (decode-one-at t) decode-one.Post
+decode-one-same-length-6 t c = (c .before .before .before .before .before .before .before .before .before .before .before .before .decode-seq .kept .1 .1 .1 .1 .0)
 
-pub decode-one-returns-4 : (t : ℕ) → decode-one-lts.Need-returns-4 (decode-one-claims t) (decode-one-at t) decode-one.Post
-decode-one-returns-4 t c = inside-done (c .before .before .before .before .before .before .before .before .before .before .before .before .before .before .before .before .before .before .before .before .before .before .before .before .args .items .now) (c .before .before .before .before .before .before .before .before .before .before .before .before .before .before .before .before .if2 .left) (c .before .before .before .before .before .before .before .before .before .before .before .before .decode-seq .last .1 .1 .0) (c .before .before .before .before .before .before .before .before .before .before .before .before .decode-seq .kept .1 .1 .0) _ _ _ _ (c .before .before .before .before .before .before .before .before .before .before .before .before .before .before .before .before .before .before .before .element-name .ensures) (c .before .before .before .before .before .before .before .before .before .before .before .before .decode-seq .ensures .fine (c .before .before .before .before .before .if3 .left)) (c .before .before .put-header .ensures) (one-group _ _ _ _ _ _ _ _ _ (c .before .before .before .before .before .before .before .before .before .before .before .before .before .before .before .before .before .if1 .left))
+pub decode-one-returns-3 : (t : ℕ) → decode-one-lts.Need-returns-3 (decode-one-claims t) (decode-one-at t) decode-one.Post
+decode-one-returns-3 t c = inside-done (c .before .before .before .before .before .before .before .before .before .before .before .before .before .before .before .before .before .before .before .before .before .args .items .now) (c .before .before .before .before .before .before .before .before .before .before .before .before .before .before .before .before .if1 .left) (c .before .before .before .before .before .before .before .before .before .before .before .before .decode-seq .last .1 .1 .0) (c .before .before .before .before .before .before .before .before .before .before .before .before .decode-seq .kept .1 .1 .0) _ _ _ _ refl (c .before .before .before .before .before .before .before .before .before .before .before .before .decode-seq .ensures .fine (c .before .before .before .before .before .if2 .left)) (c .before .before .put-header .ensures) refl

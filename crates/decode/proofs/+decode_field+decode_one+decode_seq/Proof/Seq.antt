@@ -8,7 +8,9 @@ use Rattle.decode.proofs.decode_one.Kinds as decode-one-kinds
 use Rattle.decode.proofs.decode_seq.Reads as decode-seq
 use Rattle.decode.proofs.decode_seq.Kinds as decode-seq-kinds
 use Rattle.decode.proofs.+decode_field+decode_one+decode_seq.Lts-decode_seq as decode-seq-lts
-use Rattle.decode_leaf.proofs.decode_leaf.Reads as decode-leaf-reads
+use Rattle.decode.proofs.decode_table.Reads as decode-table-reads
+use Rattle.decode.proofs.is_lone.Reads as is-lone-reads
+use Rattle.decode_leaf.proofs.decode_lone.Reads as decode-lone-reads
 use Rattle.decode_leaf.proofs.element_count.Reads as element-count-reads
 use Rattle.decode_leaf.proofs.element_name.Reads as element-name-reads
 use Rattle.decode_leaf.proofs.head_words.Reads as head-words-reads
@@ -25,20 +27,23 @@ use Rattle.layout.proofs.reserved_width.Reads as reserved-width-reads
 use Rattle.spans.proofs.end_of.Reads as end-of-reads
 use Rattle.decode.proofs.+decode_field+decode_one+decode_seq.Proof.Common.{μ-decode-field, μ-decode-one, μ-decode-seq, decode-field-at, decode-field-below, decode-one-at, decode-one-below, decode-seq-at, decode-seq-below}
 use mathlib.Core.Path.{_≡_, refl, sym, ap, _∙_}
-use mathlib.Core.Bool.{true, false}
+use mathlib.Core.Bool.{true, false, cond}
 use mathlib.Core.List.{List, [], _∷_, _++_}
 use Prim.Native.Nat.{_+_, _-_, _*_, _≤_}
 use native.Mathlib.Omega.{arith}
 use borrow.Author.Needs.{needs}
 use lib.ListN.{length, take, drop}
 use Rattle.layout.specs.Layout.{part}
+use Rattle.walks.specs.Reading.{one}
 use Rattle.decode_leaf.specs.Capped.{seq}
 use Rattle.decode_leaf.specs.Machine.{kept}
 use Rattle.decode_leaf.proofs.Meets.{refuse, same-as}
-use Rattle.decode.proofs.Turns.{SeqInv, seq-starts, seq-stops, seq-goes, seq-done, returned-same, returned-written}
+use Rattle.decode.proofs.Steps.{field-never, field-small, inside-small}
+use Rattle.decode.proofs.Turns.{SeqInv, seq-starts, seq-stops, seq-goes, seq-passes, seq-done, TurnsInv, turns-starts, turns-stop, turns-nothing, turns-go, returned-same, returned-written}
+use Rattle.decode.proofs.Around.{listed-met, head-is, counted-is, entry-is, entry-refused, one-group, field-lone, lone-is, lone-kind, not-lone, scalars-table, header-same, used-fits, inside-stops, inside-done}
 
 abbrev pub decode-seq-claims : ℕ → decode-seq-lts.Claims
-decode-seq-claims t = (load-reads.Asked, load-reads.Learnt, end-of-reads.Asked, end-of-reads.Learnt, sat-add-reads.Asked, sat-add-reads.Learnt, decode-field-below t, decode-field.Post, refusal-reads.Asked, refusal-reads.Learnt, reserved-width-reads.Asked, reserved-width-reads.Learnt, less-reads.Asked, less-reads.Learnt, larger-reads.Asked, larger-reads.Learnt)
+decode-seq-claims t = (load-reads.Asked, load-reads.Learnt, end-of-reads.Asked, end-of-reads.Learnt, sat-add-reads.Asked, sat-add-reads.Learnt, is-lone-reads.Asked, is-lone-reads.Learnt, decode-lone-reads.Asked, decode-lone-reads.Learnt, refusal-reads.Asked, refusal-reads.Learnt, larger-reads.Asked, larger-reads.Learnt, decode-field-below t, decode-field.Post, reserved-width-reads.Asked, reserved-width-reads.Learnt, less-reads.Asked, less-reads.Learnt)
 
 abbrev pub decode-seq-Inv-loop : decode-seq-lts.InvT-loop
 decode-seq-Inv-loop layout «record» items₀ text₀ counts₀ page deps lo hi base told i₀ used₀ members₀ shift₀ far₀ behind₀ items text counts i used members shift far behind = SeqInv (λ m. kept layout page m deps) «record» layout items₀ text₀ counts₀ lo hi base told items text counts i used members shift far behind
@@ -67,38 +72,89 @@ decode-seq-sat-add-requires t c κs = search needs
 pub decode-seq-sat-add-requires-2 : (t : ℕ) → decode-seq-lts.Need-sat-add-requires-2 (decode-seq-claims t) (decode-seq-at t) decode-seq.Post decode-seq-Inv-loop decode-seq-μ-loop
 decode-seq-sat-add-requires-2 t c κs = search needs
 
-pub decode-seq-mul-decode-field : (t : ℕ) → decode-seq-lts.Need-mul-decode-field (decode-seq-claims t) (decode-seq-at t) decode-seq.Post decode-seq-Inv-loop decode-seq-μ-loop
-decode-seq-mul-decode-field t c = omega (arith, c .before .before .before .before .before .before .before .loop .inv .written .within, c .before .before .before .before .before .before .before .loop .inv .written .same, c .before .before .before .before .before .before .before .before .before .before .before .before .good .1 .1 .0 .0, c .before .before .before .before .before .before .before .before .before .before .before .before .good .1 .1 .0 .1)
+pub decode-seq-is-lone-requires : (t : ℕ) → decode-seq-lts.Need-is-lone-requires (decode-seq-claims t) (decode-seq-at t) decode-seq.Post decode-seq-Inv-loop decode-seq-μ-loop
+decode-seq-is-lone-requires t c κs = search needs
 
-pub decode-seq-sub-decode-field : (t : ℕ) → decode-seq-lts.Need-sub-decode-field (decode-seq-claims t) (decode-seq-at t) decode-seq.Post decode-seq-Inv-loop decode-seq-μ-loop
-decode-seq-sub-decode-field t c = omega (arith, c .before .before .before .before .before .before .before .loop .inv .written .within, c .before .before .before .before .before .before .before .loop .inv .written .same)
+pub decode-seq-mul-decode-lone : (t : ℕ) → decode-seq-lts.Need-mul-decode-lone (decode-seq-claims t) (decode-seq-at t) decode-seq.Post decode-seq-Inv-loop decode-seq-μ-loop
+decode-seq-mul-decode-lone t c = omega (arith, c .before .before .before .before .before .before .before .before .before .loop .inv .written .within, c .before .before .before .before .before .before .before .before .before .loop .inv .written .same, c .before .before .before .before .before .before .before .before .before .before .before .before .before .before .good .1 .1 .0 .0, c .before .before .before .before .before .before .before .before .before .before .before .before .before .before .good .1 .1 .0 .1)
 
-pub decode-seq-part-decode-field-start : (t : ℕ) → decode-seq-lts.Need-part-decode-field-start (decode-seq-claims t) (decode-seq-at t) decode-seq.Post decode-seq-Inv-loop decode-seq-μ-loop
-decode-seq-part-decode-field-start t c = omega (arith, c .before .before .before .before .before .before .before .loop .inv .written .within, c .before .before .before .before .before .before .before .loop .inv .written .same)
+pub decode-seq-sub-decode-lone : (t : ℕ) → decode-seq-lts.Need-sub-decode-lone (decode-seq-claims t) (decode-seq-at t) decode-seq.Post decode-seq-Inv-loop decode-seq-μ-loop
+decode-seq-sub-decode-lone t c = omega (arith, c .before .before .before .before .before .before .before .before .before .loop .inv .written .within, c .before .before .before .before .before .before .before .before .before .loop .inv .written .same)
 
-pub decode-seq-part-decode-field-end : (t : ℕ) → decode-seq-lts.Need-part-decode-field-end (decode-seq-claims t) (decode-seq-at t) decode-seq.Post decode-seq-Inv-loop decode-seq-μ-loop
-decode-seq-part-decode-field-end t c = omega arith
+pub decode-seq-part-decode-lone-start : (t : ℕ) → decode-seq-lts.Need-part-decode-lone-start (decode-seq-claims t) (decode-seq-at t) decode-seq.Post decode-seq-Inv-loop decode-seq-μ-loop
+decode-seq-part-decode-lone-start t c = omega (arith, c .before .before .before .before .before .before .before .before .before .loop .inv .written .within, c .before .before .before .before .before .before .before .before .before .loop .inv .written .same)
 
-pub decode-seq-add-decode-field : (t : ℕ) → decode-seq-lts.Need-add-decode-field (decode-seq-claims t) (decode-seq-at t) decode-seq.Post decode-seq-Inv-loop decode-seq-μ-loop
-decode-seq-add-decode-field t c = omega (arith, c .before .before .before .before .before .before .before .before .before .loop-test .taken, c .before .before .before .before .before .before .before .before .before .before .before .before .before .before .before .fits .hi)
+pub decode-seq-part-decode-lone-end : (t : ℕ) → decode-seq-lts.Need-part-decode-lone-end (decode-seq-claims t) (decode-seq-at t) decode-seq.Post decode-seq-Inv-loop decode-seq-μ-loop
+decode-seq-part-decode-lone-end t c = omega arith
 
-pub decode-seq-decode-field-requires : (t : ℕ) → decode-seq-lts.Need-decode-field-requires (decode-seq-claims t) (decode-seq-at t) decode-seq.Post decode-seq-Inv-loop decode-seq-μ-loop
-decode-seq-decode-field-requires t c κs = (omega (arith, c .before .before .before .before .before .before .before .before .before .before .before .before .before .before .before .pre .0, c .before .before .before .before .before .before .before .before .before .before .loop .inv .past, c .before .before .before .before .before .before .before .before .before .loop-test .taken, c .before .before .before .before .before .before .end-of .ensures), c .before .before .before .before .before .before .before .before .before .before .loop .inv .fits)
+pub decode-seq-decode-lone-requires : (t : ℕ) → decode-seq-lts.Need-decode-lone-requires (decode-seq-claims t) (decode-seq-at t) decode-seq.Post decode-seq-Inv-loop decode-seq-μ-loop
+decode-seq-decode-lone-requires t c κs = c .before .before .before .before .before .before .before .before .before .before .before .before .loop .inv .fits
 
 pub decode-seq-refusal-requires : (t : ℕ) → decode-seq-lts.Need-refusal-requires (decode-seq-claims t) (decode-seq-at t) decode-seq.Post decode-seq-Inv-loop decode-seq-μ-loop
 decode-seq-refusal-requires t c κs = search needs
 
 pub decode-seq-same-length : (t : ℕ) → decode-seq-lts.Need-same-length (decode-seq-claims t) (decode-seq-at t) decode-seq.Post decode-seq-Inv-loop decode-seq-μ-loop
-decode-seq-same-length t c = returned-same (c .before .before .before .before .before .before .before .before .before .before .before .before .before .before .before .before .before .before .before .loop .inv .written) (c .before .before .before .before .before .before .before .before .decode-field .last .1 .1 .0) (c .before .before .before .before .before .before .before .before .decode-field .kept .1 .1 .0) ∙ c .before .before .before .before .before .before .before .before .before .before .before .before .before .before .before .before .before .before .before .loop .inv .written .same
+decode-seq-same-length t c = returned-same (c .before .before .before .before .before .before .before .before .before .before .before .before .before .before .before .before .before .before .before .before .before .loop .inv .written) (c .before .before .before .before .before .before .before .before .decode-lone .last .1 .1 .0) (c .before .before .before .before .before .before .before .before .decode-lone .kept .1 .1 .0) ∙ c .before .before .before .before .before .before .before .before .before .before .before .before .before .before .before .before .before .before .before .before .before .loop .inv .written .same
 
 pub decode-seq-same-length-2 : (t : ℕ) → decode-seq-lts.Need-same-length-2 (decode-seq-claims t) (decode-seq-at t) decode-seq.Post decode-seq-Inv-loop decode-seq-μ-loop
-decode-seq-same-length-2 t c = (c .before .before .before .before .before .before .before .before .decode-field .kept .1 .1 .1 .0) ∙ c .before .before .before .before .before .before .before .before .before .before .before .before .before .before .before .before .before .before .before .loop .inv .texts
+decode-seq-same-length-2 t c = (c .before .before .before .before .before .before .before .before .decode-lone .kept .1 .1 .1 .0) ∙ c .before .before .before .before .before .before .before .before .before .before .before .before .before .before .before .before .before .before .before .before .before .loop .inv .texts
 
 pub decode-seq-same-length-3 : (t : ℕ) → decode-seq-lts.Need-same-length-3 (decode-seq-claims t) (decode-seq-at t) decode-seq.Post decode-seq-Inv-loop decode-seq-μ-loop
-decode-seq-same-length-3 t c = (c .before .before .before .before .before .before .before .before .decode-field .kept .1 .1 .1 .1 .0) ∙ c .before .before .before .before .before .before .before .before .before .before .before .before .before .before .before .before .before .before .before .loop .inv .kept
+decode-seq-same-length-3 t c = (c .before .before .before .before .before .before .before .before .decode-lone .kept .1 .1 .1 .1 .0) ∙ c .before .before .before .before .before .before .before .before .before .before .before .before .before .before .before .before .before .before .before .before .before .loop .inv .kept
 
 pub decode-seq-returns : (t : ℕ) → decode-seq-lts.Need-returns (decode-seq-claims t) (decode-seq-at t) decode-seq.Post decode-seq-Inv-loop decode-seq-μ-loop
-decode-seq-returns t c = refuse (c .before .before .before .before .before .before .before .before .decode-field .result .refused) (c .refusal .ensures) (c .before .if1 .taken) (seq-stops (c .before .before .before .before .before .before .before .before .before .before .before .before .before .before .before .before .before .before .before .loop .inv) _ _ _ _ (c .before .before .before .before .before .before .before .before .before .before .before .before .before .before .before .before .before .before .loop-test .taken) (c .before .before .before .before .before .before .before .before .before .before .before .before .before .before .before .before .before .load .ensures) (c .before .before .before .before .before .before .before .before .before .before .before .before .before .before .before .end-of .ensures) (c .before .before .before .before .before .before .before .before .before .before .before .before .before .sat-add .ensures) (c .before .before .before .before .before .before .before .before .before .before .before .before .sat-add2 .ensures) (c .before .before .before .before .before .before .before .before .decode-field .last .1 .1 .0) (c .before .before .before .before .before .before .before .before .decode-field .kept .1 .1 .0) _ (c .before .before .before .before .before .before .before .before .decode-field .ensures .refuses (c .before .if1 .taken)))
+decode-seq-returns t c = refuse (c .before .before .before .before .before .before .before .before .decode-lone .result .refused) (c .refusal .ensures) (c .before .if2 .taken) (seq-stops (c .before .before .before .before .before .before .before .before .before .before .before .before .before .before .before .before .before .before .before .before .before .loop .inv) _ _ _ _ (c .before .before .before .before .before .before .before .before .before .before .before .before .before .before .before .before .before .before .before .before .loop-test .taken) (c .before .before .before .before .before .before .before .before .before .before .before .before .before .before .before .before .before .before .before .load .ensures) (c .before .before .before .before .before .before .before .before .before .before .before .before .before .before .before .before .before .end-of .ensures) (c .before .before .before .before .before .before .before .before .before .before .before .before .before .before .before .sat-add .ensures) (c .before .before .before .before .before .before .before .before .before .before .before .before .before .before .sat-add2 .ensures) (c .before .before .before .before .before .before .before .before .decode-lone .last .1 .1 .0) (c .before .before .before .before .before .before .before .before .decode-lone .kept .1 .1 .0) _ ((same-as (field-lone _ _ _ _ _ _ _ (lone-kind (c .before .before .before .before .before .before .before .before .before .before .before .before .before .before .before .before .before .before .before .load .result) (c .before .before .before .before .before .before .before .before .before .before .before .before .before .is-lone .ensures) (c .before .before .before .before .before .before .before .before .before .before .before .before .if1 .taken)) (lone-is (c .before .before .before .before .before .before .before .before .before .before .before .before .before .before .before .before .before .before .before .load .result) (c .before .before .before .before .before .before .before .before .before .before .before .before .before .is-lone .ensures) (c .before .before .before .before .before .before .before .before .before .before .before .before .if1 .taken))) (c .before .before .before .before .before .before .before .before .decode-lone .ensures)) .refuses (c .before .if2 .taken)))
+
+pub decode-seq-sat-add-requires-3 : (t : ℕ) → decode-seq-lts.Need-sat-add-requires-3 (decode-seq-claims t) (decode-seq-at t) decode-seq.Post decode-seq-Inv-loop decode-seq-μ-loop
+decode-seq-sat-add-requires-3 t c κs = search needs
+
+pub decode-seq-larger-requires : (t : ℕ) → decode-seq-lts.Need-larger-requires (decode-seq-claims t) (decode-seq-at t) decode-seq.Post decode-seq-Inv-loop decode-seq-μ-loop
+decode-seq-larger-requires t c κs = search needs
+
+pub decode-seq-add-used : (t : ℕ) → decode-seq-lts.Need-add-used (decode-seq-claims t) (decode-seq-at t) decode-seq.Post decode-seq-Inv-loop decode-seq-μ-loop
+decode-seq-add-used t c = omega (arith, returned-written (c .before .before .before .before .before .before .before .before .before .before .before .before .before .before .before .before .before .before .before .before .before .before .before .loop .inv .written) (c .before .before .before .before .before .before .before .before .before .before .decode-lone .last .1 .1 .0) (c .before .before .before .before .before .before .before .before .before .before .decode-lone .kept .1 .1 .0) _ ((c .before .before .before .before .before .before .before .before .before .before .decode-lone .ensures .fine (c .before .before .before .if2 .left)) .within) .within, c .before .before .before .before .before .before .before .before .before .before .before .before .before .before .before .before .before .before .before .before .before .before .before .before .before .before .before .before .good .1 .1 .0 .0)
+
+pub decode-seq-add-members : (t : ℕ) → decode-seq-lts.Need-add-members (decode-seq-claims t) (decode-seq-at t) decode-seq.Post decode-seq-Inv-loop decode-seq-μ-loop
+decode-seq-add-members t c = omega (arith, returned-written (c .before .before .before .before .before .before .before .before .before .before .before .before .before .before .before .before .before .before .before .before .before .before .before .before .loop .inv .written) (c .before .before .before .before .before .before .before .before .before .before .before .decode-lone .last .1 .1 .0) (c .before .before .before .before .before .before .before .before .before .before .before .decode-lone .kept .1 .1 .0) _ ((c .before .before .before .before .before .before .before .before .before .before .before .decode-lone .ensures .fine (c .before .before .before .before .if2 .left)) .within) .within, c .before .before .before .before .before .before .before .before .before .before .before .before .before .before .before .before .before .before .before .before .before .before .before .before .before .before .before .before .before .good .1 .1 .0 .0, c .before .before .before .before .before .before .before .before .before .before .before .before .before .before .before .before .before .before .before .before .before .before .before .before .loop .inv .few, (c .before .before .before .before .before .before .before .before .before .before .before .decode-lone .ensures .fine (c .before .before .before .before .if2 .left)) .few)
+
+pub decode-seq-loop-less : (t : ℕ) → decode-seq-lts.Need-loop-less (decode-seq-claims t) (decode-seq-at t) decode-seq.Post decode-seq-Inv-loop decode-seq-μ-loop
+decode-seq-loop-less t c = omega (arith, c .before .before .before .before .before .before .before .before .before .before .before .before .before .before .before .before .before .before .before .before .end-of .ensures, c .before .before .before .before .before .before .before .before .before .before .before .before .before .before .before .before .before .before .before .before .before .before .before .loop-test .taken)
+
+pub decode-seq-loop-again : (t : ℕ) → decode-seq-lts.Need-loop-again (decode-seq-claims t) (decode-seq-at t) decode-seq.Post decode-seq-Inv-loop decode-seq-μ-loop
+decode-seq-loop-again t c = seq-passes (c .before .before .before .before .before .before .before .before .before .before .before .before .before .before .before .before .before .before .before .before .before .before .before .before .loop .inv) _ _ _ _ (c .before .before .before .before .before .before .before .before .before .before .before .before .before .before .before .before .before .before .before .before .before .before .before .loop-test .taken) (c .before .before .before .before .before .before .before .before .before .before .before .before .before .before .before .before .before .before .before .before .before .before .load .ensures) (c .before .before .before .before .before .before .before .before .before .before .before .before .before .before .before .before .before .before .before .before .end-of .ensures) (c .before .before .before .before .before .before .before .before .before .before .before .before .before .before .before .before .before .before .sat-add .ensures) (c .before .before .before .before .before .before .before .before .before .before .before .before .before .before .before .before .before .sat-add2 .ensures) (c .before .before .before .before .before .before .before .before .before .before .before .decode-lone .last .1 .1 .0) (c .before .before .before .before .before .before .before .before .before .before .before .decode-lone .kept .1 .1 .0) (c .before .before .before .before .before .before .before .before .before .before .before .decode-lone .result) (c .before .before .before .before .before .before .before .before .before .before .before .decode-lone .last .1 .1 .1 .0) (c .before .before .before .before .before .before .before .before .before .before .before .decode-lone .last .1 .1 .1 .1 .0) ((same-as (field-lone _ _ _ _ _ _ _ (lone-kind (c .before .before .before .before .before .before .before .before .before .before .before .before .before .before .before .before .before .before .before .before .before .before .load .result) (c .before .before .before .before .before .before .before .before .before .before .before .before .before .before .before .before .is-lone .ensures) (c .before .before .before .before .before .before .before .before .before .before .before .before .before .before .before .if1 .taken)) (lone-is (c .before .before .before .before .before .before .before .before .before .before .before .before .before .before .before .before .before .before .before .before .before .before .load .result) (c .before .before .before .before .before .before .before .before .before .before .before .before .before .before .before .before .is-lone .ensures) (c .before .before .before .before .before .before .before .before .before .before .before .before .before .before .before .if1 .taken))) (c .before .before .before .before .before .before .before .before .before .before .before .decode-lone .ensures)) .fine (c .before .before .before .before .if2 .left)) (lone-is (c .before .before .before .before .before .before .before .before .before .before .before .before .before .before .before .before .before .before .before .before .before .before .load .result) (c .before .before .before .before .before .before .before .before .before .before .before .before .before .before .before .before .is-lone .ensures) (c .before .before .before .before .before .before .before .before .before .before .before .before .before .before .before .if1 .taken)) (field-lone _ _ _ _ _ _ _ (lone-kind (c .before .before .before .before .before .before .before .before .before .before .before .before .before .before .before .before .before .before .before .before .before .before .load .result) (c .before .before .before .before .before .before .before .before .before .before .before .before .before .before .before .before .is-lone .ensures) (c .before .before .before .before .before .before .before .before .before .before .before .before .before .before .before .if1 .taken)) (lone-is (c .before .before .before .before .before .before .before .before .before .before .before .before .before .before .before .before .before .before .before .before .before .before .load .result) (c .before .before .before .before .before .before .before .before .before .before .before .before .before .before .before .before .is-lone .ensures) (c .before .before .before .before .before .before .before .before .before .before .before .before .before .before .before .if1 .taken))) _ _ (c .before .before .before .before .before .before .before .before .before .before .before .decode-lone .kept .1 .1 .1 .0) (c .before .before .before .before .before .before .before .before .before .before .before .decode-lone .kept .1 .1 .1 .1 .0) (c .before .before .before .sat-add3 .ensures) (c .before .before .larger .ensures)
+
+pub decode-seq-mul-decode-field : (t : ℕ) → decode-seq-lts.Need-mul-decode-field (decode-seq-claims t) (decode-seq-at t) decode-seq.Post decode-seq-Inv-loop decode-seq-μ-loop
+decode-seq-mul-decode-field t c = omega (arith, c .before .before .before .before .before .before .before .before .before .loop .inv .written .within, c .before .before .before .before .before .before .before .before .before .loop .inv .written .same, c .before .before .before .before .before .before .before .before .before .before .before .before .before .before .good .1 .1 .0 .0, c .before .before .before .before .before .before .before .before .before .before .before .before .before .before .good .1 .1 .0 .1)
+
+pub decode-seq-sub-decode-field : (t : ℕ) → decode-seq-lts.Need-sub-decode-field (decode-seq-claims t) (decode-seq-at t) decode-seq.Post decode-seq-Inv-loop decode-seq-μ-loop
+decode-seq-sub-decode-field t c = omega (arith, c .before .before .before .before .before .before .before .before .before .loop .inv .written .within, c .before .before .before .before .before .before .before .before .before .loop .inv .written .same)
+
+pub decode-seq-part-decode-field-start : (t : ℕ) → decode-seq-lts.Need-part-decode-field-start (decode-seq-claims t) (decode-seq-at t) decode-seq.Post decode-seq-Inv-loop decode-seq-μ-loop
+decode-seq-part-decode-field-start t c = omega (arith, c .before .before .before .before .before .before .before .before .before .loop .inv .written .within, c .before .before .before .before .before .before .before .before .before .loop .inv .written .same)
+
+pub decode-seq-part-decode-field-end : (t : ℕ) → decode-seq-lts.Need-part-decode-field-end (decode-seq-claims t) (decode-seq-at t) decode-seq.Post decode-seq-Inv-loop decode-seq-μ-loop
+decode-seq-part-decode-field-end t c = omega arith
+
+pub decode-seq-add-decode-field : (t : ℕ) → decode-seq-lts.Need-add-decode-field (decode-seq-claims t) (decode-seq-at t) decode-seq.Post decode-seq-Inv-loop decode-seq-μ-loop
+decode-seq-add-decode-field t c = omega (arith, c .before .before .before .before .before .before .before .before .before .before .before .loop-test .taken, c .before .before .before .before .before .before .before .before .before .before .before .before .before .before .before .before .before .fits .hi)
+
+pub decode-seq-decode-field-requires : (t : ℕ) → decode-seq-lts.Need-decode-field-requires (decode-seq-claims t) (decode-seq-at t) decode-seq.Post decode-seq-Inv-loop decode-seq-μ-loop
+decode-seq-decode-field-requires t c κs = (omega (arith, c .before .before .before .before .before .before .before .before .before .before .before .before .before .before .before .before .before .pre .0, c .before .before .before .before .before .before .before .before .before .before .before .before .loop .inv .past, c .before .before .before .before .before .before .before .before .before .before .before .loop-test .taken, c .before .before .before .before .before .before .before .before .end-of .ensures), (c .before .before .before .before .before .before .before .before .before .before .before .before .loop .inv .fits, sym (c .before .before .before .before .is-lone .ensures) ∙ c .before .before .before .if1 .left))
+
+pub decode-seq-refusal-requires-2 : (t : ℕ) → decode-seq-lts.Need-refusal-requires-2 (decode-seq-claims t) (decode-seq-at t) decode-seq.Post decode-seq-Inv-loop decode-seq-μ-loop
+decode-seq-refusal-requires-2 t c κs = search needs
+
+pub decode-seq-same-length-4 : (t : ℕ) → decode-seq-lts.Need-same-length-4 (decode-seq-claims t) (decode-seq-at t) decode-seq.Post decode-seq-Inv-loop decode-seq-μ-loop
+decode-seq-same-length-4 t c = returned-same (c .before .before .before .before .before .before .before .before .before .before .before .before .before .before .before .before .before .before .before .before .before .loop .inv .written) (c .before .before .before .before .before .before .before .before .decode-field .last .1 .1 .0) (c .before .before .before .before .before .before .before .before .decode-field .kept .1 .1 .0) ∙ c .before .before .before .before .before .before .before .before .before .before .before .before .before .before .before .before .before .before .before .before .before .loop .inv .written .same
+
+pub decode-seq-same-length-5 : (t : ℕ) → decode-seq-lts.Need-same-length-5 (decode-seq-claims t) (decode-seq-at t) decode-seq.Post decode-seq-Inv-loop decode-seq-μ-loop
+decode-seq-same-length-5 t c = (c .before .before .before .before .before .before .before .before .decode-field .kept .1 .1 .1 .0) ∙ c .before .before .before .before .before .before .before .before .before .before .before .before .before .before .before .before .before .before .before .before .before .loop .inv .texts
+
+pub decode-seq-same-length-6 : (t : ℕ) → decode-seq-lts.Need-same-length-6 (decode-seq-claims t) (decode-seq-at t) decode-seq.Post decode-seq-Inv-loop decode-seq-μ-loop
+decode-seq-same-length-6 t c = (c .before .before .before .before .before .before .before .before .decode-field .kept .1 .1 .1 .1 .0) ∙ c .before .before .before .before .before .before .before .before .before .before .before .before .before .before .before .before .before .before .before .before .before .loop .inv .kept
+
+pub decode-seq-returns-2 : (t : ℕ) → decode-seq-lts.Need-returns-2 (decode-seq-claims t) (decode-seq-at t) decode-seq.Post decode-seq-Inv-loop decode-seq-μ-loop
+decode-seq-returns-2 t c = refuse (c .before .before .before .before .before .before .before .before .decode-field .result .refused) (c .refusal2 .ensures) (c .before .if3 .taken) (seq-stops (c .before .before .before .before .before .before .before .before .before .before .before .before .before .before .before .before .before .before .before .before .before .loop .inv) _ _ _ _ (c .before .before .before .before .before .before .before .before .before .before .before .before .before .before .before .before .before .before .before .before .loop-test .taken) (c .before .before .before .before .before .before .before .before .before .before .before .before .before .before .before .before .before .before .before .load .ensures) (c .before .before .before .before .before .before .before .before .before .before .before .before .before .before .before .before .before .end-of .ensures) (c .before .before .before .before .before .before .before .before .before .before .before .before .before .before .before .sat-add .ensures) (c .before .before .before .before .before .before .before .before .before .before .before .before .before .before .sat-add2 .ensures) (c .before .before .before .before .before .before .before .before .decode-field .last .1 .1 .0) (c .before .before .before .before .before .before .before .before .decode-field .kept .1 .1 .0) _ (c .before .before .before .before .before .before .before .before .decode-field .ensures .refuses (c .before .if3 .taken)))
 
 pub decode-seq-reserved-width-requires : (t : ℕ) → decode-seq-lts.Need-reserved-width-requires (decode-seq-claims t) (decode-seq-at t) decode-seq.Post decode-seq-Inv-loop decode-seq-μ-loop
 decode-seq-reserved-width-requires t c κs = search needs
@@ -106,35 +162,35 @@ decode-seq-reserved-width-requires t c κs = search needs
 pub decode-seq-less-requires : (t : ℕ) → decode-seq-lts.Need-less-requires (decode-seq-claims t) (decode-seq-at t) decode-seq.Post decode-seq-Inv-loop decode-seq-μ-loop
 decode-seq-less-requires t c κs = search needs
 
-pub decode-seq-sat-add-requires-3 : (t : ℕ) → decode-seq-lts.Need-sat-add-requires-3 (decode-seq-claims t) (decode-seq-at t) decode-seq.Post decode-seq-Inv-loop decode-seq-μ-loop
-decode-seq-sat-add-requires-3 t c κs = search needs
-
 pub decode-seq-sat-add-requires-4 : (t : ℕ) → decode-seq-lts.Need-sat-add-requires-4 (decode-seq-claims t) (decode-seq-at t) decode-seq.Post decode-seq-Inv-loop decode-seq-μ-loop
 decode-seq-sat-add-requires-4 t c κs = search needs
 
-pub decode-seq-larger-requires : (t : ℕ) → decode-seq-lts.Need-larger-requires (decode-seq-claims t) (decode-seq-at t) decode-seq.Post decode-seq-Inv-loop decode-seq-μ-loop
-decode-seq-larger-requires t c κs = search needs
+pub decode-seq-sat-add-requires-5 : (t : ℕ) → decode-seq-lts.Need-sat-add-requires-5 (decode-seq-claims t) (decode-seq-at t) decode-seq.Post decode-seq-Inv-loop decode-seq-μ-loop
+decode-seq-sat-add-requires-5 t c κs = search needs
 
-pub decode-seq-add-used : (t : ℕ) → decode-seq-lts.Need-add-used (decode-seq-claims t) (decode-seq-at t) decode-seq.Post decode-seq-Inv-loop decode-seq-μ-loop
-decode-seq-add-used t c = omega (arith, returned-written (c .before .before .before .before .before .before .before .before .before .before .before .before .before .before .before .before .before .before .before .before .before .before .before .before .loop .inv .written) (c .before .before .before .before .before .before .before .before .before .before .before .before .before .decode-field .last .1 .1 .0) (c .before .before .before .before .before .before .before .before .before .before .before .before .before .decode-field .kept .1 .1 .0) _ ((c .before .before .before .before .before .before .before .before .before .before .before .before .before .decode-field .ensures .fine (c .before .before .before .before .before .before .if1 .left)) .within) .within, c .before .before .before .before .before .before .before .before .before .before .before .before .before .before .before .before .before .before .before .before .before .before .before .before .before .before .before .before .before .good .1 .1 .0 .0)
+pub decode-seq-larger-requires-2 : (t : ℕ) → decode-seq-lts.Need-larger-requires-2 (decode-seq-claims t) (decode-seq-at t) decode-seq.Post decode-seq-Inv-loop decode-seq-μ-loop
+decode-seq-larger-requires-2 t c κs = search needs
 
-pub decode-seq-add-members : (t : ℕ) → decode-seq-lts.Need-add-members (decode-seq-claims t) (decode-seq-at t) decode-seq.Post decode-seq-Inv-loop decode-seq-μ-loop
-decode-seq-add-members t c = omega (arith, returned-written (c .before .before .before .before .before .before .before .before .before .before .before .before .before .before .before .before .before .before .before .before .before .before .before .before .before .loop .inv .written) (c .before .before .before .before .before .before .before .before .before .before .before .before .before .before .decode-field .last .1 .1 .0) (c .before .before .before .before .before .before .before .before .before .before .before .before .before .before .decode-field .kept .1 .1 .0) _ ((c .before .before .before .before .before .before .before .before .before .before .before .before .before .before .decode-field .ensures .fine (c .before .before .before .before .before .before .before .if1 .left)) .within) .within, c .before .before .before .before .before .before .before .before .before .before .before .before .before .before .before .before .before .before .before .before .before .before .before .before .before .before .before .before .before .before .good .1 .1 .0 .0, c .before .before .before .before .before .before .before .before .before .before .before .before .before .before .before .before .before .before .before .before .before .before .before .before .before .loop .inv .few, (c .before .before .before .before .before .before .before .before .before .before .before .before .before .before .decode-field .ensures .fine (c .before .before .before .before .before .before .before .if1 .left)) .few)
+pub decode-seq-add-used-2 : (t : ℕ) → decode-seq-lts.Need-add-used-2 (decode-seq-claims t) (decode-seq-at t) decode-seq.Post decode-seq-Inv-loop decode-seq-μ-loop
+decode-seq-add-used-2 t c = omega (arith, returned-written (c .before .before .before .before .before .before .before .before .before .before .before .before .before .before .before .before .before .before .before .before .before .before .before .before .before .before .loop .inv .written) (c .before .before .before .before .before .before .before .before .before .before .before .before .before .decode-field .last .1 .1 .0) (c .before .before .before .before .before .before .before .before .before .before .before .before .before .decode-field .kept .1 .1 .0) _ ((c .before .before .before .before .before .before .before .before .before .before .before .before .before .decode-field .ensures .fine (c .before .before .before .before .before .before .if3 .left)) .within) .within, c .before .before .before .before .before .before .before .before .before .before .before .before .before .before .before .before .before .before .before .before .before .before .before .before .before .before .before .before .before .before .before .good .1 .1 .0 .0)
 
-pub decode-seq-loop-less : (t : ℕ) → decode-seq-lts.Need-loop-less (decode-seq-claims t) (decode-seq-at t) decode-seq.Post decode-seq-Inv-loop decode-seq-μ-loop
-decode-seq-loop-less t c = omega (arith, c .before .before .before .before .before .before .before .before .before .before .before .before .before .before .before .before .before .before .before .before .before .end-of .ensures, c .before .before .before .before .before .before .before .before .before .before .before .before .before .before .before .before .before .before .before .before .before .before .before .before .loop-test .taken)
+pub decode-seq-add-members-2 : (t : ℕ) → decode-seq-lts.Need-add-members-2 (decode-seq-claims t) (decode-seq-at t) decode-seq.Post decode-seq-Inv-loop decode-seq-μ-loop
+decode-seq-add-members-2 t c = omega (arith, returned-written (c .before .before .before .before .before .before .before .before .before .before .before .before .before .before .before .before .before .before .before .before .before .before .before .before .before .before .before .loop .inv .written) (c .before .before .before .before .before .before .before .before .before .before .before .before .before .before .decode-field .last .1 .1 .0) (c .before .before .before .before .before .before .before .before .before .before .before .before .before .before .decode-field .kept .1 .1 .0) _ ((c .before .before .before .before .before .before .before .before .before .before .before .before .before .before .decode-field .ensures .fine (c .before .before .before .before .before .before .before .if3 .left)) .within) .within, c .before .before .before .before .before .before .before .before .before .before .before .before .before .before .before .before .before .before .before .before .before .before .before .before .before .before .before .before .before .before .before .before .good .1 .1 .0 .0, c .before .before .before .before .before .before .before .before .before .before .before .before .before .before .before .before .before .before .before .before .before .before .before .before .before .before .before .loop .inv .few, (c .before .before .before .before .before .before .before .before .before .before .before .before .before .before .decode-field .ensures .fine (c .before .before .before .before .before .before .before .if3 .left)) .few)
 
-pub decode-seq-loop-again : (t : ℕ) → decode-seq-lts.Need-loop-again (decode-seq-claims t) (decode-seq-at t) decode-seq.Post decode-seq-Inv-loop decode-seq-μ-loop
-decode-seq-loop-again t c = seq-goes (c .before .before .before .before .before .before .before .before .before .before .before .before .before .before .before .before .before .before .before .before .before .before .before .before .before .loop .inv) _ _ _ _ (c .before .before .before .before .before .before .before .before .before .before .before .before .before .before .before .before .before .before .before .before .before .before .before .before .loop-test .taken) (c .before .before .before .before .before .before .before .before .before .before .before .before .before .before .before .before .before .before .before .before .before .before .before .load .ensures) (c .before .before .before .before .before .before .before .before .before .before .before .before .before .before .before .before .before .before .before .before .before .end-of .ensures) (c .before .before .before .before .before .before .before .before .before .before .before .before .before .before .before .before .before .before .before .sat-add .ensures) (c .before .before .before .before .before .before .before .before .before .before .before .before .before .before .before .before .before .before .sat-add2 .ensures) (c .before .before .before .before .before .before .before .before .before .before .before .before .before .before .decode-field .last .1 .1 .0) (c .before .before .before .before .before .before .before .before .before .before .before .before .before .before .decode-field .kept .1 .1 .0) (c .before .before .before .before .before .before .before .before .before .before .before .before .before .before .decode-field .result) (c .before .before .before .before .before .before .before .before .before .before .before .before .before .before .decode-field .last .1 .1 .1 .0) (c .before .before .before .before .before .before .before .before .before .before .before .before .before .before .decode-field .last .1 .1 .1 .1 .0) (c .before .before .before .before .before .before .before .before .before .before .before .before .before .before .decode-field .ensures .fine (c .before .before .before .before .before .before .before .if1 .left)) _ _ _ _ _ (c .before .before .before .before .before .before .before .before .before .before .before .before .before .before .decode-field .kept .1 .1 .1 .0) (c .before .before .before .before .before .before .before .before .before .before .before .before .before .before .decode-field .kept .1 .1 .1 .1 .0) (c .before .before .before .before .before .before .reserved-width .ensures) (c .before .before .before .before .before .less .ensures) (c .before .before .before .before .sat-add3 .ensures) (c .before .before .before .sat-add4 .ensures) (c .before .before .larger .ensures)
+pub decode-seq-loop-less-2 : (t : ℕ) → decode-seq-lts.Need-loop-less-2 (decode-seq-claims t) (decode-seq-at t) decode-seq.Post decode-seq-Inv-loop decode-seq-μ-loop
+decode-seq-loop-less-2 t c = omega (arith, c .before .before .before .before .before .before .before .before .before .before .before .before .before .before .before .before .before .before .before .before .before .before .before .end-of .ensures, c .before .before .before .before .before .before .before .before .before .before .before .before .before .before .before .before .before .before .before .before .before .before .before .before .before .before .loop-test .taken)
 
-pub decode-seq-same-length-4 : (t : ℕ) → decode-seq-lts.Need-same-length-4 (decode-seq-claims t) (decode-seq-at t) decode-seq.Post decode-seq-Inv-loop decode-seq-μ-loop
-decode-seq-same-length-4 t c = c .before .loop .inv .written .same
+pub decode-seq-loop-again-2 : (t : ℕ) → decode-seq-lts.Need-loop-again-2 (decode-seq-claims t) (decode-seq-at t) decode-seq.Post decode-seq-Inv-loop decode-seq-μ-loop
+decode-seq-loop-again-2 t c = seq-goes (c .before .before .before .before .before .before .before .before .before .before .before .before .before .before .before .before .before .before .before .before .before .before .before .before .before .before .before .loop .inv) _ _ _ _ (c .before .before .before .before .before .before .before .before .before .before .before .before .before .before .before .before .before .before .before .before .before .before .before .before .before .before .loop-test .taken) (c .before .before .before .before .before .before .before .before .before .before .before .before .before .before .before .before .before .before .before .before .before .before .before .before .before .load .ensures) (c .before .before .before .before .before .before .before .before .before .before .before .before .before .before .before .before .before .before .before .before .before .before .before .end-of .ensures) (c .before .before .before .before .before .before .before .before .before .before .before .before .before .before .before .before .before .before .before .before .before .sat-add .ensures) (c .before .before .before .before .before .before .before .before .before .before .before .before .before .before .before .before .before .before .before .before .sat-add2 .ensures) (c .before .before .before .before .before .before .before .before .before .before .before .before .before .before .decode-field .last .1 .1 .0) (c .before .before .before .before .before .before .before .before .before .before .before .before .before .before .decode-field .kept .1 .1 .0) (c .before .before .before .before .before .before .before .before .before .before .before .before .before .before .decode-field .result) (c .before .before .before .before .before .before .before .before .before .before .before .before .before .before .decode-field .last .1 .1 .1 .0) (c .before .before .before .before .before .before .before .before .before .before .before .before .before .before .decode-field .last .1 .1 .1 .1 .0) (c .before .before .before .before .before .before .before .before .before .before .before .before .before .before .decode-field .ensures .fine (c .before .before .before .before .before .before .before .if3 .left)) _ _ _ _ _ (c .before .before .before .before .before .before .before .before .before .before .before .before .before .before .decode-field .kept .1 .1 .1 .0) (c .before .before .before .before .before .before .before .before .before .before .before .before .before .before .decode-field .kept .1 .1 .1 .1 .0) (c .before .before .before .before .before .before .reserved-width .ensures) (c .before .before .before .before .before .less .ensures) (c .before .before .before .before .sat-add4 .ensures) (c .before .before .before .sat-add5 .ensures) (c .before .before .larger2 .ensures)
 
-pub decode-seq-same-length-5 : (t : ℕ) → decode-seq-lts.Need-same-length-5 (decode-seq-claims t) (decode-seq-at t) decode-seq.Post decode-seq-Inv-loop decode-seq-μ-loop
-decode-seq-same-length-5 t c = c .before .loop .inv .texts
+pub decode-seq-same-length-7 : (t : ℕ) → decode-seq-lts.Need-same-length-7 (decode-seq-claims t) (decode-seq-at t) decode-seq.Post decode-seq-Inv-loop decode-seq-μ-loop
+decode-seq-same-length-7 t c = c .before .loop .inv .written .same
 
-pub decode-seq-same-length-6 : (t : ℕ) → decode-seq-lts.Need-same-length-6 (decode-seq-claims t) (decode-seq-at t) decode-seq.Post decode-seq-Inv-loop decode-seq-μ-loop
-decode-seq-same-length-6 t c = c .before .loop .inv .kept
+pub decode-seq-same-length-8 : (t : ℕ) → decode-seq-lts.Need-same-length-8 (decode-seq-claims t) (decode-seq-at t) decode-seq.Post decode-seq-Inv-loop decode-seq-μ-loop
+decode-seq-same-length-8 t c = c .before .loop .inv .texts
 
-pub decode-seq-returns-2 : (t : ℕ) → decode-seq-lts.Need-returns-2 (decode-seq-claims t) (decode-seq-at t) decode-seq.Post decode-seq-Inv-loop decode-seq-μ-loop
-decode-seq-returns-2 t c = seq-done (c .before .loop .inv) (c .loop-test .left)
+pub decode-seq-same-length-9 : (t : ℕ) → decode-seq-lts.Need-same-length-9 (decode-seq-claims t) (decode-seq-at t) decode-seq.Post decode-seq-Inv-loop decode-seq-μ-loop
+decode-seq-same-length-9 t c = c .before .loop .inv .kept
+
+pub decode-seq-returns-3 : (t : ℕ) → decode-seq-lts.Need-returns-3 (decode-seq-claims t) (decode-seq-at t) decode-seq.Post decode-seq-Inv-loop decode-seq-μ-loop
+decode-seq-returns-3 t c = seq-done (c .before .loop .inv) (c .loop-test .left)

@@ -18,7 +18,7 @@ use Rattle.lines.specs.Names.{distinct, namesAt}
 use Rattle.lines.proofs.Sight.{getD-map-at, names-long}
 use Rattle.layout_text.specs.declared.LayoutRead.{LayoutRead}
 use Rattle.layout_text.specs.Form.{linesOf, isNone, maskFor, says, countOf, lineIn, kindSaid, all, tests, entryLawful, lawful, maskWord}
-use Rattle.layout_text.specs.Reading.{widthSaid, maskSaid, namesOf, masksBelow, masksOf, maskLong, wordsOf, textChecked, refusal, readOf, spelling}
+use Rattle.layout_text.specs.Reading.{widthSaid, maskSaid, namesOf, masksBelow, masksOf, maskLong, wordsOf, textChecked, refusal, readOf, spelling, Spells}
 use Rattle.layout_text.specs.Walk.{bareSaid, fineIn, Lasts}
 use Rattle.layout_text.proofs.Words.{words-long}
 use Rattle.layout_text.proofs.Answers.{Passed, passed, number-read, refusal-place, refusal-other, lasts}
@@ -67,19 +67,18 @@ room-enough text = by (eqb (textChecked text) 0) refl
         refusal-place text 18446744073709551615 18446744073709551615 z (omega (arith, words-long (linesOf text) (countOf (linesOf text)), p .few)) (omega (arith, p .few)) ∙ sym z
     by false q = refusal-other text 18446744073709551615 18446744073709551615 (eqb-false (textChecked text) 0 q)
 
--- ---- the table points at the different names
+-- ---- the names that a table points at
 
-module _ (text starts : List ℕ) (seen : ℕ) (h : seen ≤ 1024) (l : length starts ≡ 1024) (e : namesAt text starts seen ≡ distinct (namesOf (linesOf text))) (number : ℕ) where
-  long : length (distinct (namesOf (linesOf text))) ≡ seen
-  long = sym (ap length e) ∙ names-long text starts seen ∙ omega arith
+module _ (text starts : List ℕ) (count number : ℕ) where
+  pub name-none : min count (length starts) ≤ number → [] ≡ getD (namesAt text starts count) number []
+  name-none h = sym (List·getD-eq-default (namesAt text starts count) [] {n = number} (omega (arith, names-long text starts count)))
 
-  pub spelled-none : seen ≤ number → [] ≡ getD (distinct (namesOf (linesOf text))) number []
-  spelled-none a = sym (List·getD-eq-default (distinct (namesOf (linesOf text))) [] {n = number} (omega (arith, long)))
+  pub name-there : number < count → number < length starts → lineFrom text (getD starts number 0) ≡ getD (namesAt text starts count) number []
+  name-there a l =
+      let t : length (take count starts) ≡ min count (length starts) = length-take count starts in
+      sym (getD-map-at (lineFrom text) (take count starts) number 0 (omega arith) ∙ ap (lineFrom text) (getD-take count starts number 0 a))
 
-  pub spelled-at : number < seen → lineFrom text (getD starts number 0) ≡ getD (distinct (namesOf (linesOf text))) number []
-  spelled-at a =
-      let t : length (take seen starts) ≡ min seen (length starts) = length-take seen starts in
-      rw (← e) (sym (getD-map-at (lineFrom text) (take seen starts) number 0 (omega arith) ∙ ap (lineFrom text) (getD-take seen starts number 0 a)))
+-- ---- the first spelling
 
 pub spelled-there : (text : List ℕ) (number : ℕ) (r : LayoutRead) → r ≡ readOf text 18446744073709551615 18446744073709551615 → r .number ≡ 0 → getD (distinct (namesOf (linesOf text))) number [] ≡ spelling text number
 unfolding spelling
@@ -88,6 +87,13 @@ spelled-there text number r e z = rw (sym (number-read text 18446744073709551615
 pub spelled-not : (text : List ℕ) (number : ℕ) (r : LayoutRead) → r ≡ readOf text 18446744073709551615 18446744073709551615 → (r .number ≡ 0 → ⊥) → [] ≡ spelling text number
 unfolding spelling
 spelled-not text number r e z = rw (ne-eqb (textChecked text) 0 (λ x. z (number-read text 18446744073709551615 18446744073709551615 r e ∙ room-enough text ∙ x))) refl
+
+-- the whole table
+pub spells-not : (text starts : List ℕ) (r : LayoutRead) → r ≡ readOf text 18446744073709551615 18446744073709551615 → (r .number ≡ 0 → ⊥) → Spells text starts 0
+spells-not text starts r e z number = spelled-not text number r e z
+
+pub spells-there : (text starts : List ℕ) (seen : ℕ) (r : LayoutRead) → r ≡ readOf text 18446744073709551615 18446744073709551615 → r .number ≡ 0 → namesAt text starts seen ≡ distinct (namesOf (linesOf text)) → Spells text starts seen
+spells-there text starts seen r e z n number = ap (λ (l : List (List ℕ)). getD l number []) n ∙ spelled-there text number r e z
 
 pub names-last : (text : List ℕ) (r : LayoutRead) → r ≡ readOf text 18446744073709551615 18446744073709551615 → r .number ≡ 0 → length text < 4294967296 → Lasts text (r .words / 12)
 names-last text r e z s = lasts text 18446744073709551615 18446744073709551615 (sym (number-read text 18446744073709551615 18446744073709551615 r e) ∙ z) r e s

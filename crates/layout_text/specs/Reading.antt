@@ -1,4 +1,5 @@
 -- What a lawful text says: its entries' words and its masks; and what a reader of it answers.
+use mathlib.Core.Path.{_≡_}
 use mathlib.Core.Bool.{Bool, true, false, _&&_, _||_, not, cond}
 use mathlib.Core.List.{List, [], _∷_, _++_}
 use Prim.Native.Nat.{ℕ, zero, suc, _+_, _-_, _*_, _/_, _%_}
@@ -7,7 +8,7 @@ use lib.ListN.{length, drop, getD, replicate}
 use Rattle.layout.specs.declared.Entry.{Entry}
 use Rattle.layout.specs.Layout.{absent, allBelow, wordsOk, entriesOk, spansOk}
 use Rattle.lines.specs.Lines.{numberOf}
-use Rattle.lines.specs.Names.{distinct, numberIn}
+use Rattle.lines.specs.Names.{distinct, numberIn, namesAt}
 use Rattle.layout_text.specs.declared.LayoutRead.{LayoutRead}
 use Rattle.layout_text.specs.Form.{linesOf, nameWord, offsetWord, widthWord, kindWord, occursWord, dependingWord, spanWord, pWord, qWord, rWord, maskWord, pageWord, isNone, worth, countOf, lineIn, kindSaid, lawful}
 
@@ -145,3 +146,7 @@ buffer number used size = cond (eqb number 0) (used ++ replicate (size - length 
 -- the first spelling of the name with a number; nothing where the text is refused by 17, 1, 2 or 3, or where no name has the number
 unfoldable pub spelling : List ℕ → ℕ → List ℕ
 spelling text number = cond (eqb (textChecked text) 0) (getD (distinct (namesOf (linesOf text))) number []) []
+
+-- a table of where the names of a text start, by number: each of its first `count` starts points at the first spelling of a name, and no name has another number
+abbrev pub Spells : List ℕ → List ℕ → ℕ → Type 0
+Spells text starts count = (number : ℕ) → getD (namesAt text starts count) number [] ≡ spelling text number

@@ -20,7 +20,7 @@ ghost use Rattle.layout.specs.Layout.{absent};
 ghost use Rattle.lines.specs.Lines.{lineFrom, IsPart};
 ghost use Rattle.lines.specs.Names.{placeIn, see, distinct, namesAt};
 ghost use Rattle.layout_text.specs.Form.{linesOf, countOf, lawful};
-ghost use Rattle.layout_text.specs.Reading.{namesOf, masksOf, scaleOf, precisionOf, maskWordOf, twelve, wordsOf, refusal, readOf, buffer, spelling};
+ghost use Rattle.layout_text.specs.Reading.{namesOf, masksOf, scaleOf, precisionOf, maskWordOf, twelve, wordsOf, refusal, readOf, buffer, spelling, Spells};
 ghost use Rattle.layout_text.specs.Walk.{partOf, lineAt, Within, numberWith, numberIn, optionIn, nameIn, dependingIn, maskIn, PageTold, Tells, entryWith, fineAlone, notLawful, Finds, spanFits, nestedIn, refusedBy, answerGiven, Lasts};
 
 // ---- one line. A part or a number whose `next` is 0 stands for an unlawful line.
@@ -657,7 +657,6 @@ fn see_all(text: &[u8], count: usize, starts: &mut [u32]) -> usize
     requires { ⌜ length (now starts) ≡ 1024 ⌝ }
     ensures { λ r. ⌜ namesAt (now (text .entry)) (now (starts .exit)) r ≡ distinct (namesOf (linesOf (now (text .entry)))) ⌝ }
     ensures { λ r. ⌜ r ≤ 1024 ⌝ }
-    ensures { λ _. ⌜ length (now (starts .exit)) ≡ 1024 ⌝ }
 {
     let page = page_line(text);
     let mut at = page.next;
@@ -679,30 +678,31 @@ fn wide(p: u32) -> usize
     p as usize
 }
 
-// The first spelling of the name with a number, if a name has it, by a table of starts.
-fn spelled<'a>(text: &'a [u8], count: usize, number: u32, starts: &mut [u32]) -> &'a [u8]
-    requires { ⌜ Lasts (now text) count ⌝ }
-    requires { ⌜ length (now starts) ≡ 1024 ⌝ }
-    ensures { λ r. ⌜ now r ≡ getD (distinct (namesOf (linesOf (now (text .entry))))) number [] ⌝ }
+// The name with a number, by a table of where `count` different names start, as a part of the text; empty where the table has no such number.
+pub fn name_with<'a>(text: &'a [u8], starts: &[u32], count: usize, number: u32) -> &'a [u8]
+    ensures { λ r. ⌜ now r ≡ getD (namesAt (now (text .entry)) (now (starts .entry)) count) number [] ⌝ }
     ensures { λ r. ⌜ IsPart (text .entry) r ⌝ }
 {
-    let seen = see_all(text, count, starts);
     let n = number as usize;
-    if seen <= n {
+    if count <= n {
+        return &text[0..0];
+    }
+    if starts.len() <= n {
         return &text[0..0];
     }
     let at = wide(starts[n]);
     name_at(text, at)
 }
 
-// The same, with a table of its own.
-fn spelled_by_table(text: &[u8], count: usize, number: u32) -> &[u8]
+// The first spelling of the name with a number, if a name has it, by a table of starts.
+fn spelled(text: &[u8], count: usize, number: u32) -> &[u8]
     requires { ⌜ Lasts (now text) count ⌝ }
     ensures { λ r. ⌜ now r ≡ getD (distinct (namesOf (linesOf (now (text .entry))))) number [] ⌝ }
     ensures { λ r. ⌜ IsPart (text .entry) r ⌝ }
 {
     let mut starts = [0u32; 1024];
-    spelled(text, count, number, &mut starts)
+    let seen = see_all(text, count, &mut starts);
+    name_with(text, &starts, seen, number)
 }
 
 // The first spelling of the name with a number, as a part of the text; empty where the text is refused by 17, 1, 2 or 3, or no name has the number.
@@ -714,5 +714,17 @@ pub fn name_of(text: &[u8], number: u32) -> &[u8]
     if r.number != 0 {
         return &text[0..0];
     }
-    spelled_by_table(text, r.words / 12, number)
+    spelled(text, r.words / 12, number)
+}
+
+// Where each different name of a text is first spelled, by number, for `name_with`; how many. None where the text is refused by 17, 1, 2 or 3.
+pub fn name_starts(text: &[u8], starts: &mut [u32; 1024]) -> usize
+    ensures { λ r. ⌜ Spells (now (text .entry)) (now (starts .exit)) r ⌝ }
+    ensures { λ r. ⌜ r ≤ 1024 ⌝ }
+{
+    let r = questions(text, 18446744073709551615, 18446744073709551615);
+    if r.number != 0 {
+        return 0;
+    }
+    see_all(text, r.words / 12, starts)
 }

@@ -4,7 +4,8 @@ use decode::Reading;
 use decode::decode_record;
 use items::Item;
 use items::fetch;
-use layout_text::name_of;
+use layout_text::name_starts;
+use layout_text::name_with;
 use layout_text::read_layout;
 use text::Shown;
 use text::display_scalar;
@@ -16,6 +17,7 @@ ghost use mathlib.Core.List.{[], _∷_};
 ghost use Prim.Native.Nat.{ℕ, _≤_, _/_};
 ghost use lib.ListN.{length, take, drop};
 ghost use Rattle.hex.specs.Hex.{hexOf};
+ghost use Rattle.layout_text.specs.Reading.{Spells};
 ghost use Rattle.shown.specs.Shown.{isPlain, escape, escaped, numberText, floatText, numberIn, kindText, valueOf, nameOf, nameLine, kindLine, valueLine, linesOf, listed, refusedText, itemWords, most, tooLong, answer, shown, piece};
 ghost use Rattle.text.specs.Text.{front};
 ghost use Rattle.shown.specs.Given.{refusalIs, Gives};
@@ -193,21 +195,38 @@ fn push_kind(out: &mut [u8], s: Sink, tag: u64) -> Sink
     }
 }
 
-fn push_name(out: &mut [u8], s: Sink, layout: &[u8], name: u64) -> Sink
+// A name, by the table of where names start.
+fn push_name(
+    out: &mut [u8],
+    s: Sink,
+    layout: &[u8],
+    starts: &[u32; 1024],
+    count: usize,
+    name: u64,
+) -> Sink
+    requires { ⌜ Spells (now layout) (now starts) count ⌝ }
     ensures { λ r. ⌜ Took (state (now (out .entry)) s) (nameOf (now (layout .entry)) name) (now (out .exit)) r ⌝ }
 {
     if name < 65536 {
-        let n = name_of(layout, name as u32);
+        let n = name_with(layout, starts, count, name as u32);
         return push_all(out, s, n);
     }
     s
 }
 
-fn name_line(out: &mut [u8], s: Sink, layout: &[u8], it: Item) -> Sink
+fn name_line(
+    out: &mut [u8],
+    s: Sink,
+    layout: &[u8],
+    starts: &[u32; 1024],
+    count: usize,
+    it: Item,
+) -> Sink
+    requires { ⌜ Spells (now layout) (now starts) count ⌝ }
     ensures { λ r. ⌜ Took (state (now (out .entry)) s) (nameLine (now (layout .entry)) it) (now (out .exit)) r ⌝ }
 {
     let a = push_all(out, s, b"name=");
-    let b = push_name(out, a, layout, it.name);
+    let b = push_name(out, a, layout, starts, count, it.name);
     push(out, b, 10)
 }
 
@@ -228,26 +247,53 @@ fn value_line(out: &mut [u8], s: Sink, it: Item, text: &[u8]) -> Sink
 }
 
 // The three lines of an item.
-fn push_item(out: &mut [u8], s: Sink, layout: &[u8], it: Item, text: &[u8]) -> Sink
+fn push_item(
+    out: &mut [u8],
+    s: Sink,
+    layout: &[u8],
+    starts: &[u32; 1024],
+    count: usize,
+    it: Item,
+    text: &[u8],
+) -> Sink
+    requires { ⌜ Spells (now layout) (now starts) count ⌝ }
     ensures { λ r. ⌜ Took (state (now (out .entry)) s) (linesOf (now (layout .entry)) (now (text .entry)) it) (now (out .exit)) r ⌝ }
 {
-    let a = name_line(out, s, layout, it);
+    let a = name_line(out, s, layout, starts, count, it);
     let b = kind_line(out, a, it);
     value_line(out, b, it, text)
 }
 
 // The lines of all items.
-fn push_items(out: &mut [u8], from: Sink, layout: &[u8], items: &[u64], text: &[u8]) -> Sink
+fn push_items(
+    out: &mut [u8],
+    from: Sink,
+    layout: &[u8],
+    starts: &[u32; 1024],
+    count: usize,
+    items: &[u64],
+    text: &[u8],
+) -> Sink
+    requires { ⌜ Spells (now layout) (now starts) count ⌝ }
     ensures { λ r. ⌜ Took (state (now (out .entry)) from) (listed (now (layout .entry)) (now (items .entry)) (now (text .entry))) (now (out .exit)) r ⌝ }
 {
     let n = items.len() / 4;
     let mut s = from;
     let mut k = 0;
     while k < n {
-        s = push_item(out, s, layout, fetch(items, k, n), text);
+        s = push_item(out, s, layout, starts, count, fetch(items, k, n), text);
         k += 1;
     }
     s
+}
+
+// The same, with a table of names of its own.
+fn push_list(out: &mut [u8], s: Sink, layout: &[u8], items: &[u64], text: &[u8]) -> Sink
+    ensures { λ r. ⌜ Took (state (now (out .entry)) s) (listed (now (layout .entry)) (now (items .entry)) (now (text .entry))) (now (out .exit)) r ⌝ }
+{
+    let mut starts = [0u32; 1024];
+    let count = name_starts(layout, &mut starts);
+    push_items(out, s, layout, &starts, count, items, text)
 }
 
 fn push_refused(out: &mut [u8], s: Sink, number: u32) -> Sink
@@ -347,6 +393,6 @@ pub fn show_at(
     }
     let n = r.items;
     let m = r.text;
-    let t = push_items(out, s, layout, &items[0..n], &text[0..m]);
+    let t = push_list(out, s, layout, &items[0..n], &text[0..m]);
     t.used
 }

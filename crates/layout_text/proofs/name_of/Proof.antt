@@ -28,11 +28,11 @@ part-result-end c = search needs
 returns : tie.Need-returns
 returns c = (spelled-not (c .before .before .before .before .before .args .text .now) (c .before .before .before .before .before .args .number) (c .before .before .before .questions .result) (c .before .before .before .questions .ensures .0) (c .before .if1 .taken), (0, (refl, refl)))
 
-spelled-by-table-requires : tie.Need-spelled-by-table-requires
-spelled-by-table-requires c κs = names-last (c .before .before .before .before .before .args .text .now) (c .before .before .before .questions .result) (c .before .before .before .questions .ensures .0) (c .before .if1 .left) (c .before .before .before .questions .ensures .1 (c .before .if1 .left))
+spelled-requires : tie.Need-spelled-requires
+spelled-requires c κs = names-last (c .before .before .before .before .before .args .text .now) (c .before .before .before .questions .result) (c .before .before .before .questions .ensures .0) (c .before .if1 .left) (c .before .before .before .questions .ensures .1 (c .before .if1 .left))
 
 returns-2 : tie.Need-returns-2
-returns-2 c = (c .spelled-by-table .ensures .0 ∙ spelled-there (c .before .before .before .before .before .before .args .text .now) (c .before .before .before .before .before .before .args .number) (c .before .before .before .before .questions .result) (c .before .before .before .before .questions .ensures .0) (c .before .before .if1 .left), c .spelled-by-table .ensures .1)
+returns-2 c = (c .spelled .ensures .0 ∙ spelled-there (c .before .before .before .before .before .before .args .text .now) (c .before .before .before .before .before .before .args .number) (c .before .before .before .before .questions .result) (c .before .before .before .before .questions .ensures .0) (c .before .before .if1 .left), c .spelled .ensures .1)
 
 pub name-of-spec : {M : Type 1} → statement M
 name-of-spec =
@@ -43,5 +43,5 @@ name-of-spec =
     part-result-start
     part-result-end
     returns
-    spelled-by-table-requires
+    spelled-requires
     returns-2)

@@ -60,7 +60,7 @@ returns c =
     let e : c .before .loop .k ≡ countOf (linesOf (c .before .before .before .before .before .args .text .now)) = omega (arith, c .before .before .before .before .before .pre .0 .counted) in
     let f = c .before .loop .inv .1 .few in
     let w = c .before .before .before .before .before .pre .0 .few in
-    (c .before .loop .inv .1 .names ∙ ap (λ (j : ℕ). distinct (namesBelow (linesOf (c .before .before .before .before .before .args .text .now)) j)) e, (omega arith, c .before .loop .inv .1 .long))
+    (c .before .loop .inv .1 .names ∙ ap (λ (j : ℕ). distinct (namesBelow (linesOf (c .before .before .before .before .before .args .text .now)) j)) e, omega arith)
 
 pub see-all-spec : {M : Type 1} → statement M
 see-all-spec =

@@ -17,10 +17,10 @@ use Rattle.shown.proofs.push_items.Statement.{statement}
 use Rattle.shown.proofs.push_items.Tie as tie
 
 abbrev Inv-loop : tie.InvT-loop
-Inv-loop out₀ layout items text n s₀ k₀ out s k = Left layout items text n (all (state out₀ s₀) (listedFrom layout items text n 0)) (state out s) k × (length out ≡ length out₀)
+Inv-loop out₀ layout starts count items text n s₀ k₀ out s k = Left layout items text n (all (state out₀ s₀) (listedFrom layout items text n 0)) (state out s) k × (length out ≡ length out₀)
 
 abbrev μ-loop : tie.MeasureT-loop
-μ-loop out₀ layout items text n s₀ k₀ out s k = n - k
+μ-loop out₀ layout starts count items text n s₀ k₀ out s k = n - k
 
 loop-holds : tie.Need-loop-holds Inv-loop μ-loop
 loop-holds c = (ap (λ (m : ℕ). all (state (c .before .before .before .before .args .out .now) (c .before .before .before .before .args .from)) (listedFrom (c .before .before .before .before .args .layout .now) (c .before .before .before .before .args .items .now) (c .before .before .before .before .args .text .now) m 0)) (sub-zero _), refl)

@@ -34,32 +34,32 @@ same-length c = search needs
 returns : tie.Need-returns
 returns c = window (c .before .before .before .before .before .before .before .before .before .before .before .before .before .before .args .out .now) _ (c .before .before .before .before .before .before .before .before .before .before .before .before .before .before .args .at) _ (c .before .before .push-refused .result) (c .before .before .push-refused .ensures ∙ ap (all (state (c .before .before .before .before .before .before .before .before .before .before .before .before .before .before .args .out .now) (sinkAt (c .before .before .before .before .before .before .before .before .before .before .before .before .before .before .args .at) 0))) (prints-refusal (c .before .before .before .before .before .before .before .before .before .before .before .before .before .before .args .layout .now) (c .before .before .before .before .before .before .before .before .before .before .before .before .before .before .args .layout-more) (c .before .before .before .before .before .before .before .before .before .before .before .before .before .before .args .record .now) (c .before .before .before .before .before .before .before .before .before .before .before .before .before .before .args .record-more) (c .before .before .before .before .before .before .before .before .read-both .result) _ _ (c .before .before .before .before .before .before .before .before .read-both .ensures) (c .before .before .before .before .if1 .taken)))
 
-sub-push-items : tie.Need-sub-push-items
-sub-push-items c = search needs
+sub-push-list : tie.Need-sub-push-list
+sub-push-list c = search needs
 
-part-push-items-start : tie.Need-part-push-items-start
-part-push-items-start c = search needs
+part-push-list-start : tie.Need-part-push-list-start
+part-push-list-start c = search needs
 
-part-push-items-end : tie.Need-part-push-items-end
-part-push-items-end c = c .before .before .before .before .before .before .read-both .ensures .words-inside
+part-push-list-end : tie.Need-part-push-list-end
+part-push-list-end c = c .before .before .before .before .before .before .read-both .ensures .words-inside
 
-sub-push-items-2 : tie.Need-sub-push-items-2
-sub-push-items-2 c = search needs
+sub-push-list-2 : tie.Need-sub-push-list-2
+sub-push-list-2 c = search needs
 
-part-push-items-start-2 : tie.Need-part-push-items-start-2
-part-push-items-start-2 c = search needs
+part-push-list-start-2 : tie.Need-part-push-list-start-2
+part-push-list-start-2 c = search needs
 
-part-push-items-end-2 : tie.Need-part-push-items-end-2
-part-push-items-end-2 c = c .before .before .before .before .before .before .before .before .read-both .ensures .bytes-inside
+part-push-list-end-2 : tie.Need-part-push-list-end-2
+part-push-list-end-2 c = c .before .before .before .before .before .before .before .before .read-both .ensures .bytes-inside
 
-push-items-requires : tie.Need-push-items-requires
-push-items-requires c κs = search needs
+push-list-requires : tie.Need-push-list-requires
+push-list-requires c κs = search needs
 
 same-length-2 : tie.Need-same-length-2
 same-length-2 c = search needs
 
 returns-2 : tie.Need-returns-2
-returns-2 c = window (c .before .before .before .before .before .before .before .before .before .before .before .before .before .before .before .before .before .before .args .out .now) _ (c .before .before .before .before .before .before .before .before .before .before .before .before .before .before .before .before .before .before .args .at) _ (c .before .before .push-items .result) (c .before .before .push-items .ensures ∙ ap (all (state (c .before .before .before .before .before .before .before .before .before .before .before .before .before .before .before .before .before .before .args .out .now) (sinkAt (c .before .before .before .before .before .before .before .before .before .before .before .before .before .before .before .before .before .before .args .at) 0))) (prints-list (c .before .before .before .before .before .before .before .before .before .before .before .before .before .before .before .before .before .before .args .layout .now) (c .before .before .before .before .before .before .before .before .before .before .before .before .before .before .before .before .before .before .args .layout-more) (c .before .before .before .before .before .before .before .before .before .before .before .before .before .before .before .before .before .before .args .record .now) (c .before .before .before .before .before .before .before .before .before .before .before .before .before .before .before .before .before .before .args .record-more) (c .before .before .before .before .before .before .before .before .before .before .before .before .read-both .result) _ _ (c .before .before .before .before .before .before .before .before .before .before .before .before .read-both .ensures) (c .before .before .before .before .before .before .before .before .if1 .left)))
+returns-2 c = window (c .before .before .before .before .before .before .before .before .before .before .before .before .before .before .before .before .before .before .args .out .now) _ (c .before .before .before .before .before .before .before .before .before .before .before .before .before .before .before .before .before .before .args .at) _ (c .before .before .push-list .result) (c .before .before .push-list .ensures ∙ ap (all (state (c .before .before .before .before .before .before .before .before .before .before .before .before .before .before .before .before .before .before .args .out .now) (sinkAt (c .before .before .before .before .before .before .before .before .before .before .before .before .before .before .before .before .before .before .args .at) 0))) (prints-list (c .before .before .before .before .before .before .before .before .before .before .before .before .before .before .before .before .before .before .args .layout .now) (c .before .before .before .before .before .before .before .before .before .before .before .before .before .before .before .before .before .before .args .layout-more) (c .before .before .before .before .before .before .before .before .before .before .before .before .before .before .before .before .before .before .args .record .now) (c .before .before .before .before .before .before .before .before .before .before .before .before .before .before .before .before .before .before .args .record-more) (c .before .before .before .before .before .before .before .before .before .before .before .before .read-both .result) _ _ (c .before .before .before .before .before .before .before .before .before .before .before .before .read-both .ensures) (c .before .before .before .before .before .before .before .before .if1 .left)))
 
 pub show-at-spec : {M : Type 1} → statement M
 show-at-spec =
@@ -71,12 +71,12 @@ show-at-spec =
     push-refused-requires
     same-length
     returns
-    sub-push-items
-    part-push-items-start
-    part-push-items-end
-    sub-push-items-2
-    part-push-items-start-2
-    part-push-items-end-2
-    push-items-requires
+    sub-push-list
+    part-push-list-start
+    part-push-list-end
+    sub-push-list-2
+    part-push-list-start-2
+    part-push-list-end-2
+    push-list-requires
     same-length-2
     returns-2)

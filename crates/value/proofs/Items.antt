@@ -31,6 +31,10 @@ is-nan x e =
     let n : x ≡ nan = differs-from-itself x (subst (λ (t : Bool). T (not t)) (sym e) tt) in
     sym (ap (toBits binary64) n ∙ nan-word)
 
+-- the words of a scalar that is known by its case
+pub words-are : (s t : Scalar) (a : ℕ) → s ≡ t → a ≡ firstOf t → (tagOf t ≡ tagOf s) × ((a ≡ firstOf s) × (secondOf t ≡ secondOf s))
+words-are s t a e f = (sym (ap tagOf e), (f ∙ sym (ap firstOf e), sym (ap secondOf e)))
+
 pub put-none : (items : List ℕ) (name : ℕ) (s : Scalar) → length items < 4 → items ≡ putOf items name s
 unfolding putOf
 put-none items name s h = rw (lt-leb 4 (length items) h)

@@ -1,7 +1,7 @@
 // What every kind of field shares: decimal digits and sizes, the answer for a number, scales, words, and the scalar that becomes an item.
 
 ghost use mathlib.Core.Path.{_≡_};
-ghost use mathlib.Core.Bool.{Bool};
+ghost use mathlib.Core.Bool.{Bool, cond};
 ghost use Prim.Native.Nat.{ℕ, _+_, _*_, _/_, _%_, _^_, _<_, _≤_};
 ghost use lib.Dec.{leb, eqb};
 ghost use lib.ListN.{length};
@@ -170,20 +170,6 @@ pub fn size_of(w: u64) -> u64
 
 // ---- scalars and items
 
-fn tag(s: Scalar) -> u64
-    ensures { λ r. ⌜ r ≡ tagOf s ⌝ }
-{
-    match s {
-        Scalar::Null => 0,
-        Scalar::Text(_, _) => 1,
-        Scalar::Int(_, _) => 2,
-        Scalar::Decimal(_, _, _) => 3,
-        Scalar::Float(_) => 4,
-        Scalar::FloatBits(_) => 4,
-        Scalar::Bool(_) => 5,
-    }
-}
-
 // The bits of a float that is no NaN, or 0x7FF8000000000000.
 pub fn float_word(x: f64) -> u64
     ensures { λ r. ⌜ r ≡ Ieee.toBits binary64 x ⌝ }
@@ -194,31 +180,55 @@ pub fn float_word(x: f64) -> u64
     0x7FF8000000000000
 }
 
-fn first(s: Scalar) -> u64
-    ensures { λ r. ⌜ r ≡ firstOf s ⌝ }
+// The word of a Bool.
+fn bool_word(b: bool) -> u64
+    ensures { λ r. ⌜ r ≡ cond b 1 0 ⌝ }
 {
-    match s {
-        Scalar::Null => 0,
-        Scalar::Text(start, _) => start,
-        Scalar::Int(negative, size) => word_of(negative, size),
-        Scalar::Decimal(negative, size, _) => word_of(negative, size),
-        Scalar::Float(x) => float_word(x),
-        Scalar::FloatBits(w) => w,
-        Scalar::Bool(b) => { if b { 1 } else { 0 } }
+    if b {
+        return 1;
     }
+    0
 }
 
-fn second(s: Scalar) -> u64
-    ensures { λ r. ⌜ r ≡ secondOf s ⌝ }
+// An item's words behind its name.
+pub struct Words {
+    pub tag: u64,
+    pub a: u64,
+    pub b: u64,
+}
+
+// The words of a scalar's item.
+pub fn words_of(s: Scalar) -> Words
+    ensures { λ r. ⌜ (r .tag ≡ tagOf s) × ((r .a ≡ firstOf s) × (r .b ≡ secondOf s)) ⌝ }
 {
     match s {
-        Scalar::Null => 0,
-        Scalar::Text(_, count) => count,
-        Scalar::Int(_, _) => 0,
-        Scalar::Decimal(_, _, scale) => scale,
-        Scalar::Float(_) => 0,
-        Scalar::FloatBits(_) => 0,
-        Scalar::Bool(_) => 0,
+        Scalar::Null => Words { tag: 0, a: 0, b: 0 },
+        Scalar::Text(start, count) => Words {
+            tag: 1,
+            a: start,
+            b: count,
+        },
+        Scalar::Int(negative, size) => Words {
+            tag: 2,
+            a: word_of(negative, size),
+            b: 0,
+        },
+        Scalar::Decimal(negative, size, scale) => Words {
+            tag: 3,
+            a: word_of(negative, size),
+            b: scale,
+        },
+        Scalar::Float(x) => Words {
+            tag: 4,
+            a: float_word(x),
+            b: 0,
+        },
+        Scalar::FloatBits(w) => Words { tag: 4, a: w, b: 0 },
+        Scalar::Bool(b) => Words {
+            tag: 5,
+            a: bool_word(b),
+            b: 0,
+        },
     }
 }
 
@@ -229,10 +239,11 @@ pub fn put_item(items: &mut [u64], name: u64, s: Scalar) -> bool
     if items.len() < 4 {
         return false;
     }
+    let w = words_of(s);
     items[0] = name;
-    items[1] = tag(s);
-    items[2] = first(s);
-    items[3] = second(s);
+    items[1] = w.tag;
+    items[2] = w.a;
+    items[3] = w.b;
     true
 }
 

@@ -8,10 +8,10 @@ use native.Mathlib.Numerals.{add-one}
 use borrow.Author.Tests.{lt-ltb, le-ltb, le-leb, lt-leb, eq-eqb, ne-eqb, eqb-true, eqb-false, ltb-true, ltb-false, leb-true, leb-false}
 use lib.Dec.{eqb, leb, ltb}
 use lib.ListN.{length, take, drop, getD, set, replicate, length-set, length-append, length-take, length-drop, length-replicate, length-map}
-use Rattle.value.specs.Scalar.{firstOf}
+use Rattle.value.proofs.Items.{words-are}
 use borrow.Author.Needs.{needs}
-use Rattle.value.proofs.first.Statement.{statement}
-use Rattle.value.proofs.first.Tie as tie
+use Rattle.value.proofs.words_of.Statement.{statement}
+use Rattle.value.proofs.words_of.Tie as tie
 
 enum-told : tie.Need-enum-told
 enum-told c = search needs
@@ -43,6 +43,9 @@ enum-known-s-5 c = search needs
 enum-known-s-6 : tie.Need-enum-known-s-6
 enum-known-s-6 c = search needs
 
+bool-word-requires : tie.Need-bool-word-requires
+bool-word-requires c κs = search needs
+
 returns : tie.Need-returns
 returns c = search needs
 
@@ -50,25 +53,22 @@ returns-2 : tie.Need-returns-2
 returns-2 c = search needs
 
 returns-3 : tie.Need-returns-3
-returns-3 c = c .word-of .ensures ∙ sym (ap firstOf (c .before .before .s2 .given .1))
+returns-3 c = words-are _ _ _ (c .before .before .s2 .given .1) (c .word-of .ensures)
 
 returns-4 : tie.Need-returns-4
-returns-4 c = c .word-of2 .ensures ∙ sym (ap firstOf (c .before .before .s3 .given .1))
+returns-4 c = words-are _ _ _ (c .before .before .s3 .given .1) (c .word-of2 .ensures)
 
 returns-5 : tie.Need-returns-5
-returns-5 c = c .float-word .ensures ∙ sym (ap firstOf (c .before .before .s4 .given .1))
+returns-5 c = words-are _ _ _ (c .before .before .s4 .given .1) (c .float-word .ensures)
 
 returns-6 : tie.Need-returns-6
 returns-6 c = search needs
 
 returns-7 : tie.Need-returns-7
-returns-7 c = search needs
+returns-7 c = words-are _ _ _ (c .before .before .s6 .given .1) (c .bool-word .ensures)
 
-returns-8 : tie.Need-returns-8
-returns-8 c = search needs
-
-pub first-spec : {M : Type 1} → statement M
-first-spec =
+pub words-of-spec : {M : Type 1} → statement M
+words-of-spec =
     tie.close
     (tie.spec
     enum-told
@@ -81,11 +81,11 @@ first-spec =
     float-word-requires
     enum-known-s-5
     enum-known-s-6
+    bool-word-requires
     returns
     returns-2
     returns-3
     returns-4
     returns-5
     returns-6
-    returns-7
-    returns-8)
+    returns-7)

@@ -31,15 +31,24 @@ written-last l size sign d b rest h ed eb er =
     let e : places (length l) (length l - 1) ≡ 1 = omega arith in
     record { tail = rw (e, drop-set l (length l - 1) b (omega arith), drop-of-length-le l {i = suc (length l - 1)} (omega arith), eb, ed, div-one size); left = rw e er }
 
--- one byte more: tens is what is left without its units
-pub written-more : (l : List ℕ) (w size sign i rest tens low high b next : ℕ) → 0 < i → i < w → length l ≡ w → Written l w size sign i rest
-    → tens ≡ rest / 10 → low ≡ rest % 10 → high ≡ tens % 10 → b ≡ high * 16 + low → next ≡ tens / 10 → Written (set l (i - 1) b) w size sign (i - 1) next
-written-more l w size sign i rest tens low high b next h m k r et el eh eb en =
+-- the two low digits, one by one
+pair-high : (n : ℕ) → n % 100 / 10 ≡ n / 10 % 10
+pair-high n = omega arith
+
+pair-low : (n : ℕ) → n % 100 % 10 ≡ n % 10
+pair-low n = omega arith
+
+-- one byte more, by the two low digits of what is left
+pub written-more : (l : List ℕ) (w size sign i rest pair b next : ℕ) → 0 < i → i < w → length l ≡ w → Written l w size sign i rest
+    → pair ≡ rest % 100 → b ≡ pair / 10 * 16 + pair % 10 → next ≡ rest / 100 → Written (set l (i - 1) b) w size sign (i - 1) next
+written-more l w size sign i rest pair b next h m k r ep eb en =
     let e : places w (i - 1) ≡ suc (suc (places w i)) = omega arith in
     let s : suc (i - 1) ≡ i = omega arith in
+    let d : b ≡ rest / 10 % 10 * 16 + rest % 10 = rw (eb, ep, pair-high, pair-low) in
+    let n : next ≡ rest / 10 / 10 = omega arith in
     record {
-      tail = rw (e, drop-set l (i - 1) b (omega arith), s, r .tail, eb, eh, el, et, r .left, next-place);
-      left = rw (e, en, et, r .left, next-place, next-place);
+      tail = rw (e, drop-set l (i - 1) b (omega arith), s, r .tail, d, r .left, next-place);
+      left = rw (e, n, r .left, next-place, next-place);
     }
 
 pub written-all : (l : List ℕ) (w size sign rest : ℕ) → Written l w size sign 0 rest → l ≡ pairs (digitsOf (2 * w - 1) size ++ (sign ∷ []))

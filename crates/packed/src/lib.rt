@@ -29,7 +29,7 @@ pub fn decode(part: &[u8]) -> Number
         if low >= 10 {
             return Number::Bad;
         }
-        size = value::push_digit(value::push_digit(size, high), low);
+        size = value::push_pair(size, high, low);
         i += 1;
     }
     let b = part[last];
@@ -86,9 +86,9 @@ fn write(part: &mut [u8], size: u64, sign: u8)
     let mut rest = value::drop_digit(size);
     while i > 0 {
         i -= 1;
-        let tens = value::drop_digit(rest);
-        part[i] = pair_of(value::last_digit(tens), value::last_digit(rest));
-        rest = value::drop_digit(tens);
+        let pair = value::last_pair(rest);
+        part[i] = pair_of(pair / 10, pair % 10);
+        rest = value::drop_pair(rest);
     }
 }
 

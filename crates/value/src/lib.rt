@@ -48,6 +48,16 @@ pub fn push_digit(size: u64, digit: u8) -> u64
     next
 }
 
+// Two digits more.
+pub fn push_pair(size: u64, high: u8, low: u8) -> u64
+    ensures { λ r. ⌜ r ≡ capped (capped (size * 10 + high) * 10 + low) ⌝ }
+{
+    if size < 9000000000000000 {
+        return size * 100 + (high as u64 * 10 + low as u64);
+    }
+    push_digit(push_digit(size, high), low)
+}
+
 // The units of a size.
 pub fn last_digit(size: u64) -> u8
     ensures { λ r. ⌜ (r ≡ size % 10) × (r < 10) ⌝ }
@@ -60,6 +70,20 @@ pub fn drop_digit(size: u64) -> u64
     ensures { λ r. ⌜ r ≡ size / 10 ⌝ }
 {
     size / 10
+}
+
+// The two low digits of a size.
+pub fn last_pair(size: u64) -> u8
+    ensures { λ r. ⌜ (r ≡ size % 100) × (r < 100) ⌝ }
+{
+    (size % 100) as u8
+}
+
+// A size without its two low digits.
+pub fn drop_pair(size: u64) -> u64
+    ensures { λ r. ⌜ r ≡ size / 100 ⌝ }
+{
+    size / 100
 }
 
 // The answer for a sign and a size.

@@ -40,11 +40,8 @@ returns-2 c = sym (bad-high _ (c .before .before .before .loop .i) (omega arith)
 returns-3 : tie.Need-returns-3 Inv-loop μ-loop
 returns-3 c = sym (bad-low _ (c .before .before .before .before .loop .i) (omega arith) (c .if3 .taken))
 
-push-digit-requires : tie.Need-push-digit-requires Inv-loop μ-loop
-push-digit-requires c κs = search needs
-
-push-digit-requires-2 : tie.Need-push-digit-requires-2 Inv-loop μ-loop
-push-digit-requires-2 c κs = search needs
+push-pair-requires : tie.Need-push-pair-requires Inv-loop μ-loop
+push-pair-requires c κs = search needs
 
 add-i : tie.Need-add-i Inv-loop μ-loop
 add-i c = search needs
@@ -53,7 +50,7 @@ loop-less : tie.Need-loop-less Inv-loop μ-loop
 loop-less c = search needs
 
 loop-again : tie.Need-loop-again Inv-loop μ-loop
-loop-again c = (search needs, read-two limit nibbles _ _ _ (omega arith) (c .before .before .before .before .before .before .loop .inv .1) _ _ _ _ refl (omega arith) (omega arith) (c .before .push-digit .ensures) (c .push-digit2 .ensures))
+loop-again c = (search needs, read-two limit nibbles _ _ _ (omega arith) (c .before .before .before .before .before .loop .inv .1) _ _ _ _ refl (omega arith) (omega arith) refl (c .push-pair .ensures))
 
 shared-slice-read-b-2 : tie.Need-shared-slice-read-b-2 Inv-loop μ-loop
 shared-slice-read-b-2 c = search needs
@@ -64,8 +61,8 @@ returns-4 c = sym (bad-last _ (c .if4 .taken))
 returns-5 : tie.Need-returns-5 Inv-loop μ-loop
 returns-5 c = sym (bad-sign _ (c .if5 .taken))
 
-push-digit-requires-3 : tie.Need-push-digit-requires-3 Inv-loop μ-loop
-push-digit-requires-3 c κs = search needs
+push-digit-requires : tie.Need-push-digit-requires Inv-loop μ-loop
+push-digit-requires c κs = search needs
 
 is-negative-requires : tie.Need-is-negative-requires Inv-loop μ-loop
 is-negative-requires c κs = search needs
@@ -76,7 +73,7 @@ number-of-requires c κs = search needs
 returns-6 : tie.Need-returns-6 Inv-loop μ-loop
 returns-6 c =
     let e : c .before .before .before .before .before .before .before .loop .i ≡ length (c .before .before .before .before .before .before .before .before .before .before .args .part .now) - 1 = omega arith in
-    c .number-of .ensures ∙ rw (c .before .is-negative .ensures) (read-all _ _ _ (rw e at (c .before .before .before .before .before .before .before .loop .inv .1)) (c .before .before .before .before .if4 .left) (c .before .before .before .if5 .left) (c .before .before .push-digit3 .ensures))
+    c .number-of .ensures ∙ rw (c .before .is-negative .ensures) (read-all _ _ _ (rw e at (c .before .before .before .before .before .before .before .loop .inv .1)) (c .before .before .before .before .if4 .left) (c .before .before .before .if5 .left) (c .before .before .push-digit .ensures))
 
 pub decode-spec : {M : Type 1} → statement M
 decode-spec =
@@ -90,15 +87,14 @@ decode-spec =
     shared-slice-read-b
     returns-2
     returns-3
-    push-digit-requires
-    push-digit-requires-2
+    push-pair-requires
     add-i
     loop-less
     loop-again
     shared-slice-read-b-2
     returns-4
     returns-5
-    push-digit-requires-3
+    push-digit-requires
     is-negative-requires
     number-of-requires
     returns-6)

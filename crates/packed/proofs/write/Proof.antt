@@ -40,14 +40,8 @@ loop-holds c = (omega arith, (simp length-set, written-last (c .before .before .
 sub-i-2 : tie.Need-sub-i-2 Inv-loop μ-loop
 sub-i-2 c = search needs
 
-drop-digit-requires-2 : tie.Need-drop-digit-requires-2 Inv-loop μ-loop
-drop-digit-requires-2 c κs = search needs
-
-last-digit-requires-2 : tie.Need-last-digit-requires-2 Inv-loop μ-loop
-last-digit-requires-2 c κs = search needs
-
-last-digit-requires-3 : tie.Need-last-digit-requires-3 Inv-loop μ-loop
-last-digit-requires-3 c κs = search needs
+last-pair-requires : tie.Need-last-pair-requires Inv-loop μ-loop
+last-pair-requires c κs = search needs
 
 pair-of-requires-2 : tie.Need-pair-of-requires-2 Inv-loop μ-loop
 pair-of-requires-2 c κs = search needs
@@ -55,14 +49,14 @@ pair-of-requires-2 c κs = search needs
 slice-write-part-2 : tie.Need-slice-write-part-2 Inv-loop μ-loop
 slice-write-part-2 c = search needs
 
-drop-digit-requires-3 : tie.Need-drop-digit-requires-3 Inv-loop μ-loop
-drop-digit-requires-3 c κs = search needs
+drop-pair-requires : tie.Need-drop-pair-requires Inv-loop μ-loop
+drop-pair-requires c κs = search needs
 
 loop-less : tie.Need-loop-less Inv-loop μ-loop
 loop-less c = search needs
 
 loop-again : tie.Need-loop-again Inv-loop μ-loop
-loop-again c = (omega arith, (simp length-set (c .before .before .before .before .before .before .loop .inv .1 .0), written-more (c .before .before .before .before .before .before .loop .part) (length (c .before .before .before .before .before .before .before .before .before .before .before .args .part .now)) (c .before .before .before .before .before .before .before .before .before .before .before .args .size) (c .before .before .before .before .before .before .before .before .before .before .before .args .sign) (c .before .before .before .before .before .before .loop .i) (c .before .before .before .before .before .before .loop .rest) (c .before .before .before .before .drop-digit2 .result) (c .before .before .last-digit3 .result) (c .before .before .before .last-digit2 .result) (c .before .pair-of2 .result) (c .drop-digit3 .result) (c .before .before .before .before .before .loop-test .taken) (c .before .before .before .before .before .before .loop .inv .0) (c .before .before .before .before .before .before .loop .inv .1 .0) (c .before .before .before .before .before .before .loop .inv .1 .1) (c .before .before .before .before .drop-digit2 .ensures) (c .before .before .last-digit3 .ensures .0) (c .before .before .before .last-digit2 .ensures .0) (c .before .pair-of2 .ensures) (c .drop-digit3 .ensures)))
+loop-again c = (omega arith, (simp length-set (c .before .before .before .before .loop .inv .1 .0), written-more (c .before .before .before .before .loop .part) (length (c .before .before .before .before .before .before .before .before .before .args .part .now)) (c .before .before .before .before .before .before .before .before .before .args .size) (c .before .before .before .before .before .before .before .before .before .args .sign) (c .before .before .before .before .loop .i) (c .before .before .before .before .loop .rest) (c .before .before .last-pair .result) (c .before .pair-of2 .result) (c .drop-pair .result) (c .before .before .before .loop-test .taken) (c .before .before .before .before .loop .inv .0) (c .before .before .before .before .loop .inv .1 .0) (c .before .before .before .before .loop .inv .1 .1) (c .before .before .last-pair .ensures .0) (c .before .pair-of2 .ensures) (c .drop-pair .ensures)))
 
 same-length : tie.Need-same-length Inv-loop μ-loop
 same-length c = c .before .loop .inv .1 .0
@@ -85,12 +79,10 @@ write-spec =
     drop-digit-requires
     loop-holds
     sub-i-2
-    drop-digit-requires-2
-    last-digit-requires-2
-    last-digit-requires-3
+    last-pair-requires
     pair-of-requires-2
     slice-write-part-2
-    drop-digit-requires-3
+    drop-pair-requires
     loop-less
     loop-again
     same-length

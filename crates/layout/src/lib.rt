@@ -260,13 +260,13 @@ fn nested(layout: &[u32], lo: usize, hi: usize, levels: usize) -> bool
             return false;
         }
         let e = load_inside(layout, i);
+        if e.span == 1 {
+            i += 1;
+            continue;
+        }
         let end = end_of(e.span as u64, i, hi);
         if !span_ok(e, end - (i + 1)) {
             return false;
-        }
-        if end == i + 1 {
-            i = end;
-            continue;
         }
         if !nested(layout, i + 1, end, levels - 1) {
             return false;
@@ -328,6 +328,10 @@ pub fn record_length(layout: &[u32]) -> u64
     while i < n {
         let e = load_inside(layout, i);
         far = larger(far, entry_end(e));
+        if e.span <= 1 {
+            i += 1;
+            continue;
+        }
         i = end_of(e.span as u64, i, n);
     }
     far

@@ -1,6 +1,6 @@
 -- Laws of the tree that spans make, and of well nested spans.
 use mathlib.Core.Path.{_≡_, refl, sym, ap, ap₂, _∙_}
-use mathlib.Core.Bool.{Bool, true, false, _&&_, _||_, cond, false≢true, and-eq-true-iff}
+use mathlib.Core.Bool.{Bool, true, false, _&&_, _||_, cond, false≢true, and-eq-true-iff, or-true}
 use Prim.Native.Nat.{ℕ, zero, suc, _+_, _-_, _<_, _≤_}
 use native.Mathlib.Omega.{arith}
 use native.Mathlib.Numerals.{add-one}
@@ -67,6 +67,10 @@ module _ {A : Type 0} (at : ℕ → A) (span : A → ℕ) where
   unfolding tree
   size-tree lo hi = size-in (hi - lo) lo hi (omega arith)
 
+-- an entry of span 1 ends behind itself, and so does one of span 0
+pub end-single : (span lo hi : ℕ) → lo < hi → span ≤ 1 → lo + 1 ≡ endOf span lo hi
+end-single span lo hi h s = omega arith
+
 -- each of two tests that hold together
 pub and-left : (a b : Bool) → (a && b) ≡ true → a ≡ true
 and-left a b h = and-eq-true-iff a b .0 h .0
@@ -131,6 +135,15 @@ module _ {A : Type 0} (at : ℕ → A) (span : A → ℕ) (may : A → Bool) whe
       -- the clamped end is the span's own
       pub nested-exact : en ≡ lo + span x
       nested-exact = omega (arith, eqb-true (span x) (suc (en - (lo + 1))) (and-left (eqb (span x) (suc (en - (lo + 1)))) (may x || eqb (en - (lo + 1)) 0) nested-own))
+
+  -- an entry of span 1 may stand anywhere
+  pub nested-single : (lo hi : ℕ) (x : A) → lo < hi → x ≡ at lo → span x ≡ 1 → (levels : ℕ) → (levels ≡ 0 → ⊥)
+      → nested span may levels (tree at span lo hi) ≡ nested span may levels (tree at span (lo + 1) hi)
+  nested-single lo hi x h p s levels z =
+      nested-next lo hi x (lo + 1) h p (end-single (span x) lo hi h (omega arith)) levels z own-span (nested-end (lo + 1) (lo + 1) (levels - 1) (omega arith))
+    where
+      own-span : spanOk span may x (lo + 1 - (lo + 1)) ≡ true
+      own-span = let n : lo + 1 - (lo + 1) ≡ 0 = omega arith in rw (n, s) (or-true (may x))
 
 -- entries with the same spans, of which the same ones may have members, are nested alike
 module _ {A B : Type 0} (at : ℕ → A) (span : A → ℕ) (may : A → Bool) (at′ : ℕ → B) (span′ : B → ℕ) (may′ : B → Bool)

@@ -5,7 +5,7 @@ use borrow.Author.Needs.{needs}
 use borrow.Author.Tests.{not-true, not-false}
 use Rattle.layout.specs.Layout.{entryAt, spanOf, isGroup, part}
 use Rattle.spans.specs.Tree as spans
-use Rattle.spans.proofs.Tree.{nested-end, nested-deep, nested-span, nested-inner, nested-next}
+use Rattle.spans.proofs.Tree.{nested-end, nested-deep, nested-span, nested-inner, nested-next, nested-single}
 use borrow.Fn.Kinds.{In}
 use borrow.Fn.PlainCycle.{Measures, is, falls, and}
 use Rattle.layout.proofs.nested.Reads as nested
@@ -44,6 +44,15 @@ nested-returns t c = sym (c .before .before .loop .inv .1 ∙ nested-deep (entry
 nested-load-inside-requires : (t : ℕ) → nested-lts.Need-load-inside-requires (nested-claims t) (nested-at t) nested.Post nested-Inv-loop nested-μ-loop
 nested-load-inside-requires t c κs = omega arith
 
+nested-add-i : (t : ℕ) → nested-lts.Need-add-i (nested-claims t) (nested-at t) nested.Post nested-Inv-loop nested-μ-loop
+nested-add-i t c = omega arith
+
+nested-loop-less : (t : ℕ) → nested-lts.Need-loop-less (nested-claims t) (nested-at t) nested.Post nested-Inv-loop nested-μ-loop
+nested-loop-less t c = omega arith
+
+nested-loop-again : (t : ℕ) → nested-lts.Need-loop-again (nested-claims t) (nested-at t) nested.Post nested-Inv-loop nested-μ-loop
+nested-loop-again t c = (omega arith, c .before .before .before .before .before .loop .inv .1 ∙ nested-single (entryAt (c .before .before .before .before .before .before .before .args .layout .now)) spanOf isGroup _ _ _ (c .before .before .before .before .loop-test .taken) (c .before .before .load-inside .ensures) (c .if2 .taken) _ (c .before .before .before .if1 .left))
+
 nested-cast-end-of : (t : ℕ) → nested-lts.Need-cast-end-of (nested-claims t) (nested-at t) nested.Post nested-Inv-loop nested-μ-loop
 nested-cast-end-of t c = omega arith
 
@@ -60,16 +69,7 @@ nested-span-ok-requires : (t : ℕ) → nested-lts.Need-span-ok-requires (nested
 nested-span-ok-requires t c κs = search needs
 
 nested-returns-2 : (t : ℕ) → nested-lts.Need-returns-2 (nested-claims t) (nested-at t) nested.Post nested-Inv-loop nested-μ-loop
-nested-returns-2 t c = sym (c .before .before .before .before .before .before .before .loop .inv .1 ∙ nested-span (entryAt (c .before .before .before .before .before .before .before .before .before .args .layout .now)) spanOf isGroup _ _ _ _ (c .before .before .before .before .before .before .loop-test .taken) (c .before .before .before .before .load-inside .ensures) (c .before .before .end-of .ensures) _ (c .before .before .before .before .before .if1 .left) (sym (c .before .span-ok .ensures) ∙ not-true _ (c .if2 .taken)))
-
-nested-add-if3 : (t : ℕ) → nested-lts.Need-add-if3 (nested-claims t) (nested-at t) nested.Post nested-Inv-loop nested-μ-loop
-nested-add-if3 t c = omega arith
-
-nested-loop-less : (t : ℕ) → nested-lts.Need-loop-less (nested-claims t) (nested-at t) nested.Post nested-Inv-loop nested-μ-loop
-nested-loop-less t c = omega arith
-
-nested-loop-again : (t : ℕ) → nested-lts.Need-loop-again (nested-claims t) (nested-at t) nested.Post nested-Inv-loop nested-μ-loop
-nested-loop-again t c = (omega arith, c .before .before .before .before .before .before .before .before .loop .inv .1 ∙ nested-next (entryAt (c .before .before .before .before .before .before .before .before .before .before .args .layout .now)) spanOf isGroup _ _ _ _ (c .before .before .before .before .before .before .before .loop-test .taken) (c .before .before .before .before .before .load-inside .ensures) (c .before .before .before .end-of .ensures) _ (c .before .before .before .before .before .before .if1 .left) (sym (c .before .before .span-ok .ensures) ∙ not-false _ (c .before .if2 .left)) (nested-end (entryAt (c .before .before .before .before .before .before .before .before .before .before .args .layout .now)) spanOf isGroup _ _ _ (omega arith)))
+nested-returns-2 t c = sym (c .before .before .before .before .before .before .before .before .before .loop .inv .1 ∙ nested-span (entryAt (c .before .before .before .before .before .before .before .before .before .before .before .args .layout .now)) spanOf isGroup _ _ _ _ (c .before .before .before .before .before .before .before .before .loop-test .taken) (c .before .before .before .before .before .before .load-inside .ensures) (c .before .before .end-of .ensures) _ (c .before .before .before .before .before .before .before .if1 .left) (sym (c .before .span-ok .ensures) ∙ not-true _ (c .if3 .taken)))
 
 nested-add-nested : (t : ℕ) → nested-lts.Need-add-nested (nested-claims t) (nested-at t) nested.Post nested-Inv-loop nested-μ-loop
 nested-add-nested t c = omega arith
@@ -81,13 +81,13 @@ nested-nested-requires : (t : ℕ) → nested-lts.Need-nested-requires (nested-c
 nested-nested-requires t c κs = omega arith
 
 nested-returns-3 : (t : ℕ) → nested-lts.Need-returns-3 (nested-claims t) (nested-at t) nested.Post nested-Inv-loop nested-μ-loop
-nested-returns-3 t c = sym (c .before .before .before .before .before .before .before .before .before .before .loop .inv .1 ∙ nested-inner (entryAt (c .before .before .before .before .before .before .before .before .before .before .before .before .args .layout .now)) spanOf isGroup _ _ _ _ (c .before .before .before .before .before .before .before .before .before .loop-test .taken) (c .before .before .before .before .before .before .before .load-inside .ensures) (c .before .before .before .before .before .end-of .ensures) _ (c .before .before .before .before .before .before .before .before .if1 .left) (sym (c .before .before .before .before .span-ok .ensures) ∙ not-false _ (c .before .before .before .if2 .left)) (sym (c .before .nested .ensures) ∙ not-true _ (c .if4 .taken)))
+nested-returns-3 t c = sym (c .before .before .before .before .before .before .before .before .before .before .before .loop .inv .1 ∙ nested-inner (entryAt (c .before .before .before .before .before .before .before .before .before .before .before .before .before .args .layout .now)) spanOf isGroup _ _ _ _ (c .before .before .before .before .before .before .before .before .before .before .loop-test .taken) (c .before .before .before .before .before .before .before .before .load-inside .ensures) (c .before .before .before .before .end-of .ensures) _ (c .before .before .before .before .before .before .before .before .before .if1 .left) (sym (c .before .before .before .span-ok .ensures) ∙ not-false _ (c .before .before .if3 .left)) (sym (c .before .nested .ensures) ∙ not-true _ (c .if4 .taken)))
 
 nested-loop-less-2 : (t : ℕ) → nested-lts.Need-loop-less-2 (nested-claims t) (nested-at t) nested.Post nested-Inv-loop nested-μ-loop
 nested-loop-less-2 t c = omega arith
 
 nested-loop-again-2 : (t : ℕ) → nested-lts.Need-loop-again-2 (nested-claims t) (nested-at t) nested.Post nested-Inv-loop nested-μ-loop
-nested-loop-again-2 t c = (omega arith, c .before .before .before .before .before .before .before .before .before .before .loop .inv .1 ∙ nested-next (entryAt (c .before .before .before .before .before .before .before .before .before .before .before .before .args .layout .now)) spanOf isGroup _ _ _ _ (c .before .before .before .before .before .before .before .before .before .loop-test .taken) (c .before .before .before .before .before .before .before .load-inside .ensures) (c .before .before .before .before .before .end-of .ensures) _ (c .before .before .before .before .before .before .before .before .if1 .left) (sym (c .before .before .before .before .span-ok .ensures) ∙ not-false _ (c .before .before .before .if2 .left)) (sym (c .before .nested .ensures) ∙ not-false _ (c .if4 .left)))
+nested-loop-again-2 t c = (omega arith, c .before .before .before .before .before .before .before .before .before .before .before .loop .inv .1 ∙ nested-next (entryAt (c .before .before .before .before .before .before .before .before .before .before .before .before .before .args .layout .now)) spanOf isGroup _ _ _ _ (c .before .before .before .before .before .before .before .before .before .before .loop-test .taken) (c .before .before .before .before .before .before .before .before .load-inside .ensures) (c .before .before .before .before .end-of .ensures) _ (c .before .before .before .before .before .before .before .before .before .if1 .left) (sym (c .before .before .before .span-ok .ensures) ∙ not-false _ (c .before .before .if3 .left)) (sym (c .before .nested .ensures) ∙ not-false _ (c .if4 .left)))
 
 nested-returns-4 : (t : ℕ) → nested-lts.Need-returns-4 (nested-claims t) (nested-at t) nested.Post nested-Inv-loop nested-μ-loop
 nested-returns-4 t c = sym (c .before .loop .inv .1 ∙ nested-end (entryAt (c .before .before .before .args .layout .now)) spanOf isGroup _ _ _ (c .loop-test .left))
@@ -101,15 +101,15 @@ pub +nested-spec : {M : Type 1} → statement M
     (nested-loop-holds t)
     (nested-returns t)
     (nested-load-inside-requires t)
+    (nested-add-i t)
+    (nested-loop-less t)
+    (nested-loop-again t)
     (nested-cast-end-of t)
     (nested-end-of-requires t)
     (nested-add-span-ok t)
     (nested-sub-span-ok t)
     (nested-span-ok-requires t)
     (nested-returns-2 t)
-    (nested-add-if3 t)
-    (nested-loop-less t)
-    (nested-loop-again t)
     (nested-add-nested t)
     (nested-sub-nested t)
     (nested-nested-requires t)

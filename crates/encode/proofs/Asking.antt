@@ -13,12 +13,13 @@ use Rattle.spans.proofs.Tree.{tree-none, tree-at}
 use Rattle.layout.specs.declared.Entry.{Entry}
 use Rattle.layout.specs.Layout.{entryAt, spanOf, part, entries, entryCount, checkedOf, recordLength}
 use Rattle.items.specs.Items as Items
-use Rattle.items.specs.declared.Item.{Item}
 use Rattle.items.specs.Items.{Values, values, headOf, restOf, lookup, wellFormed}
 use Rattle.items.proofs.Items.{values-none, values-node, rest-is}
 use Rattle.walks.specs.Walk.{isPad}
 use Rattle.walks.specs.Records.{found, supplied, most, workFor}
-use Rattle.encode.specs.Asked.{askedOf, heads, sought, passed}
+use Rattle.encode.specs.Asked.{askedOf, sought, passed}
+use Rattle.encode.specs.Order.{heads}
+use Rattle.encode.proofs.Order.{lookup-heads}
 
 -- ---- names supplied
 
@@ -59,9 +60,8 @@ lookup-in (node it members rest) other name h = go (lookup-in rest other name) (
     go f false k = rest-in (node it members rest) name (f k)
 
 heads-in : (name : ℕ) (vs : Values) → heads name vs ≡ true → (found vs ≡ true) × (found (lookup name vs) ≡ true)
-unfolding lookup
 heads-in name none h = absurd (false≢true h)
-heads-in name (node it members rest) h = (refl, rw h refl)
+heads-in name (node it members rest) h = (refl, ap found (lookup-heads name (node it members rest) h))
 
 module _ (e : Entry) (vs all : Values) (w : Within vs all) where
   pub within-next : Within (passed e (sought e vs all)) all
@@ -104,22 +104,14 @@ module _ (v : List ℕ) (e : Entry) (next to : ℕ) where
   unfolding isPad
   sought-pad k = rw (eq-eqb (e .kind) 6 k) refl
 
-  module _ (k : e .kind ≡ 6 → ⊥) where
-    module _ (h : next < to) (it : Item) (p : it ≡ headOf (values v next to)) where
-      heads-is : (x : Bool) → eqb (it .name) (e .name) ≡ x → heads (e .name) (values v next to) ≡ x
-      heads-is x f = ap (heads (e .name)) (values-node v next to it (Items.spanOf it) (endOf (Items.spanOf it) next to) p refl refl h) ∙ f
-
-      pub sought-here : it .name ≡ e .name → values v next to ≡ sought e (values v next to) (values v 0 to)
-      unfolding isPad
-      sought-here f = rw (ne-eqb (e .kind) 6 k, heads-is true (eq-eqb (it .name) (e .name) f)) refl
-
-      pub sought-there : (it .name ≡ e .name → ⊥) → (r : ℕ) → lookup (e .name) (values v 0 to) ≡ values v r to → values v r to ≡ sought e (values v next to) (values v 0 to)
-      unfolding isPad
-      sought-there f r g = rw (ne-eqb (e .kind) 6 k, heads-is false (ne-eqb (it .name) (e .name) f)) (sym g)
-
-    pub sought-end : to ≤ next → (r : ℕ) → lookup (e .name) (values v 0 to) ≡ values v r to → values v r to ≡ sought e (values v next to) (values v 0 to)
+  module _ (k : e .kind ≡ 6 → ⊥) (z : Bool) (y : z ≡ heads (e .name) (values v next to)) where
+    pub sought-here : z ≡ true → values v next to ≡ sought e (values v next to) (values v 0 to)
     unfolding isPad
-    sought-end h r g = rw (ne-eqb (e .kind) 6 k, values-none v next to h) (sym g)
+    sought-here f = rw (ne-eqb (e .kind) 6 k, sym y ∙ f) refl
+
+    pub sought-there : z ≡ false → (r : ℕ) → lookup (e .name) (values v 0 to) ≡ values v r to → values v r to ≡ sought e (values v next to) (values v 0 to)
+    unfolding isPad
+    sought-there f r g = rw (ne-eqb (e .kind) 6 k, sym y ∙ f) (sym g)
 
 pub passed-pad : (v : List ℕ) (e : Entry) (j to : ℕ) → e .kind ≡ 6 → values v j to ≡ passed e (values v j to)
 unfolding isPad

@@ -1,3 +1,4 @@
+pub mod Order
 pub mod Steps
 pub mod Turns
 pub mod Asking

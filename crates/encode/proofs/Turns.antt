@@ -17,6 +17,8 @@ use Rattle.encode_leaf.specs.declared.Out.{Out}
 use Rattle.encode_leaf.specs.declared.Run.{Run}
 use Rattle.encode_leaf.specs.Laying.{sat, Laid, refused, laid, Layer, settled, one, elements, field, seq, start}
 use Rattle.encode_leaf.specs.Machine.{codec, roomIn, spread, Spreads}
+use Rattle.encode.specs.declared.Front.{Front}
+use Rattle.encode.specs.Order.{Ahead, Advances}
 use Rattle.encode.proofs.Steps.{field-spread, missing-by, elements-end, elements-refused, elements-settled, elements-go, seq-end, seq-refused, seq-go}
 
 -- the walk's parts in a buffer of this length
@@ -41,17 +43,18 @@ module _ (masks text : List ℕ) (page : ℕ) (l b₀ b : List ℕ) (same : leng
 
 -- ---- a sequence
 
-pub record SeqInv (masks text : List ℕ) (page : ℕ) (l v b₀ : List ℕ) (lo hi from to base : ℕ) (b : List ℕ) (i shift taken past : ℕ) : Type 0 where
+pub record SeqInv (masks text : List ℕ) (page : ℕ) (l v b₀ : List ℕ) (lo hi from to base : ℕ) (b : List ℕ) (i shift taken past : ℕ) (f : Front) : Type 0 where
   pub whole : seqIn masks text page l b₀ lo hi (values v from to) base b₀
       ≡ seq (codec masks page text) (roomIn b₀) (part l i hi) (values v from to) base shift taken past b
   pub same : length b ≡ length b₀
   pub past-lo : lo ≤ i
+  pub ahead : Ahead (values v from to) (values v (f .next) to) (f .low)
 
-pub seq-starts : (masks text : List ℕ) (page : ℕ) (l v b₀ : List ℕ) (lo hi from to base : ℕ) → SeqInv masks text page l v b₀ lo hi from to base b₀ lo 0 0 0
-seq-starts masks text page l v b₀ lo hi from to base = record { whole = refl; same = refl; past-lo = omega arith }
+pub seq-starts : (masks text : List ℕ) (page : ℕ) (l v b₀ : List ℕ) (lo hi from to base : ℕ) → SeqInv masks text page l v b₀ lo hi from to base b₀ lo 0 0 0 (record { next = from; low = 0 })
+seq-starts masks text page l v b₀ lo hi from to base = record { whole = refl; same = refl; past-lo = omega arith; ahead = λ name h. refl }
 
-module _ {masks text : List ℕ} {page : ℕ} {l v b₀ : List ℕ} {lo hi from to base : ℕ} {b : List ℕ} {i shift taken past : ℕ}
-    (inv : SeqInv masks text page l v b₀ lo hi from to base b i shift taken past) where
+module _ {masks text : List ℕ} {page : ℕ} {l v b₀ : List ℕ} {lo hi from to base : ℕ} {b : List ℕ} {i shift taken past : ℕ} {f : Front}
+    (inv : SeqInv masks text page l v b₀ lo hi from to base b i shift taken past f) where
   pub seq-done : hi ≤ i → seqIn masks text page l b₀ lo hi (values v from to) base b₀ ≡ laid b past taken
   seq-done h = inv .whole ∙ seq-end (codec masks page text) (roomIn b₀) l i hi (values v from to) base shift taken past b h
 
@@ -65,19 +68,21 @@ module _ {masks text : List ℕ} {page : ℕ} {l v b₀ : List ℕ} {lo hi from 
         ∙ ap₂ (λ vs a. fieldIn masks text page l b₀ e (i + 1) en vs a b) (sym found) (o2 ∙ ap (λ x. sat (base + x)) o1)
 
     pub seq-stops : (n : ℕ) → called ≡ refused n → seqIn masks text page l b₀ lo hi (values v from to) base b₀ ≡ refused n
-    seq-stops n f = inv .whole ∙ seq-refused (codec masks page text) (roomIn b₀) l i hi (values v from to) base shift taken past b e en h p q n (sym called-is ∙ f)
+    seq-stops n r = inv .whole ∙ seq-refused (codec masks page text) (roomIn b₀) l i hi (values v from to) base shift taken past b e en h p q n (sym called-is ∙ r)
 
-    pub seq-goes : (o : Out) (b′ : List ℕ) (res grown shift′ stop taken′ past′ : ℕ) → called ≡ laid b′ (o .past) (o .taken) → length b′ ≡ length b
+    pub seq-goes : (o : Out) (b′ : List ℕ) (f′ : Front) (res grown shift′ stop taken′ past′ : ℕ) → called ≡ laid b′ (o .past) (o .taken) → length b′ ≡ length b
         → res ≡ reservedWidth e → grown ≡ o .taken - res → shift′ ≡ sat (shift + grown) → stop ≡ sat (off + o .taken) → taken′ ≡ max taken stop → past′ ≡ max past (o .past)
-        → SeqInv masks text page l v b₀ lo hi from to base b′ en shift′ taken′ past′
-    seq-goes o b′ res grown shift′ stop taken′ past′ f same r1 r2 r3 r4 r5 r6 = record {
-      whole = inv .whole ∙ seq-go (codec masks page text) (roomIn b₀) l i hi (values v from to) base shift taken past b e en h p q b′ (o .past) (o .taken) (sym called-is ∙ f)
+        → Advances (e .name) (values v j to) (values v (f .next) to) (f .low) (values v (f′ .next) to) (f′ .low)
+        → SeqInv masks text page l v b₀ lo hi from to base b′ en shift′ taken′ past′ f′
+    seq-goes o b′ f′ res grown shift′ stop taken′ past′ r0 same r1 r2 r3 r4 r5 r6 r7 = record {
+      whole = inv .whole ∙ seq-go (codec masks page text) (roomIn b₀) l i hi (values v from to) base shift taken past b e en h p q b′ (o .past) (o .taken) (sym called-is ∙ r0)
           ∙ ap₂ (λ x y. seq (codec masks page text) (roomIn b₀) (part l en hi) (values v from to) base x y (max past (o .past)) b′)
           (sym (r3 ∙ ap (λ x. sat (shift + x)) (r2 ∙ ap (λ x. o .taken - x) r1)))
           (sym (r5 ∙ ap (max taken) (r4 ∙ ap (λ x. sat (x + o .taken)) o1)))
           ∙ ap (λ x. seq (codec masks page text) (roomIn b₀) (part l en hi) (values v from to) base shift′ taken′ x b′) (sym r6);
       same = same ∙ inv .same;
       past-lo = omega (arith, inv .past-lo);
+      ahead = r7 (values v from to) found (inv .ahead);
     }
 
 -- ---- the elements of an entry: o is what the whole field comes to

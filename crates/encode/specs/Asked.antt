@@ -1,15 +1,15 @@
 -- The questions before the writer's walk: the number of the first that fails, or 0.
-use mathlib.Core.Bool.{Bool, true, false, cond}
+use mathlib.Core.Bool.{cond}
 use mathlib.Core.List.{List}
 use Prim.Native.Nat.{ℕ, _/_, min}
 use lib.Dec.{eqb, leb}
 use lib.ListN.{length}
-use Rattle.spans.specs.Tree.{none, node}
 use Rattle.layout.specs.declared.Entry.{Entry}
 use Rattle.layout.specs.Layout.{entries, checkedOf, recordLength}
 use Rattle.items.specs.Items.{Values, values, restOf, lookup, wellFormed}
 use Rattle.walks.specs.Walk.{isPad}
 use Rattle.walks.specs.Records.{most, workFor, supplied}
+use Rattle.encode.specs.Order.{heads}
 
 unfoldable pub askedOf : List ℕ → List ℕ → ℕ → List ℕ → List ℕ → ℕ → ℕ → ℕ
 askedOf l masks page items text room work =
@@ -18,11 +18,6 @@ askedOf l masks page items text room work =
     (cond (wellFormed items (length text))
     (cond (supplied (entries l) (values items 0 (length items / 4)))
     (cond (leb (recordLength l) (min room most)) 0 16) 12) 11) 16) (checkedOf l masks page)
-
--- whether the first of these items has the name
-abbrev pub heads : ℕ → Values → Bool
-heads name none = false
-heads name (node it members rest) = eqb (it .name) name
 
 -- the items from an entry's own on: these, if the first has its name, or else those of the whole list from the first of the name on; a Pad has none
 abbrev pub sought : Entry → Values → Values → Values

@@ -31,19 +31,68 @@ ghost use mathlib.Core.Bool.{not, _&&_, _||_};
 ghost use lib.Dec.{eqb, ltb};
 ghost use lib.IntN.{pos};
 ghost use lib.ListN.{length, replicate};
-ghost use Rattle.layout.specs.Layout.{part, entries, isGroup};
-ghost use Rattle.items.specs.Items.{values};
+ghost use Rattle.layout.specs.Layout.{part, entries, isGroup, recordLength};
+ghost use Rattle.items.specs.Items.{values, lookup};
 ghost use Rattle.walks.specs.Walk.{single};
 ghost use Rattle.walks.specs.Records.{encodeRecord, refusalOf, bytesOf, filled, supplied};
 ghost use Rattle.encode_leaf.specs.Laying.{one, field, start};
 ghost use Rattle.encode_leaf.specs.Machine.{Met, codec, roomIn};
 ghost use Rattle.encode.specs.Asked.{askedOf, sought, passed};
+ghost use Rattle.encode.specs.Order.{heads, Ahead, Advances};
 
 // What writing a record answers: the number that refuses it, or 0 with the record's length.
 pub struct Written {
     pub number: u32,
     pub length: usize,
 }
+
+// ---- items by name, at once where they stand in the entries' order
+
+// Whether the first of the items i..to has the name.
+fn has_name(items: &[u64], name: u64, i: usize, to: usize) -> bool
+    ensures { λ r. ⌜ r ≡ heads name (values (now (items .entry)) i to) ⌝ }
+{
+    if i < to {
+        let it = fetch(items, i, to);
+        return it.name == name;
+    }
+    false
+}
+
+// How far the items of a sequence were met in the entries' order: none in front of `next` has a name from `low` on.
+struct Front {
+    next: usize,
+    low: u64,
+}
+
+// The place of the first item of a name in the sequence from..to.
+fn place_of(items: &[u64], name: u32, from: usize, f: Front, to: usize) -> usize
+    requires { ⌜ Ahead (values (now items) from to) (values (now items) (f .next) to) (f .low) ⌝ }
+    ensures { λ r. ⌜ lookup name (values (now (items .entry)) from to) ≡ values (now (items .entry)) r to ⌝ }
+{
+    let next = f.next;
+    if f.low <= name as u64 {
+        if has_name(items, name as u64, next, to) {
+            return next;
+        }
+    }
+    find(items, name as u64, from, to)
+}
+
+// The front behind the first item of a name, which is at j, where that is the next one.
+fn advance(items: &[u64], name: u32, f: Front, j: usize, to: usize) -> Front
+    ensures { λ r. ⌜ Advances name (values (now (items .entry)) j to) (values (now (items .entry)) (f .next) to) (f .low) (values (now (items .entry)) (r .next) to) (r .low) ⌝ }
+{
+    if j != f.next {
+        return f;
+    }
+    Front {
+        next: item_end(items, j, to),
+        low: larger(f.low, name as u64 + 1),
+    }
+}
+
+// ---- the walk
 
 // The entries lo up to hi, one after the other, from a base on, by the items from..to.
 fn encode_seq(
@@ -65,12 +114,14 @@ fn encode_seq(
     let mut shift: u64 = 0;
     let mut taken: u64 = 0;
     let mut past: u64 = 0;
+    let mut f = Front { next: from, low: 0 };
     while i < hi {
         let e = load(layout, i);
         let end = end_of(e.span as u64, i, hi);
         let off = sat_add(e.offset as u64, shift);
         let at = sat_add(base, off);
-        let j = find(items, e.name as u64, from, to);
+        let j = place_of(items, e.name, from, f, to);
+        f = advance(items, e.name, f, j, to);
         let o = encode_field(
             layout,
             masks,
@@ -231,11 +282,8 @@ fn seek(items: &[u64], e: Entry, next: usize, to: usize) -> usize
     if e.kind == 6 {
         return next;
     }
-    if next < to {
-        let it = fetch(items, next, to);
-        if it.name == e.name as u64 {
-            return next;
-        }
+    if has_name(items, e.name as u64, next, to) {
+        return next;
     }
     find(items, e.name as u64, 0, to)
 }
@@ -270,16 +318,18 @@ fn supplies(layout: &[u32], items: &[u64]) -> bool
     true
 }
 
-// The questions before the walk: the number of the first that fails, or 0.
+// The questions before the walk, by a layout's record length: the number of the first that fails, or 0.
 fn asked(
     layout: &[u32],
     masks: &[u8],
     page: u32,
     items: &[u64],
     text: &[u8],
+    least: u64,
     room: usize,
     work: usize,
 ) -> u32
+    requires { ⌜ least ≡ recordLength (now layout) ⌝ }
     ensures { λ r. ⌜ r ≡ askedOf (now (layout .entry)) (now (masks .entry)) page (now (items .entry)) (now (text .entry)) room work ⌝ }
 {
     let unlawful = check_layout(layout, masks, page);
@@ -295,7 +345,7 @@ fn asked(
     if !supplies(layout, items) {
         return 12;
     }
-    if room_of(room) < record_length(layout) {
+    if room_of(room) < least {
         return 16;
     }
     0
@@ -316,7 +366,17 @@ pub fn encode_record(
     ensures { λ _. ⌜ now («record» .exit) ≡ filled (length (now («record» .entry))) (bytesOf (encodeRecord (now (layout .entry)) (now (masks .entry)) page (now (items .entry)) (now (text .entry)) (length (now («record» .entry))) (length (now (counts .entry))))) ⌝ }
     ensures { λ _. ⌜ now (counts .exit) ≡ replicate (length (now (counts .entry))) (pos 0) ⌝ }
 {
-    let number = asked(layout, masks, page, items, text, record.len(), counts.len());
+    let least = record_length(layout);
+    let number = asked(
+        layout,
+        masks,
+        page,
+        items,
+        text,
+        least,
+        record.len(),
+        counts.len(),
+    );
     clear(record, counts);
     if number != 0 {
         return Written { number, length: 0 };
@@ -341,7 +401,6 @@ pub fn encode_record(
             length: 0,
         };
     }
-    let least = record_length(layout);
     let length = larger(least, less(o.past, 1));
     Written {
         number: 0,

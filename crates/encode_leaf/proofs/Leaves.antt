@@ -10,7 +10,7 @@ use native.Mathlib.Nat.{le-div-iff-mul-le}
 use lib.Dec.{eqb, leb}
 use lib.ListN.{length, take, drop, length-drop, drop-of-length-le}
 use lib.Seq.{take-all, take-nil}
-use borrow.Author.Tests.{ne-eqb, eq-eqb, lt-leb, le-leb}
+use borrow.Author.Tests.{ne-eqb, eq-eqb, eqb-true, eqb-false, lt-leb, le-leb}
 use Rattle.lists.proofs.Part.{in-whole}
 use Rattle.layout.specs.declared.Entry.{Entry}
 use Rattle.items.specs.declared.Item.{Item}
@@ -21,7 +21,7 @@ use Rattle.walks.specs.Walk.{single, Coded, unfit, bytes}
 use Rattle.walks.specs.Writing.{lay}
 use Rattle.walks.specs.Kinds.{maskOf, textOf, scalarIn, codedOf, enc}
 use Rattle.encode_leaf.specs.Laying.{sat, Laid, refused, laid, coded, leaf}
-use Rattle.encode_leaf.specs.Machine.{codec, roomIn, putting, putWidth, judged, bytesIn}
+use Rattle.encode_leaf.specs.Machine.{codec, roomIn, putting, putWidth, judged, outside, bytesIn}
 use Rattle.encode_leaf.proofs.Widths.{by-kind, wide}
 
 -- ---- products that stop
@@ -120,53 +120,78 @@ module _ (masks text : List ℕ) (e : Entry) (it : Item) (m n a size b : ℕ) (p
   pub judge-is : (r : ℕ) → r ≡ judgedOf (e .kind) (e .p) (e .q) (e .r) (e .s) (take (m + n - m) (drop m masks)) (e .width) (it .tag) (scalarIn it) (take (a + b - a) (drop a text)) → r ≡ judged masks text e it
   judge-is r h = h ∙ ap₂ (λ x y. judgedOf (e .kind) (e .p) (e .q) (e .r) (e .s) x (e .width) (it .tag) (scalarIn it) y) mask-is text-is
 
-  pub put-is : (page : ℕ) (part last : List ℕ) → judged masks text e it ≡ 0 → length part ≡ putWidth e
-      → last ≡ partAfter (judgedOf (e .kind) (e .p) (e .q) (e .r) (e .s) (take (m + n - m) (drop m masks)) (length part) (it .tag) (scalarIn it) (take (a + b - a) (drop a text)))
-      (bytesOf (e .kind) (e .p) (e .q) (e .r) (take (m + n - m) (drop m masks)) page (length part) (scalarIn it) (take (a + b - a) (drop a text))) part
-      → last ≡ bytesIn masks page text e it
-  put-is page part last j l h =
-      h ∙ ap₂ (λ x y. partAfter x y part)
-      (ap₂ (λ x y. judgedOf (e .kind) (e .p) (e .q) (e .r) (e .s) x (length part) (it .tag) (scalarIn it) y) mask-is text-is
-      ∙ ap (λ w. judgedOf (e .kind) (e .p) (e .q) (e .r) (e .s) (maskOf masks e) w (it .tag) (scalarIn it) (textOf text it)) l
-      ∙ same-judged (e .p) (e .q) (e .r) (e .s) (maskOf masks e) page (e .width) (it .tag) (scalarIn it) (textOf text it) (e .kind) ∙ j)
-      (ap₂ (λ x y. bytesOf (e .kind) (e .p) (e .q) (e .r) x page (length part) (scalarIn it) y) mask-is text-is
-      ∙ ap (λ w. bytesOf (e .kind) (e .p) (e .q) (e .r) (maskOf masks e) page w (scalarIn it) (textOf text it)) l
-      ∙ same-bytes (e .p) (e .q) (e .r) (e .s) (maskOf masks e) page (e .width) (it .tag) (scalarIn it) (textOf text it) (e .kind))
-      ∙ sym (whole (bytesIn masks page text e it) part (bytes-long masks page text e it j ∙ sym l))
+  module _ (page : ℕ) (part : List ℕ) (l : length part ≡ putWidth e) where
+    at-width : judgedOf (e .kind) (e .p) (e .q) (e .r) (e .s) (take (m + n - m) (drop m masks)) (length part) (it .tag) (scalarIn it) (take (a + b - a) (drop a text)) ≡ judged masks text e it
+    at-width =
+        ap₂ (λ x y. judgedOf (e .kind) (e .p) (e .q) (e .r) (e .s) x (length part) (it .tag) (scalarIn it) y) mask-is text-is
+        ∙ ap (λ w. judgedOf (e .kind) (e .p) (e .q) (e .r) (e .s) (maskOf masks e) w (it .tag) (scalarIn it) (textOf text it)) l
+        ∙ same-judged (e .p) (e .q) (e .r) (e .s) (maskOf masks e) page (e .width) (it .tag) (scalarIn it) (textOf text it) (e .kind)
+
+    pub put-is : (r : ℕ) (last : List ℕ)
+        → r ≡ judgedOf (e .kind) (e .p) (e .q) (e .r) (e .s) (take (m + n - m) (drop m masks)) (length part) (it .tag) (scalarIn it) (take (a + b - a) (drop a text))
+        → last ≡ partAfter (judgedOf (e .kind) (e .p) (e .q) (e .r) (e .s) (take (m + n - m) (drop m masks)) (length part) (it .tag) (scalarIn it) (take (a + b - a) (drop a text)))
+        (bytesOf (e .kind) (e .p) (e .q) (e .r) (take (m + n - m) (drop m masks)) page (length part) (scalarIn it) (take (a + b - a) (drop a text))) part
+        → (r ≡ judged masks text e it) × (r ≡ 0 → last ≡ bytesIn masks page text e it)
+    put-is r last g h = (g ∙ at-width, put)
+      where
+        put : r ≡ 0 → last ≡ bytesIn masks page text e it
+        put z =
+            let j : judged masks text e it ≡ 0 = sym (g ∙ at-width) ∙ z in
+            h ∙ ap₂ (λ x y. partAfter x y part) (at-width ∙ j)
+            (ap₂ (λ x y. bytesOf (e .kind) (e .p) (e .q) (e .r) x page (length part) (scalarIn it) y) mask-is text-is
+            ∙ ap (λ w. bytesOf (e .kind) (e .p) (e .q) (e .r) (maskOf masks e) page w (scalarIn it) (textOf text it)) l
+            ∙ same-bytes (e .p) (e .q) (e .r) (e .s) (maskOf masks e) page (e .width) (it .tag) (scalarIn it) (textOf text it) (e .kind))
+            ∙ sym (whole (bytesIn masks page text e it) part (bytes-long masks page text e it j ∙ sym l))
 
 -- ---- the whole leaf
 
-module _ (masks text : List ℕ) (page : ℕ) (e : Entry) (it : Item) (at : ℕ) (b : List ℕ) (room n : ℕ) (j : n ≡ judged masks text e it) where
-  pub leaf-unfit : (n ≡ 0 → ⊥) → leaf (codec masks page text) room e it at b ≡ refused n
+pub outside-fit : (n j : ℕ) → n ≡ j → n ≡ 0 → 16 ≡ outside j
+outside-fit n j p z = rw (sym p ∙ z) refl
+
+pub outside-unfit : (n j : ℕ) → n ≡ j → (n ≡ 0 → ⊥) → n ≡ outside j
+outside-unfit n j p h = rw (← p, ne-eqb n 0 h) refl
+
+pub outside-refuses : (r j : ℕ) → r ≡ outside j → r ≡ 0 → ⊥
+outside-refuses r j p z = go (eqb j 0) refl (sym p ∙ z)
+  where
+    go : (x : Bool) → eqb j 0 ≡ x → cond x 16 j ≡ 0 → ⊥
+    go true q k = omega (arith, k)
+    go false q k = eqb-false j 0 q k
+
+module _ (masks text : List ℕ) (page : ℕ) (e : Entry) (it : Item) (at : ℕ) (b : List ℕ) (room : ℕ) where
+  pub leaf-unfit : (n : ℕ) → n ≡ judged masks text e it → (n ≡ 0 → ⊥) → leaf (codec masks page text) room e it at b ≡ refused n
   unfolding leaf enc
-  leaf-unfit h = rw (← j, ne-eqb n 0 h) refl
+  leaf-unfit n j h = rw (← j, ne-eqb n 0 h) refl
 
-  module _ (z : n ≡ 0) where
-    fits : judged masks text e it ≡ 0
-    fits = sym j ∙ z
+  leaf-coded : judged masks text e it ≡ 0 → leaf (codec masks page text) room e it at b ≡ coded room (e .width) at b (bytes (bytesIn masks page text e it))
+  unfolding leaf enc
+  leaf-coded j = rw j refl
 
-    leaf-coded : leaf (codec masks page text) room e it at b ≡ coded room (e .width) at b (bytes (bytesIn masks page text e it))
-    unfolding leaf enc
-    leaf-coded = rw fits refl
+  module _ (width r : ℕ) (w : width ≡ putWidth e) (q : r ≡ room) (t : Bool) (p : t ≡ leb (at + width) r) where
+    long : judged masks text e it ≡ 0 → length (bytesIn masks page text e it) ≡ width
+    long j = bytes-long masks page text e it j ∙ sym w
 
-    module _ (width r : ℕ) (w : width ≡ putWidth e) (q : r ≡ room) (t : Bool) (p : t ≡ leb (at + width) r) where
-      long : length (bytesIn masks page text e it) ≡ width
-      long = bytes-long masks page text e it fits ∙ sym w
+    test : judged masks text e it ≡ 0 → (x : Bool) → t ≡ x → leb (at + length (bytesIn masks page text e it)) room ≡ x
+    test j x f = ap₂ (λ i k. leb (at + i) k) (long j) (sym q) ∙ sym p ∙ f
 
-      test : (x : Bool) → t ≡ x → leb (at + length (bytesIn masks page text e it)) room ≡ x
-      test x f = ap₂ (λ i k. leb (at + i) k) long (sym q) ∙ sym p ∙ f
+    pub leaf-out : t ≡ false → (n : ℕ) → n ≡ outside (judged masks text e it) → leaf (codec masks page text) room e it at b ≡ refused n
+    leaf-out f n o = go (eqb (judged masks text e it) 0) refl ∙ ap refused (sym o)
+      where
+        go : (x : Bool) → eqb (judged masks text e it) 0 ≡ x → leaf (codec masks page text) room e it at b ≡ refused (cond x 16 (judged masks text e it))
+        go true k = let j : judged masks text e it ≡ 0 = eqb-true (judged masks text e it) 0 k in leaf-coded j ∙ rw (test j false f) refl
+        go false k = leaf-unfit (judged masks text e it) refl (eqb-false (judged masks text e it) 0 k)
 
-      pub leaf-out : t ≡ false → leaf (codec masks page text) room e it at b ≡ refused 16
-      leaf-out f = leaf-coded ∙ rw (test false f) refl
+    pub leaf-put : t ≡ true → (n : ℕ) → n ≡ judged masks text e it → n ≡ 0 → (ys : List ℕ) → ys ≡ bytesIn masks page text e it
+        → leaf (codec masks page text) room e it at b ≡ laid (take at b ++ (ys ++ drop (at + width - at) (drop at b))) (at + width + 1) (e .width)
+    leaf-put f n g z ys y =
+        leaf-coded j ∙ rw (test j true f) (ap₂ (λ c k. laid c k (e .width)) same (ap (λ i. suc (at + i)) (long j) ∙ sym (add-one (at + width))))
+      where
+        j : judged masks text e it ≡ 0
+        j = sym g ∙ z
 
-      pub leaf-put : t ≡ true → (ys : List ℕ) → ys ≡ bytesIn masks page text e it
-          → leaf (codec masks page text) room e it at b ≡ laid (take at b ++ (ys ++ drop (at + width - at) (drop at b))) (at + width + 1) (e .width)
-      leaf-put f ys y =
-          leaf-coded ∙ rw (test true f) (ap₂ (λ c k. laid c k (e .width)) same (ap (λ i. suc (at + i)) long ∙ sym (add-one (at + width))))
-        where
-          same : lay b at (bytesIn masks page text e it) ≡ take at b ++ (ys ++ drop (at + width - at) (drop at b))
-          same = ap (λ i. take at b ++ (bytesIn masks page text e it ++ drop (at + i) b)) long
-              ∙ sym (in-whole at width b (bytesIn masks page text e it)) ∙ ap (λ l. take at b ++ (l ++ drop (at + width - at) (drop at b))) (sym y)
+        same : lay b at (bytesIn masks page text e it) ≡ take at b ++ (ys ++ drop (at + width - at) (drop at b))
+        same = ap (λ i. take at b ++ (bytesIn masks page text e it ++ drop (at + i) b)) (long j)
+            ∙ sym (in-whole at width b (bytesIn masks page text e it)) ∙ ap (λ l. take at b ++ (l ++ drop (at + width - at) (drop at b))) (sym y)
 
 -- the bytes of a Pad are the same for every item
 pub leaf-pad : (masks text : List ℕ) (page room : ℕ) (e : Entry) (it other : Item) (at : ℕ) (b : List ℕ) → e .kind ≡ 6

@@ -47,6 +47,10 @@ putWidth e = putting (e .kind) (e .width)
 abbrev pub judged : List ℕ → List ℕ → Entry → Item → ℕ
 judged masks text e it = judgedOf (e .kind) (e .p) (e .q) (e .r) (e .s) (maskOf masks e) (e .width) (it .tag) (scalarIn it) (textOf text it)
 
+-- the number that refuses an item whose bytes are not inside the room
+abbrev pub outside : ℕ → ℕ
+outside judged = cond (eqb judged 0) 16 judged
+
 abbrev pub bytesIn : List ℕ → ℕ → List ℕ → Entry → Item → List ℕ
 bytesIn masks page text e it = bytesOf (e .kind) (e .p) (e .q) (e .r) (maskOf masks e) page (e .width) (scalarIn it) (textOf text it)
 

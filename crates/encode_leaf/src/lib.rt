@@ -18,7 +18,7 @@ ghost use Rattle.items.specs.Items.{values, headOf};
 ghost use Rattle.walks.specs.Walk.{single};
 ghost use Rattle.walks.specs.Writing.{lay, tableLength};
 ghost use Rattle.encode_leaf.specs.Laying.{sat, leaf};
-ghost use Rattle.encode_leaf.specs.Machine.{Met, Spreads, codec, roomIn, putWidth, judged, bytesIn, taking};
+ghost use Rattle.encode_leaf.specs.Machine.{Met, Spreads, codec, roomIn, putWidth, judged, outside, bytesIn, taking};
 
 // What a part of the walk came to: the number that refuses it, or 0 with one more than the furthest end of what was put, 0 where
 // nothing was, and the bytes taken.
@@ -246,11 +246,11 @@ fn judge_leaf(masks: &[u8], text: &[u8], e: Entry, it: Item) -> u32
     )
 }
 
-// An item that was judged, put into its entry's stretch of the record.
-fn put_leaf(masks: &[u8], page: u32, text: &[u8], part: &mut [u8], e: Entry, it: Item)
-    requires { ⌜ judged (now masks) (now text) e it ≡ 0 ⌝ }
+// An item judged, and put into its entry's stretch of the record if no question refuses it.
+fn put_leaf(masks: &[u8], page: u32, text: &[u8], part: &mut [u8], e: Entry, it: Item) -> u32
     requires { ⌜ length (now part) ≡ putWidth e ⌝ }
-    ensures { λ _. ⌜ now (part .exit) ≡ bytesIn (now (masks .entry)) page (now (text .entry)) e it ⌝ }
+    ensures { λ r. ⌜ r ≡ judged (now (masks .entry)) (now (text .entry)) e it ⌝ }
+    ensures { λ r. ⌜ (r ≡ 0 → now (part .exit) ≡ bytesIn (now (masks .entry)) page (now (text .entry)) e it) ⌝ }
 {
     let m = clip(e.mask as u64, masks.len());
     let n = clip(e.width as u64, masks.len() - m);
@@ -269,7 +269,18 @@ fn put_leaf(masks: &[u8], page: u32, text: &[u8], part: &mut [u8], e: Entry, it:
         it.a,
         it.b,
         &text[a..a + b],
-    );
+    )
+}
+
+// The number that refuses an item for an entry that is not inside the room.
+fn no_room(masks: &[u8], text: &[u8], e: Entry, it: Item) -> u32
+    ensures { λ r. ⌜ r ≡ outside (judged (now (masks .entry)) (now (text .entry)) e it) ⌝ }
+{
+    let n = judge_leaf(masks, text, e, it);
+    if n == 0 {
+        return 16;
+    }
+    n
 }
 
 // One scalar or Pad, every entry but a group, by the item of its value.
@@ -284,17 +295,16 @@ pub fn encode_leaf(
 ) -> Out
     ensures { λ r. ⌜ Met (leaf (codec (now (masks .entry)) page (now (text .entry))) (roomIn (now («record» .entry))) e it at (now («record» .entry))) r (now («record» .exit)) ⌝ }
 {
-    let n = judge_leaf(masks, text, e, it);
-    if n != 0 {
-        return refusal(n);
-    }
     let width = put_width(e);
     if !inside_room(room_of(record.len()), at, width) {
-        return refusal(16);
+        return refusal(no_room(masks, text, e, it));
     }
     let from = at as usize;
     let end = from + width as usize;
-    put_leaf(masks, page, text, &mut record[from..end], e, it);
+    let n = put_leaf(masks, page, text, &mut record[from..end], e, it);
+    if n != 0 {
+        return refusal(n);
+    }
     Out {
         refused: 0,
         past: at + width + 1,

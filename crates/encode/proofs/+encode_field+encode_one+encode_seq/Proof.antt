@@ -15,7 +15,7 @@ use Rattle.encode.proofs.+encode_field+encode_one+encode_seq.Tie.{close
 use Rattle.encode.proofs.+encode_field+encode_one+encode_seq.Proof.Common.{μ-encode-field, μ-encode-one, μ-encode-seq, encode-field-at, encode-field-below, encode-one-at, encode-one-below, encode-seq-at, encode-seq-below}
 use Rattle.encode.proofs.+encode_field+encode_one+encode_seq.Proof.Field.{encode-field-claims, encode-field-Inv-loop, encode-field-μ-loop, encode-field-is-lone-leaf-requires, encode-field-fetch-requires, encode-field-encode-leaf-requires, encode-field-same-length, encode-field-returns, encode-field-elements-of-requires, encode-field-refusal-requires, encode-field-returns-2, encode-field-loop-holds, encode-field-encode-one-requires, encode-field-refusal-requires-2, encode-field-same-length-2, encode-field-returns-3, encode-field-larger-requires, encode-field-settles-requires, encode-field-sat-mul-requires, encode-field-sat-add-requires, encode-field-same-length-3, encode-field-returns-4, encode-field-sat-add-requires-2, encode-field-sat-add-requires-3, encode-field-item-end-requires, encode-field-sub-left, encode-field-loop-less, encode-field-loop-again, encode-field-same-length-4, encode-field-returns-5}
 use Rattle.encode.proofs.+encode_field+encode_one+encode_seq.Proof.One.{encode-one-claims, encode-one-no-item-requires, encode-one-encode-leaf-requires, encode-one-same-length, encode-one-returns, encode-one-fetch-requires, encode-one-encode-leaf-requires-2, encode-one-same-length-2, encode-one-returns-2, encode-one-takes-requires, encode-one-refusal-requires, encode-one-returns-3, encode-one-item-end-requires, encode-one-after-requires, encode-one-encode-seq-requires, encode-one-same-length-3, encode-one-returns-4}
-use Rattle.encode.proofs.+encode_field+encode_one+encode_seq.Proof.Seq.{encode-seq-claims, encode-seq-Inv-loop, encode-seq-μ-loop, encode-seq-loop-holds, encode-seq-load-requires, encode-seq-cast-end-of, encode-seq-end-of-requires, encode-seq-cast-sat-add, encode-seq-sat-add-requires, encode-seq-sat-add-requires-2, encode-seq-cast-find, encode-seq-find-requires, encode-seq-add-encode-field, encode-seq-encode-field-requires, encode-seq-refusal-requires, encode-seq-same-length, encode-seq-returns, encode-seq-reserved-width-requires, encode-seq-less-requires, encode-seq-sat-add-requires-3, encode-seq-sat-add-requires-4, encode-seq-larger-requires, encode-seq-larger-requires-2, encode-seq-loop-less, encode-seq-loop-again, encode-seq-same-length-2, encode-seq-returns-2}
+use Rattle.encode.proofs.+encode_field+encode_one+encode_seq.Proof.Seq.{encode-seq-claims, encode-seq-Inv-loop, encode-seq-μ-loop, encode-seq-loop-holds, encode-seq-load-requires, encode-seq-cast-end-of, encode-seq-end-of-requires, encode-seq-cast-sat-add, encode-seq-sat-add-requires, encode-seq-sat-add-requires-2, encode-seq-place-of-requires, encode-seq-advance-requires, encode-seq-add-encode-field, encode-seq-encode-field-requires, encode-seq-refusal-requires, encode-seq-same-length, encode-seq-returns, encode-seq-reserved-width-requires, encode-seq-less-requires, encode-seq-sat-add-requires-3, encode-seq-sat-add-requires-4, encode-seq-larger-requires, encode-seq-larger-requires-2, encode-seq-loop-less, encode-seq-loop-again, encode-seq-same-length-2, encode-seq-returns-2}
 mod Common
 mod Field
 mod One
@@ -86,8 +86,8 @@ pub +encode-field+encode-one+encode-seq-spec : {M : Type 1} → statement M
     (encode-seq-cast-sat-add t)
     (encode-seq-sat-add-requires t)
     (encode-seq-sat-add-requires-2 t)
-    (encode-seq-cast-find t)
-    (encode-seq-find-requires t)
+    (encode-seq-place-of-requires t)
+    (encode-seq-advance-requires t)
     (encode-seq-add-encode-field t)
     (encode-seq-encode-field-requires t)
     (encode-seq-refusal-requires t)

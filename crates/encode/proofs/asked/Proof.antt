@@ -41,14 +41,11 @@ returns-4 c = asked-names _ _ _ _ _ (c .before .before .before .before .before .
 room-of-requires : tie.Need-room-of-requires
 room-of-requires c κs = search needs
 
-record-length-requires : tie.Need-record-length-requires
-record-length-requires c κs = search needs
-
 returns-5 : tie.Need-returns-5
-returns-5 c = asked-room _ _ _ _ _ (c .before .before .before .before .before .before .before .before .before .before .before .before .before .before .args .room) (c .before .before .before .before .before .before .before .before .before .before .before .before .before .before .args .work) _ (c .before .before .before .before .before .before .before .before .before .check-layout .ensures) (c .before .before .before .before .before .before .before .before .if1 .left) (c .before .before .before .before .before .before .before .if2 .left) _ (c .before .before .before .before .before .before .check-items .ensures) (not-false _ (c .before .before .before .before .before .if3 .left)) _ (c .before .before .before .before .supplies .ensures) (not-false _ (c .before .before .before .if4 .left)) _ _ (c .before .before .room-of .ensures) (c .before .record-length .ensures) (c .if5 .taken)
+returns-5 c = asked-room _ _ _ _ _ (c .before .before .before .before .before .before .before .before .before .before .before .before .before .args .room) (c .before .before .before .before .before .before .before .before .before .before .before .before .before .args .work) _ (c .before .before .before .before .before .before .before .before .check-layout .ensures) (c .before .before .before .before .before .before .before .if1 .left) (c .before .before .before .before .before .before .if2 .left) _ (c .before .before .before .before .before .check-items .ensures) (not-false _ (c .before .before .before .before .if3 .left)) _ (c .before .before .before .supplies .ensures) (not-false _ (c .before .before .if4 .left)) _ _ (c .before .room-of .ensures) (c .before .before .before .before .before .before .before .before .before .before .before .before .before .pre) (c .if5 .taken)
 
 returns-6 : tie.Need-returns-6
-returns-6 c = asked-all _ _ _ _ _ (c .before .before .before .before .before .before .before .before .before .before .before .before .before .before .args .room) (c .before .before .before .before .before .before .before .before .before .before .before .before .before .before .args .work) _ (c .before .before .before .before .before .before .before .before .before .check-layout .ensures) (c .before .before .before .before .before .before .before .before .if1 .left) (c .before .before .before .before .before .before .before .if2 .left) _ (c .before .before .before .before .before .before .check-items .ensures) (not-false _ (c .before .before .before .before .before .if3 .left)) _ (c .before .before .before .before .supplies .ensures) (not-false _ (c .before .before .before .if4 .left)) _ _ (c .before .before .room-of .ensures) (c .before .record-length .ensures) (c .if5 .left)
+returns-6 c = asked-all _ _ _ _ _ (c .before .before .before .before .before .before .before .before .before .before .before .before .before .args .room) (c .before .before .before .before .before .before .before .before .before .before .before .before .before .args .work) _ (c .before .before .before .before .before .before .before .before .check-layout .ensures) (c .before .before .before .before .before .before .before .if1 .left) (c .before .before .before .before .before .before .if2 .left) _ (c .before .before .before .before .before .check-items .ensures) (not-false _ (c .before .before .before .before .if3 .left)) _ (c .before .before .before .supplies .ensures) (not-false _ (c .before .before .if4 .left)) _ _ (c .before .room-of .ensures) (c .before .before .before .before .before .before .before .before .before .before .before .before .before .pre) (c .if5 .left)
 
 pub asked-spec : {M : Type 1} → statement M
 asked-spec =
@@ -63,6 +60,5 @@ asked-spec =
     supplies-requires
     returns-4
     room-of-requires
-    record-length-requires
     returns-5
     returns-6)

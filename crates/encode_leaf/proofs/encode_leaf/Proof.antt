@@ -9,21 +9,12 @@ use borrow.Author.Tests.{lt-ltb, le-ltb, le-leb, lt-leb, eq-eqb, ne-eqb, eqb-tru
 use lib.Dec.{eqb, leb, ltb}
 use lib.ListN.{length, take, drop, getD, set, replicate, length-set, length-append, length-take, length-drop, length-replicate, length-map}
 use borrow.Author.Tests.{not-true, not-false}
-use Rattle.encode_leaf.specs.Machine.{roomIn}
+use Rattle.encode_leaf.specs.Machine.{roomIn, judged}
 use Rattle.encode_leaf.proofs.Meets.{refuse, fine}
-use Rattle.encode_leaf.proofs.Leaves.{leaf-unfit, leaf-out, leaf-put}
+use Rattle.encode_leaf.proofs.Leaves.{outside-refuses, leaf-out, leaf-unfit, leaf-put}
 use borrow.Author.Needs.{needs}
 use Rattle.encode_leaf.proofs.encode_leaf.Statement.{statement}
 use Rattle.encode_leaf.proofs.encode_leaf.Tie as tie
-
-judge-leaf-requires : tie.Need-judge-leaf-requires
-judge-leaf-requires c κs = search needs
-
-refusal-requires : tie.Need-refusal-requires
-refusal-requires c κs = search needs
-
-returns : tie.Need-returns
-returns c = refuse (c .before .before .judge-leaf .result) (c .refusal .ensures) (c .before .if1 .taken) (leaf-unfit (c .before .before .before .before .before .before .args .masks .now) (c .before .before .before .before .before .before .args .text .now) (c .before .before .before .before .before .before .args .page) (c .before .before .before .before .before .before .args .e) (c .before .before .before .before .before .before .args .it) (c .before .before .before .before .before .before .args .at) (c .before .before .before .before .before .before .args .«record» .now) (roomIn (c .before .before .before .before .before .before .args .«record» .now)) _ (c .before .before .judge-leaf .ensures) (c .before .if1 .taken))
 
 put-width-requires : tie.Need-put-width-requires
 put-width-requires c κs = search needs
@@ -34,14 +25,17 @@ room-of-requires c κs = search needs
 inside-room-requires : tie.Need-inside-room-requires
 inside-room-requires c κs = search needs
 
-refusal-requires-2 : tie.Need-refusal-requires-2
-refusal-requires-2 c κs = search needs
+no-room-requires : tie.Need-no-room-requires
+no-room-requires c κs = search needs
 
-returns-2 : tie.Need-returns-2
-returns-2 c = refuse 16 (c .refusal2 .ensures) (λ e. omega arith) (leaf-out (c .before .before .before .before .before .before .before .before .before .before .args .masks .now) (c .before .before .before .before .before .before .before .before .before .before .args .text .now) (c .before .before .before .before .before .before .before .before .before .before .args .page) (c .before .before .before .before .before .before .before .before .before .before .args .e) (c .before .before .before .before .before .before .before .before .before .before .args .it) (c .before .before .before .before .before .before .before .before .before .before .args .at) (c .before .before .before .before .before .before .before .before .before .before .args .«record» .now) (roomIn (c .before .before .before .before .before .before .before .before .before .before .args .«record» .now)) _ (c .before .before .before .before .before .before .judge-leaf .ensures) (c .before .before .before .before .before .if1 .left) _ _ (c .before .before .before .before .put-width .ensures) (c .before .before .before .room-of .ensures) _ (c .before .before .inside-room .ensures) (not-true _ (c .before .if2 .taken)))
+refusal-requires : tie.Need-refusal-requires
+refusal-requires c κs = search needs
+
+returns : tie.Need-returns
+returns c = refuse (c .before .no-room .result) (c .refusal .ensures) (outside-refuses _ (judged (c .before .before .before .before .before .before .before .before .before .args .masks .now) (c .before .before .before .before .before .before .before .before .before .args .text .now) (c .before .before .before .before .before .before .before .before .before .args .e) (c .before .before .before .before .before .before .before .before .before .args .it)) (c .before .no-room .ensures)) (leaf-out (c .before .before .before .before .before .before .before .before .before .args .masks .now) (c .before .before .before .before .before .before .before .before .before .args .text .now) (c .before .before .before .before .before .before .before .before .before .args .page) (c .before .before .before .before .before .before .before .before .before .args .e) (c .before .before .before .before .before .before .before .before .before .args .it) (c .before .before .before .before .before .before .before .before .before .args .at) (c .before .before .before .before .before .before .before .before .before .args .«record» .now) (roomIn (c .before .before .before .before .before .before .before .before .before .args .«record» .now)) _ _ (c .before .before .before .before .before .put-width .ensures) (c .before .before .before .before .room-of .ensures) _ (c .before .before .before .inside-room .ensures) (not-true _ (c .before .before .if1 .taken)) _ (c .before .no-room .ensures))
 
 add-end : tie.Need-add-end
-add-end c = omega (arith, c .before .before .room-of .ensures, leb-true (c .before .before .before .before .before .before .before .before .before .args .at + c .before .before .before .put-width .result) (c .before .before .room-of .result) (sym (c .before .inside-room .ensures) ∙ not-false _ (c .if2 .left)))
+add-end c = omega (arith, c .before .before .room-of .ensures, leb-true (c .before .before .before .before .before .before .before .args .at + c .before .before .before .put-width .result) (c .before .before .room-of .result) (sym (c .before .inside-room .ensures) ∙ not-false _ (c .if1 .left)))
 
 sub-put-leaf : tie.Need-sub-put-leaf
 sub-put-leaf c = search needs
@@ -50,45 +44,55 @@ part-put-leaf-start : tie.Need-part-put-leaf-start
 part-put-leaf-start c = search needs
 
 part-put-leaf-end : tie.Need-part-put-leaf-end
-part-put-leaf-end c = omega (arith, c .before .before .room-of .ensures, leb-true (c .before .before .before .before .before .before .before .before .before .args .at + c .before .before .before .put-width .result) (c .before .before .room-of .result) (sym (c .before .inside-room .ensures) ∙ not-false _ (c .if2 .left)))
+part-put-leaf-end c = omega (arith, c .before .before .room-of .ensures, leb-true (c .before .before .before .before .before .before .before .args .at + c .before .before .before .put-width .result) (c .before .before .room-of .result) (sym (c .before .inside-room .ensures) ∙ not-false _ (c .if1 .left)))
 
 put-leaf-requires : tie.Need-put-leaf-requires
 put-leaf-requires c κs = search needs
 
-add-t13 : tie.Need-add-t13
-add-t13 c = omega (arith, c .before .before .before .before .before .before .room-of .ensures, leb-true (c .before .before .before .before .before .before .before .before .before .before .before .before .before .args .at + c .before .before .before .before .before .before .before .put-width .result) (c .before .before .before .before .before .before .room-of .result) (sym (c .before .before .before .before .before .inside-room .ensures) ∙ not-false _ (c .before .before .before .before .if2 .left)))
-
-add-t20 : tie.Need-add-t20
-add-t20 c = omega (arith, c .before .before .before .before .before .before .room-of .ensures, leb-true (c .before .before .before .before .before .before .before .before .before .before .before .before .before .args .at + c .before .before .before .before .before .before .before .put-width .result) (c .before .before .before .before .before .before .room-of .result) (sym (c .before .before .before .before .before .inside-room .ensures) ∙ not-false _ (c .before .before .before .before .if2 .left)))
-
-cast-t21 : tie.Need-cast-t21
-cast-t21 c = search needs
+refusal-requires-2 : tie.Need-refusal-requires-2
+refusal-requires-2 c κs = search needs
 
 same-length : tie.Need-same-length
 same-length c = search needs
 
+returns-2 : tie.Need-returns-2
+returns-2 c = refuse (c .before .before .before .before .put-leaf .result) (c .refusal2 .ensures) (c .before .if2 .taken) (leaf-unfit (c .before .before .before .before .before .before .before .before .before .before .before .before .before .args .masks .now) (c .before .before .before .before .before .before .before .before .before .before .before .before .before .args .text .now) (c .before .before .before .before .before .before .before .before .before .before .before .before .before .args .page) (c .before .before .before .before .before .before .before .before .before .before .before .before .before .args .e) (c .before .before .before .before .before .before .before .before .before .before .before .before .before .args .it) (c .before .before .before .before .before .before .before .before .before .before .before .before .before .args .at) (c .before .before .before .before .before .before .before .before .before .before .before .before .before .args .«record» .now) (roomIn (c .before .before .before .before .before .before .before .before .before .before .before .before .before .args .«record» .now)) _ (c .before .before .before .before .put-leaf .ensures .0) (c .before .if2 .taken))
+
+add-t13 : tie.Need-add-t13
+add-t13 c = omega (arith, c .before .before .before .before .before .before .before .room-of .ensures, leb-true (c .before .before .before .before .before .before .before .before .before .before .before .before .args .at + c .before .before .before .before .before .before .before .before .put-width .result) (c .before .before .before .before .before .before .before .room-of .result) (sym (c .before .before .before .before .before .before .inside-room .ensures) ∙ not-false _ (c .before .before .before .before .before .if1 .left)))
+
+add-t20 : tie.Need-add-t20
+add-t20 c = omega (arith, c .before .before .before .before .before .before .before .room-of .ensures, leb-true (c .before .before .before .before .before .before .before .before .before .before .before .before .args .at + c .before .before .before .before .before .before .before .before .put-width .result) (c .before .before .before .before .before .before .before .room-of .result) (sym (c .before .before .before .before .before .before .inside-room .ensures) ∙ not-false _ (c .before .before .before .before .before .if1 .left)))
+
+cast-t21 : tie.Need-cast-t21
+cast-t21 c = search needs
+
+same-length-2 : tie.Need-same-length-2
+same-length-2 c = search needs
+
 returns-3 : tie.Need-returns-3
-returns-3 c = fine _ _ (leaf-put (c .before .before .before .before .before .before .before .before .before .before .before .before .before .before .args .masks .now) (c .before .before .before .before .before .before .before .before .before .before .before .before .before .before .args .text .now) (c .before .before .before .before .before .before .before .before .before .before .before .before .before .before .args .page) (c .before .before .before .before .before .before .before .before .before .before .before .before .before .before .args .e) (c .before .before .before .before .before .before .before .before .before .before .before .before .before .before .args .it) (c .before .before .before .before .before .before .before .before .before .before .before .before .before .before .args .at) (c .before .before .before .before .before .before .before .before .before .before .before .before .before .before .args .«record» .now) (roomIn (c .before .before .before .before .before .before .before .before .before .before .before .before .before .before .args .«record» .now)) _ (c .before .before .before .before .before .before .before .before .before .before .judge-leaf .ensures) (c .before .before .before .before .before .before .before .before .before .if1 .left) _ _ (c .before .before .before .before .before .before .before .before .put-width .ensures) (c .before .before .before .before .before .before .before .room-of .ensures) _ (c .before .before .before .before .before .before .inside-room .ensures) (not-false _ (c .before .before .before .before .before .if2 .left)) _ (c .before .before .before .put-leaf .ensures))
+returns-3 c = fine _ _ (leaf-put (c .before .before .before .before .before .before .before .before .before .before .before .before .before .args .masks .now) (c .before .before .before .before .before .before .before .before .before .before .before .before .before .args .text .now) (c .before .before .before .before .before .before .before .before .before .before .before .before .before .args .page) (c .before .before .before .before .before .before .before .before .before .before .before .before .before .args .e) (c .before .before .before .before .before .before .before .before .before .before .before .before .before .args .it) (c .before .before .before .before .before .before .before .before .before .before .before .before .before .args .at) (c .before .before .before .before .before .before .before .before .before .before .before .before .before .args .«record» .now) (roomIn (c .before .before .before .before .before .before .before .before .before .before .before .before .before .args .«record» .now)) _ _ (c .before .before .before .before .before .before .before .before .before .put-width .ensures) (c .before .before .before .before .before .before .before .before .room-of .ensures) _ (c .before .before .before .before .before .before .before .inside-room .ensures) (not-false _ (c .before .before .before .before .before .before .if1 .left)) _ (c .before .before .before .before .put-leaf .ensures .0) (c .before .if2 .left) _ (c .before .before .before .before .put-leaf .ensures .1 (c .before .if2 .left)))
 
 pub encode-leaf-spec : {M : Type 1} → statement M
 encode-leaf-spec =
     tie.close
     (tie.spec
-    judge-leaf-requires
-    refusal-requires
-    returns
     put-width-requires
     room-of-requires
     inside-room-requires
-    refusal-requires-2
-    returns-2
+    no-room-requires
+    refusal-requires
+    returns
     add-end
     sub-put-leaf
     part-put-leaf-start
     part-put-leaf-end
     put-leaf-requires
+    refusal-requires-2
+    same-length
+    returns-2
     add-t13
     add-t20
     cast-t21
-    same-length
+    same-length-2
     returns-3)

@@ -71,7 +71,7 @@ same-length : tie.Need-same-length
 same-length c = search needs
 
 returns : tie.Need-returns
-returns c = put-is (c .before .before .before .before .before .before .before .before .before .before .before .before .before .before .before .before .args .masks .now) (c .before .before .before .before .before .before .before .before .before .before .before .before .before .before .before .before .args .text .now) (c .before .before .before .before .before .before .before .before .before .before .before .before .before .before .before .before .args .e) (c .before .before .before .before .before .before .before .before .before .before .before .before .before .before .before .before .args .it) _ _ _ _ _ (c .before .before .before .before .before .before .before .before .before .before .before .clip .ensures) (c .before .before .before .before .before .before .before .before .before .clip2 .ensures) (c .before .before .before .before .before .before .before .before .clip3 .ensures) (c .before .before .before .before .before .before .before .text-size .ensures) (c .before .before .before .before .before .before .clip4 .ensures) (c .before .before .before .before .before .before .before .before .before .before .before .before .before .before .before .before .args .page) (c .before .before .before .before .before .before .before .before .before .before .before .before .before .before .before .before .args .part .now) _ (c .before .before .before .before .before .before .before .before .before .before .before .before .before .before .before .before .pre .0) (c .before .before .before .before .before .before .before .before .before .before .before .before .before .before .before .before .pre .1) (c .before .before .encode-scalar .ensures .1)
+returns c = put-is (c .before .before .before .before .before .before .before .before .before .before .before .before .before .before .before .before .args .masks .now) (c .before .before .before .before .before .before .before .before .before .before .before .before .before .before .before .before .args .text .now) (c .before .before .before .before .before .before .before .before .before .before .before .before .before .before .before .before .args .e) (c .before .before .before .before .before .before .before .before .before .before .before .before .before .before .before .before .args .it) _ _ _ _ _ (c .before .before .before .before .before .before .before .before .before .before .before .clip .ensures) (c .before .before .before .before .before .before .before .before .before .clip2 .ensures) (c .before .before .before .before .before .before .before .before .clip3 .ensures) (c .before .before .before .before .before .before .before .text-size .ensures) (c .before .before .before .before .before .before .clip4 .ensures) (c .before .before .before .before .before .before .before .before .before .before .before .before .before .before .before .before .args .page) (c .before .before .before .before .before .before .before .before .before .before .before .before .before .before .before .before .args .part .now) (c .before .before .before .before .before .before .before .before .before .before .before .before .before .before .before .before .pre) _ _ (c .before .before .encode-scalar .ensures .0) (c .before .before .encode-scalar .ensures .1)
 
 pub put-leaf-spec : {M : Type 1} → statement M
 put-leaf-spec =

@@ -3,14 +3,14 @@ use Rattle.encode.proofs.encode_field.Reads as encode-field
 use Rattle.encode.proofs.+encode_field+encode_one+encode_seq.Lts-encode_field as encode-field-lts
 use Rattle.encode.proofs.encode_one.Reads as encode-one
 use Rattle.encode.proofs.is_lone_leaf.Reads as is-lone-leaf-reads
-use Rattle.items.proofs.fetch.Reads as fetch-reads
-use Rattle.encode_leaf.proofs.encode_leaf.Reads as encode-leaf-reads
 use Rattle.encode_leaf.proofs.elements_of.Reads as elements-of-reads
+use Rattle.encode_leaf.proofs.encode_leaf.Reads as encode-leaf-reads
 use Rattle.encode_leaf.proofs.larger.Reads as larger-reads
 use Rattle.encode_leaf.proofs.refusal.Reads as refusal-reads
 use Rattle.encode_leaf.proofs.sat_add.Reads as sat-add-reads
 use Rattle.encode_leaf.proofs.sat_mul.Reads as sat-mul-reads
 use Rattle.encode_leaf.proofs.settles.Reads as settles-reads
+use Rattle.items.proofs.fetch.Reads as fetch-reads
 use Rattle.items.proofs.item_end.Reads as item-end-reads
 use Rattle.encode.proofs.+encode_field+encode_one+encode_seq.Proof.Common.{encode-field-at, encode-one-below}
 use mathlib.Core.Path.{_≡_, refl, sym, ap, _∙_}

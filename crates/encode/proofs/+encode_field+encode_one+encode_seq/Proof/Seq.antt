@@ -2,11 +2,12 @@ use Prim.Native.Nat.{ℕ}
 use Rattle.encode.proofs.encode_field.Reads as encode-field
 use Rattle.encode.proofs.encode_seq.Reads as encode-seq
 use Rattle.encode.proofs.+encode_field+encode_one+encode_seq.Lts-encode_seq as encode-seq-lts
+use Rattle.encode.proofs.advance.Reads as advance-reads
+use Rattle.encode.proofs.place_of.Reads as place-of-reads
 use Rattle.encode_leaf.proofs.larger.Reads as larger-reads
 use Rattle.encode_leaf.proofs.less.Reads as less-reads
 use Rattle.encode_leaf.proofs.refusal.Reads as refusal-reads
 use Rattle.encode_leaf.proofs.sat_add.Reads as sat-add-reads
-use Rattle.items.proofs.find.Reads as find-reads
 use Rattle.layout.proofs.load.Reads as load-reads
 use Rattle.layout.proofs.reserved_width.Reads as reserved-width-reads
 use Rattle.spans.proofs.end_of.Reads as end-of-reads
@@ -22,13 +23,13 @@ use Rattle.encode_leaf.proofs.Meets.{refuse, fine, same-as}
 use Rattle.encode.proofs.Turns.{SeqInv, seq-starts, seq-stops, seq-goes, seq-done}
 
 abbrev pub encode-seq-claims : ℕ → encode-seq-lts.Claims
-encode-seq-claims t = (load-reads.Asked, load-reads.Learnt, end-of-reads.Asked, end-of-reads.Learnt, sat-add-reads.Asked, sat-add-reads.Learnt, find-reads.Asked, find-reads.Learnt, encode-field-below t, encode-field.Post, refusal-reads.Asked, refusal-reads.Learnt, reserved-width-reads.Asked, reserved-width-reads.Learnt, less-reads.Asked, less-reads.Learnt, larger-reads.Asked, larger-reads.Learnt)
+encode-seq-claims t = (load-reads.Asked, load-reads.Learnt, end-of-reads.Asked, end-of-reads.Learnt, sat-add-reads.Asked, sat-add-reads.Learnt, place-of-reads.Asked, place-of-reads.Learnt, advance-reads.Asked, advance-reads.Learnt, encode-field-below t, encode-field.Post, refusal-reads.Asked, refusal-reads.Learnt, reserved-width-reads.Asked, reserved-width-reads.Learnt, less-reads.Asked, less-reads.Learnt, larger-reads.Asked, larger-reads.Learnt)
 
 abbrev pub encode-seq-Inv-loop : encode-seq-lts.InvT-loop
-encode-seq-Inv-loop layout masks items text rec₀ page lo hi from to base i₀ shift₀ taken₀ past₀ rec i shift taken past = SeqInv masks text page layout items rec₀ lo hi from to base rec i shift taken past
+encode-seq-Inv-loop layout masks items text rec₀ page lo hi from to base i₀ shift₀ taken₀ past₀ f₀ rec i shift taken past f = SeqInv masks text page layout items rec₀ lo hi from to base rec i shift taken past f
 
 abbrev pub encode-seq-μ-loop : encode-seq-lts.MeasureT-loop
-encode-seq-μ-loop layout masks items text rec₀ page lo hi from to base i₀ shift₀ taken₀ past₀ rec i shift taken past = hi - i
+encode-seq-μ-loop layout masks items text rec₀ page lo hi from to base i₀ shift₀ taken₀ past₀ f₀ rec i shift taken past f = hi - i
 
 pub encode-seq-loop-holds : (t : ℕ) → encode-seq-lts.Need-loop-holds (encode-seq-claims t) (encode-seq-at t) encode-seq.Post encode-seq-Inv-loop encode-seq-μ-loop
 encode-seq-loop-holds t c = seq-starts _ _ _ _ _ _ _ _ _ _ _
@@ -51,11 +52,11 @@ encode-seq-sat-add-requires t c κs = search needs
 pub encode-seq-sat-add-requires-2 : (t : ℕ) → encode-seq-lts.Need-sat-add-requires-2 (encode-seq-claims t) (encode-seq-at t) encode-seq.Post encode-seq-Inv-loop encode-seq-μ-loop
 encode-seq-sat-add-requires-2 t c κs = search needs
 
-pub encode-seq-cast-find : (t : ℕ) → encode-seq-lts.Need-cast-find (encode-seq-claims t) (encode-seq-at t) encode-seq.Post encode-seq-Inv-loop encode-seq-μ-loop
-encode-seq-cast-find t c = search needs
+pub encode-seq-place-of-requires : (t : ℕ) → encode-seq-lts.Need-place-of-requires (encode-seq-claims t) (encode-seq-at t) encode-seq.Post encode-seq-Inv-loop encode-seq-μ-loop
+encode-seq-place-of-requires t c κs = c .before .before .before .before .before .before .before .loop .inv .ahead
 
-pub encode-seq-find-requires : (t : ℕ) → encode-seq-lts.Need-find-requires (encode-seq-claims t) (encode-seq-at t) encode-seq.Post encode-seq-Inv-loop encode-seq-μ-loop
-encode-seq-find-requires t c κs = search needs
+pub encode-seq-advance-requires : (t : ℕ) → encode-seq-lts.Need-advance-requires (encode-seq-claims t) (encode-seq-at t) encode-seq.Post encode-seq-Inv-loop encode-seq-μ-loop
+encode-seq-advance-requires t c κs = search needs
 
 pub encode-seq-add-encode-field : (t : ℕ) → encode-seq-lts.Need-add-encode-field (encode-seq-claims t) (encode-seq-at t) encode-seq.Post encode-seq-Inv-loop encode-seq-μ-loop
 encode-seq-add-encode-field t c = search needs
@@ -70,7 +71,7 @@ pub encode-seq-same-length : (t : ℕ) → encode-seq-lts.Need-same-length (enco
 encode-seq-same-length t c = c .before .before .before .before .before .encode-field .kept .1 .1 .1 .1 .0 ∙ c .before .before .before .before .before .before .before .before .before .before .before .before .before .before .before .before .loop .inv .same
 
 pub encode-seq-returns : (t : ℕ) → encode-seq-lts.Need-returns (encode-seq-claims t) (encode-seq-at t) encode-seq.Post encode-seq-Inv-loop encode-seq-μ-loop
-encode-seq-returns t c = refuse (c .before .before .before .before .before .encode-field .result .refused) (c .refusal .ensures) (c .before .if1 .taken) (seq-stops (c .before .before .before .before .before .before .before .before .before .before .before .before .before .before .before .before .loop .inv) (c .before .before .before .before .before .before .before .before .before .before .before .before .before .before .load .result) _ _ _ _ (c .before .before .before .before .before .before .before .before .before .before .before .before .before .before .before .loop-test .taken) (c .before .before .before .before .before .before .before .before .before .before .before .before .before .before .load .ensures) (c .before .before .before .before .before .before .before .before .before .before .before .before .end-of .ensures) (c .before .before .before .before .before .before .before .before .before .before .sat-add .ensures) (c .before .before .before .before .before .before .before .before .before .sat-add2 .ensures) (c .before .before .before .before .before .before .before .find .ensures .1) _ (c .before .before .before .before .before .encode-field .ensures .refuses (c .before .if1 .taken)))
+encode-seq-returns t c = refuse (c .before .before .before .before .before .encode-field .result .refused) (c .refusal .ensures) (c .before .if1 .taken) (seq-stops (c .before .before .before .before .before .before .before .before .before .before .before .before .before .before .before .before .loop .inv) (c .before .before .before .before .before .before .before .before .before .before .before .before .before .before .load .result) _ _ _ _ (c .before .before .before .before .before .before .before .before .before .before .before .before .before .before .before .loop-test .taken) (c .before .before .before .before .before .before .before .before .before .before .before .before .before .before .load .ensures) (c .before .before .before .before .before .before .before .before .before .before .before .before .end-of .ensures) (c .before .before .before .before .before .before .before .before .before .before .sat-add .ensures) (c .before .before .before .before .before .before .before .before .before .sat-add2 .ensures) (c .before .before .before .before .before .before .before .before .place-of .ensures) _ (c .before .before .before .before .before .encode-field .ensures .refuses (c .before .if1 .taken)))
 
 pub encode-seq-reserved-width-requires : (t : ℕ) → encode-seq-lts.Need-reserved-width-requires (encode-seq-claims t) (encode-seq-at t) encode-seq.Post encode-seq-Inv-loop encode-seq-μ-loop
 encode-seq-reserved-width-requires t c κs = search needs
@@ -94,7 +95,7 @@ pub encode-seq-loop-less : (t : ℕ) → encode-seq-lts.Need-loop-less (encode-s
 encode-seq-loop-less t c = omega (arith, c .before .before .before .before .before .before .before .before .before .before .before .before .before .before .before .before .before .end-of .ensures, c .before .before .before .before .before .before .before .before .before .before .before .before .before .before .before .before .before .before .before .before .loop-test .taken)
 
 pub encode-seq-loop-again : (t : ℕ) → encode-seq-lts.Need-loop-again (encode-seq-claims t) (encode-seq-at t) encode-seq.Post encode-seq-Inv-loop encode-seq-μ-loop
-encode-seq-loop-again t c = seq-goes (c .before .before .before .before .before .before .before .before .before .before .before .before .before .before .before .before .before .before .before .before .before .loop .inv) (c .before .before .before .before .before .before .before .before .before .before .before .before .before .before .before .before .before .before .before .load .result) _ _ _ _ (c .before .before .before .before .before .before .before .before .before .before .before .before .before .before .before .before .before .before .before .before .loop-test .taken) (c .before .before .before .before .before .before .before .before .before .before .before .before .before .before .before .before .before .before .before .load .ensures) (c .before .before .before .before .before .before .before .before .before .before .before .before .before .before .before .before .before .end-of .ensures) (c .before .before .before .before .before .before .before .before .before .before .before .before .before .before .before .sat-add .ensures) (c .before .before .before .before .before .before .before .before .before .before .before .before .before .before .sat-add2 .ensures) (c .before .before .before .before .before .before .before .before .before .before .before .before .find .ensures .1) (c .before .before .before .before .before .before .before .before .before .before .encode-field .result) _ _ _ _ _ _ _ (c .before .before .before .before .before .before .before .before .before .before .encode-field .ensures .fine (c .before .before .before .before .before .before .if1 .left)) (c .before .before .before .before .before .before .before .before .before .before .encode-field .kept .1 .1 .1 .1 .0) (c .before .before .before .before .before .reserved-width .ensures) (c .before .before .before .before .less .ensures) (c .before .before .before .sat-add3 .ensures) (c .before .before .sat-add4 .ensures) (c .before .larger .ensures) (c .larger2 .ensures)
+encode-seq-loop-again t c = seq-goes (c .before .before .before .before .before .before .before .before .before .before .before .before .before .before .before .before .before .before .before .before .before .loop .inv) (c .before .before .before .before .before .before .before .before .before .before .before .before .before .before .before .before .before .before .before .load .result) _ _ _ _ (c .before .before .before .before .before .before .before .before .before .before .before .before .before .before .before .before .before .before .before .before .loop-test .taken) (c .before .before .before .before .before .before .before .before .before .before .before .before .before .before .before .before .before .before .before .load .ensures) (c .before .before .before .before .before .before .before .before .before .before .before .before .before .before .before .before .before .end-of .ensures) (c .before .before .before .before .before .before .before .before .before .before .before .before .before .before .before .sat-add .ensures) (c .before .before .before .before .before .before .before .before .before .before .before .before .before .before .sat-add2 .ensures) (c .before .before .before .before .before .before .before .before .before .before .before .before .before .place-of .ensures) (c .before .before .before .before .before .before .before .before .before .before .encode-field .result) _ (c .before .before .before .before .before .before .before .before .before .before .before .before .advance .result) _ _ _ _ _ _ (c .before .before .before .before .before .before .before .before .before .before .encode-field .ensures .fine (c .before .before .before .before .before .before .if1 .left)) (c .before .before .before .before .before .before .before .before .before .before .encode-field .kept .1 .1 .1 .1 .0) (c .before .before .before .before .before .reserved-width .ensures) (c .before .before .before .before .less .ensures) (c .before .before .before .sat-add3 .ensures) (c .before .before .sat-add4 .ensures) (c .before .larger .ensures) (c .larger2 .ensures) (c .before .before .before .before .before .before .before .before .before .before .before .before .advance .ensures)
 
 pub encode-seq-same-length-2 : (t : ℕ) → encode-seq-lts.Need-same-length-2 (encode-seq-claims t) (encode-seq-at t) encode-seq.Post encode-seq-Inv-loop encode-seq-μ-loop
 encode-seq-same-length-2 t c = c .before .loop .inv .same

@@ -5,94 +5,94 @@ ghost use lib.ListN.{length};
 ghost use Rattle.ebcdic.specs.Ebcdic.{asciiTable, ebcdicTable, toAscii, toEbcdic, fromPage, ontoPage, copied};
 ghost use Rattle.ebcdic.specs.Words.{eight, byteAt};
 
-// The Latin-1 bytes of the eight EBCDIC bytes from 8 * k on, in order, as one number.
+// The Latin-1 bytes of the eight EBCDIC bytes from 8 * k on as one number, the first its lowest byte.
 fn ascii_word(k: u8) -> u64
     requires { ⌜ k < 32 ⌝ }
     ensures { λ r. ⌜ r ≡ eight asciiTable k ⌝ }
 {
     match k {
-        0 => 0x0001_0203_9C09_867F,
-        1 => 0x978D_8E0B_0C0D_0E0F,
-        2 => 0x1011_1213_9D85_0887,
-        3 => 0x1819_928F_1C1D_1E1F,
-        4 => 0x8081_8283_840A_171B,
-        5 => 0x8889_8A8B_8C05_0607,
-        6 => 0x9091_1693_9495_9604,
-        7 => 0x9899_9A9B_1415_9E1A,
-        8 => 0x20A0_E2E4_E0E1_E3E5,
-        9 => 0xE7F1_A22E_3C28_2B7C,
-        10 => 0x26E9_EAEB_E8ED_EEEF,
-        11 => 0xECDF_2124_2A29_3BAC,
-        12 => 0x2D2F_C2C4_C0C1_C3C5,
-        13 => 0xC7D1_A62C_255F_3E3F,
-        14 => 0xF8C9_CACB_C8CD_CECF,
-        15 => 0xCC60_3A23_4027_3D22,
-        16 => 0xD861_6263_6465_6667,
-        17 => 0x6869_ABBB_F0FD_FEB1,
-        18 => 0xB06A_6B6C_6D6E_6F70,
-        19 => 0x7172_AABA_E6B8_C6A4,
-        20 => 0xB57E_7374_7576_7778,
-        21 => 0x797A_A1BF_D0DD_DEAE,
-        22 => 0x5EA3_A5B7_A9A7_B6BC,
-        23 => 0xBDBE_5B5D_AFA8_B4D7,
-        24 => 0x7B41_4243_4445_4647,
-        25 => 0x4849_ADF4_F6F2_F3F5,
-        26 => 0x7D4A_4B4C_4D4E_4F50,
-        27 => 0x5152_B9FB_FCF9_FAFF,
-        28 => 0x5CF7_5354_5556_5758,
-        29 => 0x595A_B2D4_D6D2_D3D5,
-        30 => 0x3031_3233_3435_3637,
-        _ => 0x3839_B3DB_DCD9_DA9F,
+        0 => 0x7F86_099C_0302_0100,
+        1 => 0x0F0E_0D0C_0B8E_8D97,
+        2 => 0x8708_859D_1312_1110,
+        3 => 0x1F1E_1D1C_8F92_1918,
+        4 => 0x1B17_0A84_8382_8180,
+        5 => 0x0706_058C_8B8A_8988,
+        6 => 0x0496_9594_9316_9190,
+        7 => 0x1A9E_1514_9B9A_9998,
+        8 => 0xE5E3_E1E0_E4E2_A020,
+        9 => 0x7C2B_283C_2EA2_F1E7,
+        10 => 0xEFEE_EDE8_EBEA_E926,
+        11 => 0xAC3B_292A_2421_DFEC,
+        12 => 0xC5C3_C1C0_C4C2_2F2D,
+        13 => 0x3F3E_5F25_2CA6_D1C7,
+        14 => 0xCFCE_CDC8_CBCA_C9F8,
+        15 => 0x223D_2740_233A_60CC,
+        16 => 0x6766_6564_6362_61D8,
+        17 => 0xB1FE_FDF0_BBAB_6968,
+        18 => 0x706F_6E6D_6C6B_6AB0,
+        19 => 0xA4C6_B8E6_BAAA_7271,
+        20 => 0x7877_7675_7473_7EB5,
+        21 => 0xAEDE_DDD0_BFA1_7A79,
+        22 => 0xBCB6_A7A9_B7A5_A35E,
+        23 => 0xD7B4_A8AF_5D5B_BEBD,
+        24 => 0x4746_4544_4342_417B,
+        25 => 0xF5F3_F2F6_F4AD_4948,
+        26 => 0x504F_4E4D_4C4B_4A7D,
+        27 => 0xFFFA_F9FC_FBB9_5251,
+        28 => 0x5857_5655_5453_F75C,
+        29 => 0xD5D3_D2D6_D4B2_5A59,
+        30 => 0x3736_3534_3332_3130,
+        _ => 0x9FDA_D9DC_DBB3_3938,
     }
 }
 
-// The EBCDIC bytes of the eight Latin-1 bytes from 8 * k on, in order, as one number.
+// The EBCDIC bytes of the eight Latin-1 bytes from 8 * k on as one number, the first its lowest byte.
 fn ebcdic_word(k: u8) -> u64
     requires { ⌜ k < 32 ⌝ }
     ensures { λ r. ⌜ r ≡ eight ebcdicTable k ⌝ }
 {
     match k {
-        0 => 0x0001_0203_372D_2E2F,
-        1 => 0x1605_250B_0C0D_0E0F,
-        2 => 0x1011_1213_3C3D_3226,
-        3 => 0x1819_3F27_1C1D_1E1F,
-        4 => 0x405A_7F7B_5B6C_507D,
-        5 => 0x4D5D_5C4E_6B60_4B61,
-        6 => 0xF0F1_F2F3_F4F5_F6F7,
-        7 => 0xF8F9_7A5E_4C7E_6E6F,
-        8 => 0x7CC1_C2C3_C4C5_C6C7,
-        9 => 0xC8C9_D1D2_D3D4_D5D6,
-        10 => 0xD7D8_D9E2_E3E4_E5E6,
-        11 => 0xE7E8_E9BA_E0BB_B06D,
-        12 => 0x7981_8283_8485_8687,
-        13 => 0x8889_9192_9394_9596,
-        14 => 0x9798_99A2_A3A4_A5A6,
-        15 => 0xA7A8_A9C0_4FD0_A107,
-        16 => 0x2021_2223_2415_0617,
-        17 => 0x2829_2A2B_2C09_0A1B,
-        18 => 0x3031_1A33_3435_3608,
-        19 => 0x3839_3A3B_0414_3EFF,
-        20 => 0x41AA_4AB1_9FB2_6AB5,
-        21 => 0xBDB4_9A8A_5FCA_AFBC,
-        22 => 0x908F_EAFA_BEA0_B6B3,
-        23 => 0x9DDA_9B8B_B7B8_B9AB,
-        24 => 0x6465_6266_6367_9E68,
-        25 => 0x7471_7273_7875_7677,
-        26 => 0xAC69_EDEE_EBEF_ECBF,
-        27 => 0x80FD_FEFB_FCAD_AE59,
-        28 => 0x4445_4246_4347_9C48,
-        29 => 0x5451_5253_5855_5657,
-        30 => 0x8C49_CDCE_CBCF_CCE1,
-        _ => 0x70DD_DEDB_DC8D_8EDF,
+        0 => 0x2F2E_2D37_0302_0100,
+        1 => 0x0F0E_0D0C_0B25_0516,
+        2 => 0x2632_3D3C_1312_1110,
+        3 => 0x1F1E_1D1C_273F_1918,
+        4 => 0x7D50_6C5B_7B7F_5A40,
+        5 => 0x614B_606B_4E5C_5D4D,
+        6 => 0xF7F6_F5F4_F3F2_F1F0,
+        7 => 0x6F6E_7E4C_5E7A_F9F8,
+        8 => 0xC7C6_C5C4_C3C2_C17C,
+        9 => 0xD6D5_D4D3_D2D1_C9C8,
+        10 => 0xE6E5_E4E3_E2D9_D8D7,
+        11 => 0x6DB0_BBE0_BAE9_E8E7,
+        12 => 0x8786_8584_8382_8179,
+        13 => 0x9695_9493_9291_8988,
+        14 => 0xA6A5_A4A3_A299_9897,
+        15 => 0x07A1_D04F_C0A9_A8A7,
+        16 => 0x1706_1524_2322_2120,
+        17 => 0x1B0A_092C_2B2A_2928,
+        18 => 0x0836_3534_331A_3130,
+        19 => 0xFF3E_1404_3B3A_3938,
+        20 => 0xB56A_B29F_B14A_AA41,
+        21 => 0xBCAF_CA5F_8A9A_B4BD,
+        22 => 0xB3B6_A0BE_FAEA_8F90,
+        23 => 0xABB9_B8B7_8B9B_DA9D,
+        24 => 0x689E_6763_6662_6564,
+        25 => 0x7776_7578_7372_7174,
+        26 => 0xBFEC_EFEB_EEED_69AC,
+        27 => 0x59AE_ADFC_FBFE_FD80,
+        28 => 0x489C_4743_4642_4544,
+        29 => 0x5756_5558_5352_5154,
+        30 => 0xE1CC_CFCB_CECD_498C,
+        _ => 0xDF8E_8DDC_DBDE_DD70,
     }
 }
 
-// The k-th of the eight bytes of a number, from its highest.
+// The k-th of the eight bytes of a number, from its lowest.
 fn byte_of(w: u64, k: u8) -> u8
     requires { ⌜ k < 8 ⌝ }
     ensures { λ r. ⌜ r ≡ byteAt w k ⌝ }
 {
-    let s = (7 - k) as u32 * 8;
+    let s = k as u32 * 8;
     ((w >> s) % 256) as u8
 }
 

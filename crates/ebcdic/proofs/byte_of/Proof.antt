@@ -1,14 +1,7 @@
-use mathlib.Core.Path.{refl}
 use borrow.Author.Needs.{needs}
 use Rattle.ebcdic.specs.Words.{byteAt}
 use Rattle.ebcdic.proofs.byte_of.Statement.{statement}
 use Rattle.ebcdic.proofs.byte_of.Tie as tie
-
-sub-s : tie.Need-sub-s
-sub-s c = search needs
-
-cast-s : tie.Need-cast-s
-cast-s c = search needs
 
 mul-s : tie.Need-mul-s
 mul-s c = search needs
@@ -27,4 +20,4 @@ unfolding byteAt
 returns c = search needs
 
 pub byte-of-spec : {M : Type 1} → statement M
-byte-of-spec = tie.close (tie.spec sub-s cast-s mul-s cast-result shr-result cast-result-2 returns)
+byte-of-spec = tie.close (tie.spec mul-s cast-result shr-result cast-result-2 returns)

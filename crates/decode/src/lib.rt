@@ -16,6 +16,7 @@ use decode_leaf::listed;
 use decode_leaf::put_header;
 use decode_leaf::refusal;
 use decode_leaf::sat_add;
+use decode_leaf::start_counts;
 use decode_leaf::took_none;
 use layout::Entry;
 use layout::check_layout;
@@ -351,8 +352,8 @@ pub fn decode_record(
 {
     let deps = has_depending_on(layout);
     let number = asked(layout, masks, page, record.len(), counts.len(), deps);
-    clear_counts(counts);
     if number != 0 {
+        clear_counts(counts);
         clear_items(items, 0);
         clear_text(text, 0);
         return Reading {
@@ -361,6 +362,7 @@ pub fn decode_record(
             text: 0,
         };
     }
+    start_counts(counts, deps);
     let o = decode_seq(
         layout,
         record,

@@ -578,3 +578,12 @@ pub fn clear_counts(counts: &mut [i64])
         i += 1;
     }
 }
+
+// Zeros for the counts of a walk, where some table depends on one.
+pub fn start_counts(counts: &mut [i64], deps: bool)
+    ensures { λ _. ⌜ (deps ≡ true → now (counts .exit) ≡ replicate (length (now (counts .entry))) (pos 0)) ⌝ }
+{
+    if deps {
+        clear_counts(counts);
+    }
+}

@@ -117,7 +117,7 @@ fn judge_number(
         2 => judge_binary(width, display::as_i128(v, text)),
         3 => judge_float(q, width, float::as_f64(v)),
         4 => judge_hex(width, v, text),
-        7 => judge_decimal(p, q, s, width, float::as_decimal(v, r as u64)),
+        7 => judge_decimal(p, q, s, width, float::decimal_of(v, r as u64)),
         8 => judge_edited(width, mask, float::as_decimal(v, r as u64)),
         _ => 0,
     }
@@ -330,7 +330,7 @@ fn write_number(
         2 => write_binary(part, p, display::as_i128(v, text)),
         3 => write_float(part, p, q, float::as_f64(v)),
         4 => write_hex(part, p, v, text),
-        7 => write_decimal(part, page, p, q, s, float::as_decimal(v, r as u64)),
+        7 => write_decimal(part, page, p, q, s, float::decimal_of(v, r as u64)),
         8 => write_edited(part, page, mask, float::as_decimal(v, r as u64)),
         _ => 0,
     }

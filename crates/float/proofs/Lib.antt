@@ -4,6 +4,7 @@ pub mod Fields
 pub mod Rule
 pub mod Rounding
 pub mod Patterns
+pub mod Scalars
 pub mod Narrow
 pub mod Bytes
 pub mod Back

@@ -38,14 +38,14 @@ write-float-requires c κs = search needs
 write-hex-requires : tie.Need-write-hex-requires
 write-hex-requires c κs = search needs
 
-as-decimal-requires : tie.Need-as-decimal-requires
-as-decimal-requires c κs = search needs
+decimal-of-requires : tie.Need-decimal-of-requires
+decimal-of-requires c κs = search needs
 
 write-decimal-requires : tie.Need-write-decimal-requires
 write-decimal-requires c κs = search needs
 
-as-decimal-requires-2 : tie.Need-as-decimal-requires-2
-as-decimal-requires-2 c κs = search needs
+as-decimal-requires : tie.Need-as-decimal-requires
+as-decimal-requires c κs = search needs
 
 write-edited-requires : tie.Need-write-edited-requires
 write-edited-requires c κs = search needs
@@ -83,14 +83,14 @@ same-length-5 c = search needs
 
 returns-5 : tie.Need-returns-5
 unfolding numberJudged numberBytes
-returns-5 c = rw (c .before .before .before .before .before .match .keys5, ← (c .before .before .before .as-decimal .ensures)) (c .before .before .write-decimal .ensures)
+returns-5 c = rw (c .before .before .before .before .before .match .keys5, ← (c .before .before .before .decimal-of .ensures)) (c .before .before .write-decimal .ensures)
 
 same-length-6 : tie.Need-same-length-6
 same-length-6 c = search needs
 
 returns-6 : tie.Need-returns-6
 unfolding numberJudged numberBytes
-returns-6 c = rw (c .before .before .before .before .before .match .keys6, ← (c .before .before .before .as-decimal2 .ensures)) (c .before .before .write-edited .ensures)
+returns-6 c = rw (c .before .before .before .before .before .match .keys6, ← (c .before .before .before .as-decimal .ensures)) (c .before .before .write-edited .ensures)
 
 returns-7 : tie.Need-returns-7
 unfolding numberJudged numberBytes
@@ -110,9 +110,9 @@ write-number-spec =
     as-f64-requires
     write-float-requires
     write-hex-requires
-    as-decimal-requires
+    decimal-of-requires
     write-decimal-requires
-    as-decimal-requires-2
+    as-decimal-requires
     write-edited-requires
     same-length
     returns

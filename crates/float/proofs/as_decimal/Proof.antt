@@ -1,14 +1,9 @@
-use mathlib.Core.Path.{_≡_, sym, ap, _∙_}
-use Prim.Native.Nat.{ℕ, _-_}
+use mathlib.Core.Path.{_∙_}
 use Rattle.float.specs.Convert.{decimalFor}
-use Rattle.value.specs.declared.Scalar.{Scalar}
+use Rattle.float.proofs.Scalars.{decimal-at}
 use borrow.Author.Needs.{needs}
 use Rattle.float.proofs.as_decimal.Statement.{statement}
 use Rattle.float.proofs.as_decimal.Tie as tie
-
--- by the variant that was matched
-at : (v s : Scalar) (scale : ℕ) → v ≡ s → decimalFor s scale ≡ decimalFor v scale
-at v s scale e = ap (λ (z : Scalar). decimalFor z scale) (sym e)
 
 enum-told : tie.Need-enum-told
 enum-told c = search needs
@@ -42,31 +37,31 @@ enum-told-4 c = search needs
 
 returns : tie.Need-returns
 unfolding decimalFor
-returns c = at _ _ (c .before .before .args .scale) (c .enum-told .given .1)
+returns c = decimal-at _ _ (c .before .before .args .scale) (c .enum-told .given .1)
 
 returns-2 : tie.Need-returns-2
 unfolding decimalFor
-returns-2 c = at _ _ (c .before .before .args .scale) (c .enum-told2 .given .1)
+returns-2 c = decimal-at _ _ (c .before .before .args .scale) (c .enum-told2 .given .1)
 
 returns-3 : tie.Need-returns-3
 unfolding decimalFor
-returns-3 c = c .rescale .ensures ∙ at _ _ (c .before .before .before .before .args .scale) (c .before .before .v .given .1)
+returns-3 c = c .rescale .ensures ∙ decimal-at _ _ (c .before .before .before .before .args .scale) (c .before .before .v .given .1)
 
 returns-4 : tie.Need-returns-4
 unfolding decimalFor
-returns-4 c = c .rescale2 .ensures ∙ at _ _ (c .before .before .before .before .args .scale) (c .before .before .v2 .given .1)
+returns-4 c = c .rescale2 .ensures ∙ decimal-at _ _ (c .before .before .before .before .args .scale) (c .before .before .v2 .given .1)
 
 returns-5 : tie.Need-returns-5
 unfolding decimalFor
-returns-5 c = c .to-decimal .ensures ∙ at _ _ (c .before .before .before .before .args .scale) (c .before .before .v3 .given .1)
+returns-5 c = c .to-decimal .ensures ∙ decimal-at _ _ (c .before .before .before .before .args .scale) (c .before .before .v3 .given .1)
 
 returns-6 : tie.Need-returns-6
 unfolding decimalFor
-returns-6 c = at _ _ (c .before .before .args .scale) (c .enum-told3 .given .1)
+returns-6 c = decimal-at _ _ (c .before .before .args .scale) (c .enum-told3 .given .1)
 
 returns-7 : tie.Need-returns-7
 unfolding decimalFor
-returns-7 c = at _ _ (c .before .before .args .scale) (c .enum-told4 .given .1)
+returns-7 c = decimal-at _ _ (c .before .before .args .scale) (c .enum-told4 .given .1)
 
 pub as-decimal-spec : {M : Type 1} → statement M
 as-decimal-spec =

@@ -15,8 +15,9 @@ use Rattle.walks.specs.Walk.{single, Many, never, times}
 use Rattle.decode_leaf.specs.declared.Out.{Out}
 use Rattle.decode_leaf.specs.declared.Count.{Count}
 use Rattle.value.specs.declared.Scalar.{Scalar}
+use Rattle.value.specs.Scalar.{tagOf, firstOf, secondOf}
 use Rattle.value.specs.declared.Scalar.the-variants.{Null, Text, Int, Decimal, Float as FloatV, FloatBits, Bool as BoolV}
-use Rattle.decode_leaf.specs.Machine.{bare, headOf, headed, Listed, Counted, isText, movedIn, toldIn, sizeIn}
+use Rattle.decode_leaf.specs.Machine.{bare, headOf, headed, Listed, Counted, movedIn, toldIn}
 
 pub put4 : (xs : List ℕ) (a b c d : ℕ) → 4 ≤ length xs → set (set (set (set xs 0 a) 1 b) 2 c) 3 d ≡ a ∷ b ∷ c ∷ d ∷ drop 4 xs
 put4 [] a b c d h = absurd (omega arith)
@@ -33,16 +34,6 @@ fits-is bytes at width h = go (leb width (bytes - at)) refl
     go : (b : Bool) → leb width (bytes - at) ≡ b → leb width (bytes - at) ≡ leb (at + width) bytes
     go true e = e ∙ sym (le-leb (at + width) bytes (omega (arith, leb-true width (bytes - at) e)))
     go false e = e ∙ sym (lt-leb (at + width) bytes (omega (arith, leb-false width (bytes - at) e)))
-
-pub none-is : (once : Bool) (width : ℕ) → once ≡ false → eqb width 0 ≡ not (once || leb 1 width)
-none-is once width e = rw e (go (eqb width 0) refl)
-  where
-    go : (b : Bool) → eqb width 0 ≡ b → eqb width 0 ≡ not (leb 1 width)
-    go true z = z ∙ sym (ap not (lt-leb 1 width (omega (arith, eqb-true width 0 z))))
-    go false z = z ∙ sym (ap not (le-leb 1 width (let n : width ≡ 0 → ⊥ = eqb-false width 0 z in omega arith)))
-
-pub once-none : (once : Bool) (width : ℕ) → once ≡ true → false ≡ not (once || leb 1 width)
-once-none once width e = rw e refl
 
 pub table-word : (e : Entry) → (e .occurs ≡ 4294967295 → ⊥) → false ≡ single e
 unfolding single
@@ -107,11 +98,24 @@ status-plus negative size e = rw e refl
 
 -- ---- texts
 
-pub some-text : (kind told n : ℕ) (v : Scalar) (b : Bool) → b ≡ isText kind → b ≡ true → n ≡ sizeIn v → Text told n ≡ movedIn kind told v
-some-text kind told n v b p q e = rw (sym p ∙ q, e) refl
+-- the words of an item are those of its scalar, but for where a text starts
+pub text-words : (told : ℕ) (v : Scalar) → tagOf v ≡ 1 → (1 ≡ tagOf (movedIn told v)) × ((told ≡ firstOf (movedIn told v)) × ((secondOf v ≡ secondOf (movedIn told v)) × (told + secondOf v ≡ toldIn told v)))
+text-words told (Text start n) q = (refl, (refl, (refl, refl)))
+text-words told Null q = absurd (omega (arith, q))
+text-words told (Int negative size) q = absurd (omega (arith, q))
+text-words told (Decimal negative size scale) q = absurd (omega (arith, q))
+text-words told (FloatV x) q = absurd (omega (arith, q))
+text-words told (FloatBits x) q = absurd (omega (arith, q))
+text-words told (BoolV b) q = absurd (omega (arith, q))
 
-pub some-told : (kind told n : ℕ) (v : Scalar) (b : Bool) → b ≡ isText kind → b ≡ true → n ≡ sizeIn v → told + n ≡ toldIn kind told v
-some-told kind told n v b p q e = rw (sym p ∙ q, e) refl
+pub other-words : (told : ℕ) (v : Scalar) → (tagOf v ≡ 1 → ⊥) → (v ≡ movedIn told v) × (told ≡ toldIn told v)
+other-words told (Text start n) f = absurd (f refl)
+other-words told Null f = (refl, refl)
+other-words told (Int negative size) f = (refl, refl)
+other-words told (Decimal negative size scale) f = (refl, refl)
+other-words told (FloatV x) f = (refl, refl)
+other-words told (FloatBits x) f = (refl, refl)
+other-words told (BoolV b) f = (refl, refl)
 
 -- a part from `told` on, lent and come back
 pub told-back : (told : ℕ) (buffer ys zs : List ℕ) → ys ≡ zs → take told buffer ++ (ys ++ drop (length buffer - told) (drop told buffer)) ≡ take told buffer ++ zs

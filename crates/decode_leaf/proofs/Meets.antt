@@ -2,14 +2,14 @@
 use mathlib.Core.Path.{_≡_, refl, sym, ap, _∙_, subst⁻¹}
 use mathlib.Core.Bool.{Bool, true, false, _||_, not, cond}
 use mathlib.Core.List.{List, [], _∷_, _++_}
-use Prim.Native.Nat.{ℕ, _+_, _-_, _≤_}
+use Prim.Native.Nat.{ℕ, _+_, _-_, _≤_, _<_}
 use native.Mathlib.Omega.{arith}
 use lib.Dec.{leb}
 use lib.IntN.{ℤ}
 use lib.ListN.{length, take, drop, length-append, length-drop}
 use borrow.Author.Tests.{le-leb, lt-leb, leb-true, leb-false}
 use Rattle.value.specs.declared.Scalar.{Scalar}
-use Rattle.value.specs.Scalar.{putOf, itemOf}
+use Rattle.value.specs.Scalar.{tagOf, firstOf, secondOf}
 use Rattle.walks.specs.Reading.{Outcome, refused, read, placed}
 use Rattle.decode_leaf.specs.declared.Out.{Out}
 use Rattle.decode_leaf.specs.Machine.{Held, out, state, leafIn, Fine, Met, Item, Placed}
@@ -25,60 +25,49 @@ same-as {r = r} {items = items} {buffer = buffer} {run = run} q m = subst⁻¹ (
 
 -- ---- an item of four words
 
-module _ (name : ℕ) (once : Bool) (width : ℕ) (i : List ℕ) (v : Scalar) (b : Bool) (p : b ≡ not (once || leb 1 width)) where
+module _ (name : ℕ) (width : ℕ) (i : List ℕ) (v : Scalar) where
   abbrev Whole : Held → Outcome Held
-  Whole s = placed name once width (length i) (leafIn v s)
+  Whole s = placed name true width (length i) (leafIn v s)
 
-  taking : b ≡ false → (once || leb 1 width) ≡ true
-  taking q = go (once || leb 1 width) (sym p ∙ q)
-    where
-      go : (x : Bool) → not x ≡ false → x ≡ true
-      go true e = refl
-      go false e = sym e
+  pub place-full : {behind : ℕ} {r : Out} {items : List ℕ} → length i < 4 → r .refused ≡ 16 → Placed Whole [] behind width r items []
+  place-full h n = record { fine = λ z. absurd (omega (arith, n, z)); refuses = λ _ s. rw (lt-leb 4 (length i) h, n) refl }
 
-  none-taken : b ≡ true → (once || leb 1 width) ≡ false
-  none-taken q = go (once || leb 1 width) (sym p ∙ q)
-    where
-      go : (x : Bool) → not x ≡ true → x ≡ false
-      go true e = sym e
-      go false e = refl
-
-  module _ {noted : List ℤ} {behind : ℕ} {r : Out} {items : List ℕ} {run : List ℤ} where
-    pub place-empty : b ≡ true → r .refused ≡ 10 → Placed Whole noted behind width r items run
-    place-empty q n = record { fine = λ z. absurd (omega (arith, n, z)); refuses = λ _ s. rw (none-taken q, n) refl }
-
-    pub place-full : b ≡ false → (c : Bool) → c ≡ leb 4 (length i) → not c ≡ true → r .refused ≡ 16 → Placed Whole noted behind width r items run
-    place-full q c e f n = record { fine = λ z. absurd (omega (arith, n, z)); refuses = λ _ s. rw (taking q, sym e ∙ go c f, n) refl }
-      where
-        go : (x : Bool) → not x ≡ true → x ≡ false
-        go true e = sym e
-        go false e = refl
-
-  pub place-item : {noted : List ℤ} {behind : ℕ} {items : List ℕ} {run : List ℤ} → b ≡ false → (c : Bool) → c ≡ leb 4 (length i) → not c ≡ false → (s : Scalar) → s ≡ v → items ≡ putOf i name s → run ≡ noted
-      → (told : ℕ) → told ≡ behind → Placed Whole noted behind width (out 4 1 width told) items run
-  unfolding putOf
-  place-item {items = items} q c e f s z w u told t =
-      let g : leb 4 (length i) ≡ true = sym e ∙ go c f in
-      let k : 4 ≤ length i = leb-true 4 (length i) g in
-      let x : items ≡ itemOf name v ++ drop 4 i = w ∙ ap (λ y. cond (leb 4 (length i)) (itemOf name y ++ drop 4 i) i) z ∙ ap (λ a. cond a (itemOf name v ++ drop 4 i) i) g in
+  pub place-item : {behind : ℕ} {r : Out} {items : List ℕ} (tag a b told : ℕ) → 4 ≤ length i → items ≡ name ∷ tag ∷ a ∷ b ∷ drop 4 i → tag ≡ tagOf v → a ≡ firstOf v → b ≡ secondOf v → told ≡ behind
+      → r ≡ out 4 1 width told → Placed Whole [] behind width r items []
+  place-item tag a b told h w p q s t z = rw z (record {
+    fine = λ _. (
       record {
-        fine = λ _. (
-          record {
-            is = λ s. rw (taking q, g) (ap (λ l. read (take 4 l) 1 width s) (sym x));
-            used = refl;
-            members = refl;
-            taken = refl;
-            told = t;
-            within = omega (arith, ap length x, length-append (itemOf name v) (drop 4 i), length-drop 4 i);
-          },
-          u,
-        );
-        refuses = λ n. absurd (n refl);
-      }
+        is = λ st. rw (le-leb 4 (length i) h, w, p, q, s) refl;
+        used = refl;
+        members = refl;
+        taken = refl;
+        told = t;
+        within = omega (arith, ap length w, length-drop 4 i);
+      },
+      refl,
+    );
+    refuses = λ n. absurd (n refl);
+  })
+
+-- an element of a table has a byte
+module _ (name : ℕ) (width room : ℕ) (v : Scalar) where
+  abbrev Element-at : Held → Outcome Held
+  Element-at s = placed name false width room (leafIn v s)
+
+  pub place-empty : {behind : ℕ} {r : Out} {items : List ℕ} → width ≡ 0 → r .refused ≡ 10 → Placed Element-at [] behind width r items []
+  place-empty q n = record { fine = λ z. absurd (omega (arith, n, z)); refuses = λ _ s. rw (lt-leb 1 width (omega (arith, q)), n) refl }
+
+  pub place-some : {behind : ℕ} {r : Out} {items : List ℕ} → (width ≡ 0 → ⊥) → Placed (λ s. placed name true width room (leafIn v s)) [] behind width r items [] → Placed Element-at [] behind width r items []
+  place-some q p = record {
+    fine = λ z. let f = p .fine z .0 in (record { is = λ s. same s ∙ f .is s; used = f .used; members = f .members; taken = f .taken; told = f .told; within = f .within }, p .fine z .1);
+    refuses = λ n s. same s ∙ p .refuses n s;
+  }
     where
-      go : (x : Bool) → not x ≡ false → x ≡ true
-      go true e = refl
-      go false e = sym e
+      same : (s : Held) → Element-at s ≡ placed name true width room (leafIn v s)
+      same s = rw (le-leb 1 width (omega (arith, q))) refl
+
+pub placed-refused : {O : Held → Outcome Held} {behind width : ℕ} {r : Out} {items : List ℕ} {noted run : List ℤ} → (r .refused ≡ 0 → ⊥) → Placed O [] behind width r items [] → Placed O noted behind width r items run
+placed-refused n p = record { fine = λ z. absurd (n z); refuses = p .refuses }
 
 -- an item that sets no count
 pub placed-any : {O : Held → Outcome Held} {behind width : ℕ} {r : Out} {items : List ℕ} {noted run : List ℤ} → run ≡ noted → Placed O [] behind width r items [] → Placed O noted behind width r items run

@@ -1,4 +1,4 @@
--- What the bytes of a field say, against what the code makes of it: texts come of the kinds Text and Hex alone, and a refusal is never 0.
+-- What the bytes of a field say, against what the code makes of it: a value that is said as a value is no text, and a refusal is never 0.
 use mathlib.Core.Path.{_≡_, refl, sym, ap, _∙_}
 use mathlib.Core.Bool.{Bool, true, false, _&&_, _||_, cond}
 use mathlib.Core.List.{List, [], _∷_, _++_, map}
@@ -20,7 +20,10 @@ use Rattle.display.specs.Display as Display
 use Rattle.binary.specs.Binary.{integerOf, boolOf}
 use Rattle.float.specs.declared.Parsed.{Parsed}
 use Rattle.float.specs.declared.Parsed.the-variants.{Value as Parsed-as, Bad as Unread}
-use Rattle.float.specs.Field.{floatIn}
+use Rattle.float.specs.Field.{floatIn, fieldOk, wordFor}
+use Rattle.binary.specs.Bytes.{wordIn}
+use Rattle.value.specs.Scalar.{floatOf}
+use lib.Ieee.{binary64, ofBits, nanBits}
 use Rattle.hex.specs.Hex.{hexOf}
 use Rattle.edited.specs.Edited as Edited
 use Rattle.decode_scalar.specs.declared.Decoded.{Decoded}
@@ -28,43 +31,55 @@ use Rattle.decode_scalar.specs.declared.Decoded.the-variants.{Value, Refused}
 use Rattle.decode_scalar.specs.Decode.{Says, refused, value, text, says, flag, intSays, decimalSays, floatSays, decimalIn, answerOf, textAfter}
 use Rattle.walks.specs.Walk.{Leaf, bad, leaf}
 use Rattle.decode_leaf.specs.Counts.{noteIn, noteOf}
-use Rattle.decode_leaf.specs.Machine.{Held, state, leafIn, leafOf, isText, movedIn, toldIn, sizeIn}
+use Rattle.decode_leaf.specs.Machine.{Held, state, leafIn, leafOf, movedIn, toldIn}
 
-abbrev pub Matches : Bool → Says → Type 0
-Matches b (refused n) = n ≡ 0 → ⊥
-Matches b (value v) = b ≡ false
-Matches b (text t) = b ≡ true
+-- a scalar that is no text stands in its item as it is
+abbrev NoText : Scalar → Type 0
+NoText v = (told : ℕ) → (movedIn told v ≡ v) × (toldIn told v ≡ told)
 
-by : (b : Bool) (k : Bool) (x y : Says) → (b ≡ true → Matches k x) → (b ≡ false → Matches k y) → Matches k (cond b x y)
-by true k x y f g = f refl
-by false k x y f g = g refl
+abbrev pub Matches : Says → Type 0
+Matches (refused n) = n ≡ 0 → ⊥
+Matches (value v) = NoText v
+Matches (text t) = Unit {0}
 
-int-matches : (n : Number) (k : Bool) → k ≡ false → Matches k (intSays n)
-int-matches (Of a b) k h = h
-int-matches Bad k h = λ e. omega arith
-int-matches Big k h = λ e. omega arith
+by : (b : Bool) (x y : Says) → Matches x → Matches y → Matches (cond b x y)
+by true x y f g = f
+by false x y f g = g
 
-decimal-matches : (n : Number) (scale : ℕ) (k : Bool) → k ≡ false → Matches k (decimalSays scale n)
-decimal-matches (Of a b) scale k h = h
-decimal-matches Bad scale k h = λ e. omega arith
-decimal-matches Big scale k h = λ e. omega arith
+int-matches : (n : Number) → Matches (intSays n)
+int-matches (Of a b) = λ told. (refl, refl)
+int-matches Bad = λ e. omega arith
+int-matches Big = λ e. omega arith
 
-float-matches : (x : Parsed) (k : Bool) → k ≡ false → Matches k (floatSays x)
-float-matches (Parsed-as v) k h = h
-float-matches Unread k h = λ e. omega arith
+decimal-matches : (n : Number) (scale : ℕ) → Matches (decimalSays scale n)
+decimal-matches (Of a b) scale = λ told. (refl, refl)
+decimal-matches Bad scale = λ e. omega arith
+decimal-matches Big scale = λ e. omega arith
 
-pub matches : (kind p q r page : ℕ) (bs : List ℕ) → Matches (isText kind) (says kind p q r page bs)
+float-matches : (p q : ℕ) (bs : List ℕ) → Matches (floatSays (floatIn p q bs))
+unfolding floatIn
+float-matches p q bs = go (fieldOk q (length bs)) (wordFor q (wordIn p bs))
+  where
+    word : (w : ℕ) (b : Bool) → NoText (cond b (FloatBits w) (FloatV (ofBits binary64 w)))
+    word w true = λ told. (refl, refl)
+    word w false = λ told. (refl, refl)
+
+    go : (b : Bool) (w : ℕ) → Matches (floatSays (cond b (Parsed-as (floatOf w)) Unread))
+    go true w = word w (nanBits binary64 w)
+    go false w = λ e. omega arith
+
+pub matches : (kind p q r page : ℕ) (bs : List ℕ) → Matches (says kind p q r page bs)
 unfolding says
 matches kind p q r page bs =
-    by (eqb kind 0) (isText kind) (text (readText page (flag p) (flag q) (r % 256) bs)) _ (λ e. rw e refl) (λ n₀.
-    by (eqb kind 1) (isText kind) (intSays (Display.intOf q (map (fromPage page) bs))) _ (λ e. int-matches (Display.intOf q (map (fromPage page) bs)) (isText kind) (rw (eqb-true kind 1 e) refl)) (λ n₁.
-    by (eqb kind 2) (isText kind) (intSays (integerOf p (flag q) bs)) _ (λ e. int-matches (integerOf p (flag q) bs) (isText kind) (rw (eqb-true kind 2 e) refl)) (λ n₂.
-    by (eqb kind 3) (isText kind) (floatSays (floatIn p q bs)) _ (λ e. float-matches (floatIn p q bs) (isText kind) (rw (eqb-true kind 3 e) refl)) (λ n₃.
-    by (eqb kind 4) (isText kind) (text (hexOf p bs)) _ (λ e. rw (n₀, e) refl) (λ n₄.
-    by (eqb kind 5) (isText kind) (value (BoolV (boolOf bs))) _ (λ e. rw (eqb-true kind 5 e) refl) (λ n₅.
-    by (eqb kind 7) (isText kind) (decimalSays r (decimalIn p q page bs)) _ (λ e. decimal-matches (decimalIn p q page bs) r (isText kind) (rw (eqb-true kind 7 e) refl)) (λ n₇.
-    by (eqb kind 8) (isText kind) (decimalSays r (Edited.decodedOf (flag p) (map (fromPage page) bs))) (value Null) (λ e. decimal-matches (Edited.decodedOf (flag p) (map (fromPage page) bs)) r (isText kind) (rw (eqb-true kind 8 e) refl)) (λ n₈.
-    rw (n₀, n₄) refl))))))))
+    by (eqb kind 0) (text (readText page (flag p) (flag q) (r % 256) bs)) _ tt (
+    by (eqb kind 1) (intSays (Display.intOf q (map (fromPage page) bs))) _ (int-matches (Display.intOf q (map (fromPage page) bs))) (
+    by (eqb kind 2) (intSays (integerOf p (flag q) bs)) _ (int-matches (integerOf p (flag q) bs)) (
+    by (eqb kind 3) (floatSays (floatIn p q bs)) _ (float-matches p q bs) (
+    by (eqb kind 4) (text (hexOf p bs)) _ tt (
+    by (eqb kind 5) (value (BoolV (boolOf bs))) _ (λ told. (refl, refl)) (
+    by (eqb kind 7) (decimalSays r (decimalIn p q page bs)) _ (decimal-matches (decimalIn p q page bs) r) (
+    by (eqb kind 8) (decimalSays r (Edited.decodedOf (flag p) (map (fromPage page) bs))) (value Null) (decimal-matches (Edited.decodedOf (flag p) (map (fromPage page) bs)) r)
+    (λ told. (refl, refl)))))))))
 
 -- ---- a refusal, and a value with its state
 
@@ -79,7 +94,7 @@ module _ (l : List ℕ) (page : ℕ) (deps : Bool) (e : Entry) (once : Bool) (ru
   room-is t true q = le-leb (length (take told buffer) + length t) (length buffer) (omega (arith, so-far, leb-true (length t) (length buffer - told) q, h))
   room-is t false q = lt-leb (length (take told buffer) + length t) (length buffer) (omega (arith, so-far, leb-false (length t) (length buffer - told) q, h))
 
-  pub refused-leaf : (x : Says) → Matches (isText (e .kind)) x → (n : ℕ) → Refused n ≡ answerOf x (length buffer - told) → (n ≡ 0 → ⊥) × (Leaves x ≡ bad n)
+  pub refused-leaf : (x : Says) → Matches x → (n : ℕ) → Refused n ≡ answerOf x (length buffer - told) → (n ≡ 0 → ⊥) × (Leaves x ≡ bad n)
   refused-leaf (refused m) k n q = let z : n ≡ m = cc in ((λ s. k (sym z ∙ s)), ap bad (sym z))
   refused-leaf (value v) k n q = absurd (omega (arith, ap tag q))
     where
@@ -97,8 +112,8 @@ module _ (l : List ℕ) (page : ℕ) (deps : Bool) (e : Entry) (once : Bool) (ru
       go false g f = let z : n ≡ 16 = cc in ((λ s. omega (arith, z, s)), rw (room-is t false g, z) refl)
 
   pub record Read (x : Says) (v : Scalar) (after : List ℕ) : Type 0 where
-    pub is : Leaves x ≡ leafIn (movedIn (e .kind) told v) (state (noteIn l deps e once v run) (toldIn (e .kind) told v) after)
-    pub within : toldIn (e .kind) told v ≤ length after
+    pub is : Leaves x ≡ leafIn (movedIn told v) (state (noteIn l deps e once v run) (toldIn told v) after)
+    pub within : toldIn told v ≤ length after
     pub same : length after ≡ length buffer
 
   noted-text : (a b : ℕ) → noteIn l deps e once (Text a b) run ≡ run
@@ -109,7 +124,7 @@ module _ (l : List ℕ) (page : ℕ) (deps : Bool) (e : Entry) (once : Bool) (ru
       go true = refl
       go false = refl
 
-  pub read-leaf : (x : Says) → Matches (isText (e .kind)) x → (v : Scalar) → Value v ≡ answerOf x (length buffer - told)
+  pub read-leaf : (x : Says) → Matches x → (v : Scalar) → Value v ≡ answerOf x (length buffer - told)
       → (after : List ℕ) → after ≡ take told buffer ++ textAfter x (drop told buffer) → Read x v after
   read-leaf (refused m) k v q after a = absurd (omega (arith, ap tag q))
     where
@@ -119,7 +134,7 @@ module _ (l : List ℕ) (page : ℕ) (deps : Bool) (e : Entry) (once : Bool) (ru
   read-leaf (value w) k v q after a =
       let z : w ≡ v = cc in
       let y : after ≡ buffer = a ∙ take-append-drop told buffer in
-      rw (y, ← z) (record { is = rw k refl; within = rw k h; same = refl })
+      rw (y, ← z) (record { is = rw (k told .0, k told .1) refl; within = rw (k told .1) h; same = refl })
   read-leaf (text t) k v q after a = go (leb (length t) (length buffer - told)) refl q (a ∙ ap (λ l. take told buffer ++ l) refl)
     where
       tag : Decoded → ℕ
@@ -140,7 +155,7 @@ module _ (l : List ℕ) (page : ℕ) (deps : Bool) (e : Entry) (once : Bool) (ru
           ∙ take-append-add (take told buffer) (t ++ drop (length t) (drop told buffer)) (length t)
           ∙ ap (λ l. take told buffer ++ l) (take-append-seam t (drop (length t) (drop told buffer))) in
           rw z (record {
-            is = rw (k, room-is t true g, noted-text 0 (length t), x, so-far) refl;
-            within = rw k (omega (arith, u, leb-true (length t) (length buffer - told) g, h));
+            is = rw (room-is t true g, noted-text 0 (length t), x, so-far) refl;
+            within = omega (arith, u, leb-true (length t) (length buffer - told) g, h);
             same = u;
           })

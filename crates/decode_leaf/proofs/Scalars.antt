@@ -53,7 +53,7 @@ module _ (l bytes : List ℕ) (page : ℕ) (deps : Bool) (e : Entry) (name : ℕ
         value-read = read-leaf l page deps e once run told buffer h Said (matches (e .kind) (e .p) (e .q) (e .r) page (take (e .width) (drop at bytes))) v (sym p ∙ q) after a
 
         pub value-reads : {r : Out} {items : List ℕ} {run′ : List ℤ}
-            → Placed (λ s. placed name once (e .width) room (leafIn (movedIn (e .kind) told v) s)) (noteIn l deps e once v run) (toldIn (e .kind) told v) (e .width) r items run′
+            → Placed (λ s. placed name once (e .width) room (leafIn (movedIn told v) s)) (noteIn l deps e once v run) (toldIn told v) (e .width) r items run′
             → Met Scalar-at r items after run′
         value-reads f = value-met after (scalar-is ∙ ap (placed name once (e .width) room) (value-read .is)) (value-read .within) f
 

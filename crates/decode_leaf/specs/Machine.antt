@@ -59,25 +59,26 @@ bare e = single e || eqb (e .kind) 6
 abbrev pub headOf : Entry → ℕ
 headOf e = cond (bare e) 0 4
 
--- ---- a scalar as its item holds it
+-- ---- a scalar as its item holds it: a text starts behind the texts so far
 
-abbrev pub sizeIn : Scalar → ℕ
-sizeIn (Text start n) = n
-sizeIn Null = 0
-sizeIn (Int negative size) = 0
-sizeIn (Decimal negative size scale) = 0
-sizeIn (FloatV x) = 0
-sizeIn (FloatBits x) = 0
-sizeIn (BoolV b) = 0
+abbrev pub movedIn : ℕ → Scalar → Scalar
+movedIn told (Text start n) = Text told n
+movedIn told Null = Null
+movedIn told (Int negative size) = Int negative size
+movedIn told (Decimal negative size scale) = Decimal negative size scale
+movedIn told (FloatV x) = FloatV x
+movedIn told (FloatBits x) = FloatBits x
+movedIn told (BoolV b) = BoolV b
 
-abbrev pub isText : ℕ → Bool
-isText kind = eqb kind 0 || eqb kind 4
-
-abbrev pub movedIn : ℕ → ℕ → Scalar → Scalar
-movedIn kind told v = cond (isText kind) (Text told (sizeIn v)) v
-
-abbrev pub toldIn : ℕ → ℕ → Scalar → ℕ
-toldIn kind told v = cond (isText kind) (told + sizeIn v) told
+-- the text bytes with it
+abbrev pub toldIn : ℕ → Scalar → ℕ
+toldIn told (Text start n) = told + n
+toldIn told Null = told
+toldIn told (Int negative size) = told
+toldIn told (Decimal negative size scale) = told
+toldIn told (FloatV x) = told
+toldIn told (FloatBits x) = told
+toldIn told (BoolV b) = told
 
 -- ---- promises: by the answer's own number
 

@@ -14,7 +14,7 @@ ghost use Rattle.walks.specs.Reading.{placed, scalar};
 ghost use Rattle.decode_scalar.specs.Decode.{says, answerOf, textAfter};
 ghost use Rattle.decode_leaf.specs.Counts.{natOf, first, statusOf, heldIn, noteIn, setIn};
 ghost use Rattle.decode_leaf.specs.Capped.{sat};
-ghost use Rattle.decode_leaf.specs.Machine.{out, kept, state, leafIn, leafAt, Met, Element, Placed, Listed, Counted, headOf, movedIn, toldIn, sizeIn};
+ghost use Rattle.decode_leaf.specs.Machine.{out, kept, state, leafIn, leafAt, Met, Element, Placed, Listed, Counted, headOf, movedIn, toldIn};
 
 // What a part of the walk came to: the number that refuses it, or 0 with the item words written, how many items these are at
 // their own level, the bytes taken, and the text bytes so far.
@@ -326,50 +326,34 @@ pub fn listed(
     }
 }
 
-// Text and Hex yield a text.
-fn yields_text(kind: u32) -> bool
-    ensures { λ r. ⌜ r ≡ (eqb kind 0 || eqb kind 4) ⌝ }
+// What one item of a field of this width comes to.
+fn one_item(width: u32, told: usize) -> Out
+    ensures { λ r. ⌜ r ≡ out 4 1 width told ⌝ }
 {
-    if kind == 0 {
-        return true;
-    }
-    kind == 4
-}
-
-// A text's length; 0 for any other scalar.
-fn text_size(v: Scalar) -> u64
-    ensures { λ r. ⌜ r ≡ sizeIn v ⌝ }
-{
-    match v {
-        Scalar::Text(_, n) => n,
-        Scalar::Null => 0,
-        Scalar::Int(_, _) => 0,
-        Scalar::Decimal(_, _, _) => 0,
-        Scalar::Float(_) => 0,
-        Scalar::FloatBits(_) => 0,
-        Scalar::Bool(_) => 0,
+    Out {
+        refused: 0,
+        used: 4,
+        members: 1,
+        taken: width as u64,
+        told,
     }
 }
 
-// A scalar as its item holds it: a text starts behind the texts so far.
-fn moved(kind: u32, told: usize, v: Scalar) -> Scalar
-    ensures { λ r. ⌜ r ≡ movedIn kind told v ⌝ }
+// The item of a scalar at the front; a text starts behind the texts so far.
+fn place(items: &mut [u64], name: u64, width: u32, told: usize, v: Scalar) -> Out
+    requires { ⌜ toldIn told v < 9223372036854775808 ⌝ }
+    ensures { λ r. ⌜ Placed (λ st. placed name true width (length (now (items .entry))) (leafIn (movedIn told v) st)) [] (toldIn told v) width r (now (items .exit)) [] ⌝ }
 {
-    if yields_text(kind) {
-        return Scalar::Text(told as u64, text_size(v));
+    if items.len() < 4 {
+        return refusal(16);
     }
-    v
-}
-
-// The text bytes so far, once a scalar is read.
-fn told_after(kind: u32, told: usize, v: Scalar) -> usize
-    requires { ⌜ toldIn kind told v < 9223372036854775808 ⌝ }
-    ensures { λ r. ⌜ r ≡ toldIn kind told v ⌝ }
-{
-    if yields_text(kind) {
-        return told + text_size(v) as usize;
+    let w = value::words_of(v);
+    if w.tag == 1 {
+        put_header(items, name, 1, told as u64, w.b);
+        return one_item(width, told + w.b as usize);
     }
-    told
+    put_header(items, name, w.tag, w.a, w.b);
+    one_item(width, told)
 }
 
 // The item of a single scalar at the front, and the count that it sets.
@@ -382,42 +366,26 @@ fn place_lone(
     told: usize,
     v: Scalar,
 ) -> Out
-    requires { ⌜ toldIn (e .kind) told v < 9223372036854775808 ⌝ }
-    ensures { λ r. ⌜ Placed (λ st. placed (e .name) true (e .width) (length (now (items .entry))) (leafIn (movedIn (e .kind) told v) st)) (noteIn (now (layout .entry)) deps e true v (now (counts .entry))) (toldIn (e .kind) told v) (e .width) r (now (items .exit)) (now (counts .exit)) ⌝ }
+    requires { ⌜ toldIn told v < 9223372036854775808 ⌝ }
+    ensures { λ r. ⌜ Placed (λ st. placed (e .name) true (e .width) (length (now (items .entry))) (leafIn (movedIn told v) st)) (noteIn (now (layout .entry)) deps e true v (now (counts .entry))) (toldIn told v) (e .width) r (now (items .exit)) (now (counts .exit)) ⌝ }
 {
-    let s = moved(e.kind, told, v);
-    if !value::put_item(items, e.name as u64, s) {
-        return refusal(16);
+    let o = place(items, e.name as u64, e.width, told, v);
+    if o.refused != 0 {
+        return o;
     }
     note(layout, counts, deps, e, v);
-    Out {
-        refused: 0,
-        used: 4,
-        members: 1,
-        taken: e.width as u64,
-        told: told_after(e.kind, told, v),
-    }
+    o
 }
 
 // The item of a table's element at the front.
 fn place_element(items: &mut [u64], e: Entry, told: usize, v: Scalar) -> Out
-    requires { ⌜ toldIn (e .kind) told v < 9223372036854775808 ⌝ }
-    ensures { λ r. ⌜ Placed (λ st. placed 65536 false (e .width) (length (now (items .entry))) (leafIn (movedIn (e .kind) told v) st)) [] (toldIn (e .kind) told v) (e .width) r (now (items .exit)) [] ⌝ }
+    requires { ⌜ toldIn told v < 9223372036854775808 ⌝ }
+    ensures { λ r. ⌜ Placed (λ st. placed 65536 false (e .width) (length (now (items .entry))) (leafIn (movedIn told v) st)) [] (toldIn told v) (e .width) r (now (items .exit)) [] ⌝ }
 {
     if e.width == 0 {
         return refusal(10);
     }
-    let s = moved(e.kind, told, v);
-    if !value::put_item(items, 65536, s) {
-        return refusal(16);
-    }
-    Out {
-        refused: 0,
-        used: 4,
-        members: 1,
-        taken: e.width as u64,
-        told: told_after(e.kind, told, v),
-    }
+    place(items, 65536, e.width, told, v)
 }
 
 // What the bytes of a field say; a text goes behind the texts so far. An entry is told by its words, so that no caller keeps one in memory.

@@ -1,0 +1,70 @@
+use mathlib.Core.Path.{_≡_, refl, sym, ap, _∙_, subst}
+use mathlib.Core.Bool.{Bool, true, false}
+use mathlib.Core.Logic.{⊎-elim}
+use mathlib.Core.List.{List, [], _∷_, _++_, map, append-nil, append-assoc}
+use Prim.Native.Nat.{ℕ, zero, suc, _+_, _-_, _*_, _≤_, _<_}
+use native.Mathlib.Omega.{arith}
+use native.Mathlib.Numerals.{add-one}
+use borrow.Author.Tests.{lt-ltb, le-ltb, le-leb, lt-leb, eq-eqb, ne-eqb, eqb-true, eqb-false, ltb-true, ltb-false, leb-true, leb-false}
+use lib.Dec.{eqb, leb, ltb}
+use lib.ListN.{length, take, drop, getD, set, replicate, length-set, length-append, length-take, length-drop, length-replicate, length-map}
+use Rattle.value.specs.Scalar.{tagOf, firstOf, secondOf}
+use Rattle.decode_leaf.specs.Machine.{movedIn, toldIn}
+use Rattle.decode_leaf.proofs.Meets.{place-full, place-item}
+use Rattle.decode_leaf.proofs.Leaves.{text-words, other-words}
+use borrow.Author.Needs.{needs}
+use Rattle.decode_leaf.proofs.place.Statement.{statement}
+use Rattle.decode_leaf.proofs.place.Tie as tie
+
+refusal-requires : tie.Need-refusal-requires
+refusal-requires c κs = search needs
+
+returns : tie.Need-returns
+returns c = place-full (c .before .before .before .args .name) (c .before .before .before .args .width) (c .before .before .before .args .items .now) (movedIn (c .before .before .before .args .told) (c .before .before .before .args .v)) (c .before .if1 .taken) (c .refusal .ensures)
+
+words-of-requires : tie.Need-words-of-requires
+words-of-requires c κs = search needs
+
+put-header-requires : tie.Need-put-header-requires
+put-header-requires c κs = search needs
+
+add-one-item : tie.Need-add-one-item
+add-one-item c = omega (arith, text-words (c .before .before .before .before .before .before .before .before .before .args .told) (c .before .before .before .before .before .before .before .before .before .args .v) (sym (c .before .before .before .before .before .before .words-of .ensures .0) ∙ c .before .before .before .before .if2 .taken) .1 .1 .1, c .before .before .before .before .before .before .words-of .ensures .1 .1)
+
+one-item-requires : tie.Need-one-item-requires
+one-item-requires c κs = search needs
+
+same-length : tie.Need-same-length
+same-length c = search needs
+
+returns-2 : tie.Need-returns-2
+returns-2 c = (let t = text-words (c .before .before .before .before .before .before .before .before .before .before .args .told) (c .before .before .before .before .before .before .before .before .before .before .args .v) (sym (c .before .before .before .before .before .before .before .words-of .ensures .0) ∙ c .before .before .before .before .before .if2 .taken) in place-item (c .before .before .before .before .before .before .before .before .before .before .args .name) (c .before .before .before .before .before .before .before .before .before .before .args .width) (c .before .before .before .before .before .before .before .before .before .before .args .items .now) (movedIn (c .before .before .before .before .before .before .before .before .before .before .args .told) (c .before .before .before .before .before .before .before .before .before .before .args .v)) _ _ _ _ (c .before .before .before .before .before .before .before .before .if1 .left) (c .before .before .before .put-header .ensures) (t .0) (t .1 .0) (c .before .before .before .before .before .before .before .words-of .ensures .1 .1 ∙ t .1 .1 .0) (ap (λ n. (c .before .before .before .before .before .before .before .before .before .before .args .told) + n) (c .before .before .before .before .before .before .before .words-of .ensures .1 .1) ∙ t .1 .1 .1) (c .one-item .ensures))
+
+put-header-requires-2 : tie.Need-put-header-requires-2
+put-header-requires-2 c κs = search needs
+
+one-item-requires-2 : tie.Need-one-item-requires-2
+one-item-requires-2 c κs = search needs
+
+same-length-2 : tie.Need-same-length-2
+same-length-2 c = search needs
+
+returns-3 : tie.Need-returns-3
+returns-3 c = (let t = other-words (c .before .before .before .before .before .before .before .before .before .before .args .told) (c .before .before .before .before .before .before .before .before .before .before .args .v) (λ z. c .before .before .before .before .before .if2 .left (c .before .before .before .before .before .before .before .words-of .ensures .0 ∙ z)) in place-item (c .before .before .before .before .before .before .before .before .before .before .args .name) (c .before .before .before .before .before .before .before .before .before .before .args .width) (c .before .before .before .before .before .before .before .before .before .before .args .items .now) (movedIn (c .before .before .before .before .before .before .before .before .before .before .args .told) (c .before .before .before .before .before .before .before .before .before .before .args .v)) _ _ _ _ (c .before .before .before .before .before .before .before .before .if1 .left) (c .before .before .before .put-header2 .ensures) (c .before .before .before .before .before .before .before .words-of .ensures .0 ∙ ap tagOf (t .0)) (c .before .before .before .before .before .before .before .words-of .ensures .1 .0 ∙ ap firstOf (t .0)) (c .before .before .before .before .before .before .before .words-of .ensures .1 .1 ∙ ap secondOf (t .0)) (t .1) (c .one-item2 .ensures))
+
+pub place-spec : {M : Type 1} → statement M
+place-spec =
+    tie.close
+    (tie.spec
+    refusal-requires
+    returns
+    words-of-requires
+    put-header-requires
+    add-one-item
+    one-item-requires
+    same-length
+    returns-2
+    put-header-requires-2
+    one-item-requires-2
+    same-length-2
+    returns-3)

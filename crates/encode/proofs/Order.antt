@@ -1,17 +1,19 @@
 -- Items by name, where they stand in the entries' order.
 use mathlib.Core.Path.{_≡_, refl, sym, ap, _∙_}
-use mathlib.Core.Bool.{Bool, true, false, cond, false≢true}
+use mathlib.Core.Bool.{Bool, true, false, _&&_, cond, false≢true}
 use mathlib.Core.List.{List}
 use Prim.Native.Nat.{ℕ, _+_, _≤_, _<_, max}
 use native.Mathlib.Omega.{arith}
 use lib.Dec.{eqb}
 use borrow.Author.Tests.{ne-eqb, eqb-true}
 use Rattle.spans.specs.Tree.{none, node, endOf}
+use Rattle.layout.specs.declared.Entry.{Entry}
 use Rattle.items.specs.declared.Item.{Item}
 use Rattle.items.specs.Items as Items
 use Rattle.items.specs.Items.{Values, values, headOf, restOf, lookup}
 use Rattle.items.proofs.Items.{values-none, values-node, rest-is}
-use Rattle.encode.specs.Order.{heads, Ahead, Advances}
+use Rattle.walks.specs.Walk.{single, isPad}
+use Rattle.encode.specs.Order.{heads, valueOf, Ahead, Advances}
 
 -- ---- the first item
 
@@ -27,16 +29,19 @@ unfolding lookup
 lookup-heads name none h = absurd (false≢true h)
 lookup-heads name (node it members rest) h = rw h refl
 
--- ---- the first of a name
+-- ---- an entry's own
 
--- what a lookup finds has the name
-named : (name : ℕ) (all : Values) (it : Item) (members rest : Values) → lookup name all ≡ node it members rest → it .name ≡ name
-unfolding lookup
-named name none it members rest h = absurd (false≢true (ap (λ vs. filled vs) h))
+nothing : (it : Item) (members rest : Values) → none ≡ node it members rest → ⊥
+nothing it members rest h = false≢true (ap filled h)
   where
     filled : Values → Bool
     filled none = false
     filled (node it members rest) = true
+
+-- what a lookup finds has the name
+named : (name : ℕ) (all : Values) (it : Item) (members rest : Values) → lookup name all ≡ node it members rest → it .name ≡ name
+unfolding lookup
+named name none it members rest h = absurd (nothing it members rest h)
 named name (node jt ms more) it members rest h = go (named name more it members rest) (eqb (jt .name) name) refl h
   where
     go : (lookup name more ≡ node it members rest → it .name ≡ name)
@@ -45,17 +50,30 @@ named name (node jt ms more) it members rest h = go (named name more it members 
     go f false p k = f k
 
 -- an item of another name is stepped over
-lookup-over : (name other : ℕ) (all vs : Values) → lookup name all ≡ vs → (name ≡ other → ⊥) → lookup other vs ≡ lookup other (restOf vs)
-unfolding lookup
-lookup-over name other all none h k = refl
-lookup-over name other all (node it members rest) h k = rw (ne-eqb (it .name) other (λ p. k (sym (named name all it members rest h) ∙ p))) refl
+value-over : (e : Entry) (other : ℕ) (all own : Values) → valueOf e all ≡ own → (e .name ≡ other → ⊥) → lookup other own ≡ lookup other (restOf own)
+unfolding lookup valueOf
+value-over e other all none h k = refl
+value-over e other all (node it members rest) h k = rw (ne-eqb (it .name) other (λ p. k (sym (go (isPad e && single e) h) ∙ p))) refl
+  where
+    go : (x : Bool) → cond x none (lookup (e .name) all) ≡ node it members rest → it .name ≡ e .name
+    go true f = absurd (nothing it members rest f)
+    go false f = named (e .name) all it members rest f
 
-module _ (v : List ℕ) (name next to low : ℕ) where
-  pub place-here : (all : Values) → Ahead all (values v next to) low → low ≤ name → (z : Bool) → z ≡ heads name (values v next to) → z ≡ true → lookup name all ≡ values v next to
-  place-here all a h z p q = a name h ∙ lookup-heads name (values v next to) (sym p ∙ q)
+module _ (v : List ℕ) (e : Entry) (to : ℕ) (all : Values) (z : Bool) (y : z ≡ (isPad e && single e)) where
+  pub place-pad : z ≡ true → valueOf e all ≡ values v to to
+  unfolding valueOf
+  place-pad f = rw (sym y ∙ f) (sym (values-none v to to (omega arith)))
 
-  pub goes-behind : (j next′ low′ : ℕ) → j ≡ next → next′ ≡ endOf (Items.spanOf (headOf (values v j to))) j to → low′ ≡ max low (name + 1)
-      → Advances name (values v j to) (values v next to) low (values v next′ to) low′
-  goes-behind j next′ low′ e p q all f a other h =
-      a other (omega arith) ∙ ap (λ i. lookup other (values v i to)) (sym e) ∙ lookup-over name other all (values v j to) f (λ k. omega arith)
-      ∙ ap (lookup other) (rest-is v j to (headOf (values v j to)) (Items.spanOf (headOf (values v j to))) next′ refl refl p)
+  module _ (f : z ≡ false) where
+    pub place-there : (r : ℕ) → lookup (e .name) all ≡ values v r to → valueOf e all ≡ values v r to
+    unfolding valueOf
+    place-there r g = rw (sym y ∙ f) g
+
+    pub place-here : (next low : ℕ) → Ahead all (values v next to) low → low ≤ e .name → (x : Bool) → x ≡ heads (e .name) (values v next to) → x ≡ true → valueOf e all ≡ values v next to
+    place-here next low a h x p q = place-there next (a (e .name) h ∙ lookup-heads (e .name) (values v next to) (sym p ∙ q))
+
+pub goes-behind : (v : List ℕ) (e : Entry) (next to low j next′ low′ : ℕ) → j ≡ next → next′ ≡ endOf (Items.spanOf (headOf (values v j to))) j to → low′ ≡ max low (e .name + 1)
+    → Advances e (values v j to) (values v next to) low (values v next′ to) low′
+goes-behind v e next to low j next′ low′ same p q all f a other h =
+    a other (omega arith) ∙ ap (λ i. lookup other (values v i to)) (sym same) ∙ value-over e other all (values v j to) f (λ k. omega arith)
+    ∙ ap (lookup other) (rest-is v j to (headOf (values v j to)) (Items.spanOf (headOf (values v j to))) next′ refl refl p)

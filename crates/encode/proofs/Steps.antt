@@ -4,54 +4,121 @@ use mathlib.Core.Bool.{Bool, true, false, not, _&&_, cond, false≢true}
 use mathlib.Core.List.{List}
 use Prim.Native.Nat.{ℕ, suc, _+_, _-_, _*_, _<_, _≤_, min, max}
 use native.Mathlib.Omega.{arith}
-use native.Mathlib.Decide.{decLt}
 use lib.Dec.{eqb, leb}
 use lib.ListN.{length}
-use borrow.Author.Tests.{ne-eqb, eq-eqb, lt-leb, le-leb}
+use borrow.Author.Tests.{eq-eqb, ne-eqb, eqb-true, leb-true}
 use Rattle.spans.specs.Tree.{Tree, none, node, endOf}
 use Rattle.spans.proofs.Tree.{tree-none, tree-at}
 use Rattle.layout.specs.declared.Entry.{Entry}
-use Rattle.layout.specs.Layout.{entryAt, spanOf, isGroup, part, reservedWidth}
+use Rattle.layout.specs.Layout.{absent, entryAt, spanOf, isGroup, part, reservedWidth}
 use Rattle.items.specs.declared.Item.{Item}
-use Rattle.items.specs.Items as Items
-use Rattle.items.specs.Items.{Values, values, headOf, membersOf, restOf, lookup}
-use Rattle.items.proofs.Items.{values-none, values-node}
-use Rattle.walks.specs.Walk.{single, Coded, unfit, bytes, Codec}
-use Rattle.encode_leaf.specs.Laying.{sat, Laid, refused, laid, Layer, next, coded, leaf, inside, one, missing, settled, elements, table, field, seq, start}
-use Rattle.encode_leaf.specs.Machine.{codec, taking, spread}
+use Rattle.items.specs.Items.{Values, headOf, membersOf, lookup}
+use Rattle.walks.specs.Walk.{single, isPad, Coded, unfit, bytes, Codec}
+use Rattle.walks.specs.Writing.{lay}
+use Rattle.encode_leaf.specs.Laying.{sat, Laid, refused, laid, Layer, next, coded, leaf, inside, one, settled, elements, table, field, seq, start}
+use Rattle.encode_leaf.specs.Machine.{codec, spread}
 use Rattle.encode_leaf.proofs.Leaves.{leaf-pad}
-use Rattle.encode_leaf.proofs.Inside.{inside-not, inside-is}
+use Rattle.encode.specs.Order.{lone, valueOf}
 
--- ---- one element
+-- ---- tests
 
-module _ {S : Type 0} (k : Codec S) (room : ℕ) (e : Entry) (inner : Layer) (v : List ℕ) (i to at : ℕ) (b : List ℕ) (it : Item) (p : it ≡ headOf (values v i to)) where
-  pub one-leaf : (e .kind ≡ 9 → ⊥) → one k room e inner (values v i to) at b ≡ leaf k room e it at b
-  unfolding one
-  one-leaf h = rw (ne-eqb (e .kind) 9 h, p) refl
+module _ (e : Entry) where
+  pub lone-group : e .kind ≡ 9 → false ≡ lone e
+  unfolding lone
+  lone-group h = rw (eq-eqb (e .kind) 9 h) refl
 
-  pub field-leaf : (z : Bool) → z ≡ (not (isGroup e) && single e) → z ≡ true → field k room e inner (values v i to) at b ≡ leaf k room e it at b
-  unfolding field one
-  field-leaf z y f = go (isGroup e) (single e) (sym y ∙ f)
+  pub lone-table : (z : Bool) → z ≡ single e → z ≡ false → false ≡ lone e
+  unfolding lone
+  lone-table z y f = rw (sym y ∙ f) (go (isGroup e))
     where
-      go : (g s : Bool) → (not g && s) ≡ true
-          → cond s (cond g (inside 7 (λ ms. inner ms at b) (values v i to)) (leaf k room e (headOf (values v i to)) at b)) (table e (one k room e inner) (values v i to) at b) ≡ leaf k room e it at b
-      go true s h = absurd (false≢true h)
-      go false true h = ap (λ x. leaf k room e x at b) (sym p)
-      go false false h = absurd (false≢true h)
+      go : (g : Bool) → false ≡ (not g && (false && leb (e .span) 1))
+      go true = refl
+      go false = refl
 
-  pub one-not : e .kind ≡ 9 → (t : Bool) → t ≡ taking (it .tag) 7 → t ≡ false → one k room e inner (values v i to) at b ≡ refused 13
-  unfolding one
-  one-not h t r f = rw (eq-eqb (e .kind) 9 h) (inside-not 7 (λ ms. inner ms at b) v i to it p (sym r ∙ f))
+  pub lone-span : (e .kind ≡ 9 → ⊥) → (z : Bool) → z ≡ single e → z ≡ true → leb (e .span) 1 ≡ lone e
+  unfolding lone
+  lone-span h z y f = rw (ne-eqb (e .kind) 9 h, sym y ∙ f) refl
 
-  pub one-group : e .kind ≡ 9 → (t : Bool) → t ≡ taking (it .tag) 7 → t ≡ true → (en m : ℕ) → en ≡ endOf (Items.spanOf (headOf (values v i to))) i to → m ≡ min en (i + 1)
-      → one k room e inner (values v i to) at b ≡ inner (values v m en) at b
-  unfolding one
-  one-group h t r f en m q s = rw (eq-eqb (e .kind) 9 h) (inside-is 7 (λ ms. inner ms at b) v i to it p en m (sym r ∙ f) q s)
+  pub pad-kind : e .kind ≡ 6 → (z : Bool) → z ≡ single e → z ≡ (isPad e && single e)
+  unfolding isPad
+  pad-kind h z y = y ∙ ap (λ x. x && single e) (sym (eq-eqb (e .kind) 6 h))
 
-pub one-pad : (masks text : List ℕ) (page room : ℕ) (e : Entry) (inner : Layer) (vs : Values) (at : ℕ) (b : List ℕ) (it : Item) → e .kind ≡ 6
-    → one (codec masks page text) room e inner vs at b ≡ leaf (codec masks page text) room e it at b
-unfolding one
-one-pad masks text page room e inner vs at b it h = rw (ne-eqb (e .kind) 9 (λ k. omega arith)) (leaf-pad masks text page room e (headOf vs) it at b h)
+  pub pad-not : (e .kind ≡ 6 → ⊥) → false ≡ (isPad e && single e)
+  unfolding isPad
+  pad-not h = rw (ne-eqb (e .kind) 6 h) refl
+
+-- ---- an entry that is written at once
+
+module _ {S : Type 0} (k : Codec S) (room : ℕ) (e : Entry) (inner : Layer) (vs : Values) (at : ℕ) (b : List ℕ) where
+  field-leaf : isGroup e ≡ false → single e ≡ true → (it : Item) → it ≡ headOf vs → field k room e inner vs at b ≡ leaf k room e it at b
+  unfolding field one
+  field-leaf g s it p = rw (s, g) (ap (λ x. leaf k room e x at b) (sym p))
+
+taken-is : (room w at : ℕ) (b : List ℕ) (c : Coded) (b′ : List ℕ) (past t : ℕ) → coded room w at b c ≡ laid b′ past t → t ≡ w
+taken-is room w at b (unfit n) b′ past t h = absurd (false≢true (ap fine h))
+  where
+    fine : Laid → Bool
+    fine (refused n) = false
+    fine (laid b past t) = true
+taken-is room w at b (bytes bs) b′ past t h = go (leb (at + length bs) room) h
+  where
+    takenOf : Laid → ℕ
+    takenOf (refused n) = w
+    takenOf (laid b past t) = t
+
+    go : (x : Bool) → cond x (laid (lay b at bs) (suc (at + length bs)) w) (refused 16) ≡ laid b′ past t → t ≡ w
+    go true f = sym (ap takenOf f)
+    go false f = sym (ap takenOf f)
+
+module _ (e : Entry) (z : Bool) (y : z ≡ lone e) (f : z ≡ true) where
+  parts : (isGroup e ≡ false) × ((single e ≡ true) × (leb (e .span) 1 ≡ true))
+  unfolding lone
+  parts = go (isGroup e) (single e) (leb (e .span) 1) (sym y ∙ f)
+    where
+      go : (g s l : Bool) → (not g && (s && l)) ≡ true → (g ≡ false) × ((s ≡ true) × (l ≡ true))
+      go true s l h = absurd (false≢true h)
+      go false true true h = (refl, (refl, refl))
+      go false true false h = absurd (false≢true h)
+      go false false l h = absurd (false≢true h)
+
+  pub lone-end : (i hi : ℕ) → i < hi → i + 1 ≡ endOf (e .span) i hi
+  lone-end i hi h = omega (arith, leb-true (e .span) 1 (parts .1 .1))
+
+  pub lone-field : {S : Type 0} (k : Codec S) (room : ℕ) (inner : Layer) (vs : Values) (at : ℕ) (b : List ℕ) (it : Item) → it ≡ headOf vs → field k room e inner vs at b ≡ leaf k room e it at b
+  lone-field k room inner vs at b it p = field-leaf k room e inner vs at b (parts .0) (parts .1 .0) it p
+
+  reserved : reservedWidth e ≡ e .width
+  unfolding single reservedWidth
+  reserved = go (eqb (e .occurs) absent) (eqb (e .depending) absent) (parts .1 .0)
+    where
+      go : (o d : Bool) → (not (not o) && not (not d)) ≡ true → cond (not d) 0 (e .width * cond o 1 (e .occurs)) ≡ e .width
+      go true true h = omega arith
+      go true false h = absurd (false≢true h)
+      go false d h = absurd (false≢true h)
+
+  -- it takes what is reserved for it
+  pub lone-shift : {S : Type 0} (k : Codec S) (room : ℕ) (it : Item) (at : ℕ) (b b′ : List ℕ) (past t shift : ℕ) → leaf k room e it at b ≡ laid b′ past t → shift ≤ 9223372036854775808
+      → shift ≡ sat (shift + (t - reservedWidth e))
+  unfolding leaf
+  lone-shift k room it at b b′ past t shift h s = omega (arith, taken-is room (e .width) at b (k .enc e it) b′ past t h, reserved)
+
+-- ---- the value of a Pad does not matter
+
+pub field-value : (masks text : List ℕ) (page room : ℕ) (e : Entry) (inner : Layer) (all : Values) (at : ℕ) (b : List ℕ)
+    → field (codec masks page text) room e inner (valueOf e all) at b ≡ field (codec masks page text) room e inner (lookup (e .name) all) at b
+unfolding valueOf isPad
+field-value masks text page room e inner all at b = go (eqb (e .kind) 6) (single e) refl refl
+  where
+    go : (x y : Bool) → eqb (e .kind) 6 ≡ x → single e ≡ y
+        → field (codec masks page text) room e inner (cond (x && y) none (lookup (e .name) all)) at b ≡ field (codec masks page text) room e inner (lookup (e .name) all) at b
+    go true true p q =
+        let k : e .kind ≡ 6 = eqb-true (e .kind) 6 p in
+        let g : isGroup e ≡ false = ne-eqb (e .kind) 9 (λ h. omega arith) in
+        field-leaf (codec masks page text) room e inner none at b g q (headOf none) refl
+        ∙ leaf-pad masks text page room e (headOf none) (headOf (lookup (e .name) all)) at b k
+        ∙ sym (field-leaf (codec masks page text) room e inner (lookup (e .name) all) at b g q (headOf (lookup (e .name) all)) refl)
+    go true false p q = refl
+    go false y p q = refl
 
 -- ---- the bytes taken, which stop at 2^63
 
@@ -107,38 +174,6 @@ module _ {S : Type 0} (k : Codec S) (room : ℕ) (e : Entry) (members : Tree Ent
       → field k room e (start k room members) vs at b ≡ spread e (λ n ms. elements (one k room e (start k room members)) n ms at 0 0 b) vs
   unfolding field table spread
   field-spread vs at b = ap (λ o. cond (single e) o (table e (one k room e (start k room members)) vs at b)) (once vs at b)
-
--- ---- the elements of a table
-
-pub missing-by : (v : List ℕ) (j to : ℕ) → missing (values v j to) ≡ leb to j
-missing-by v j to = go (decLt j to)
-  where
-    go : Dec (j < to) → missing (values v j to) ≡ leb to j
-    go (yes h) = ap missing (values-node v j to (headOf (values v j to)) (Items.spanOf (headOf (values v j to))) (endOf (Items.spanOf (headOf (values v j to))) j to) refl refl refl h) ∙ sym (lt-leb to j h)
-    go (no h) = ap missing (values-none v j to (omega arith)) ∙ sym (le-leb to j (omega arith))
-
-module _ (f : Layer) (n : ℕ) (vs : Values) (at taken past : ℕ) (b : List ℕ) where
-  pub elements-end : n ≤ 0 → elements f n vs at taken past b ≡ laid b past taken
-  unfolding elements
-  elements-end h = let z : n ≡ 0 = omega arith in rw z refl
-
-  module _ (h : 0 < n) where
-    left : n ≡ suc (n - 1)
-    left = omega arith
-
-    pub elements-refused : (m : ℕ) → f vs at b ≡ refused m → elements f n vs at taken past b ≡ refused m
-    unfolding elements
-    elements-refused m e = rw (left, e) refl
-
-    module _ (b′ : List ℕ) (past′ t : ℕ) (e : f vs at b ≡ laid b′ past′ t) where
-      pub elements-settled : settled vs past′ t ≡ true → elements f n vs at taken past b ≡ laid b′ (max past past′) (sat (taken + sat (n * t)))
-      unfolding elements
-      elements-settled s =
-          ap (λ x. elements f x vs at taken past b) left ∙ rw (e, s) (ap (λ x. laid b′ (max past past′) (sat (taken + sat (x * t)))) (sym left))
-
-      pub elements-go : settled vs past′ t ≡ false → elements f n vs at taken past b ≡ elements f (n - 1) (restOf vs) (sat (at + t)) (sat (taken + t)) (max past past′) b′
-      unfolding elements
-      elements-go s = ap (λ x. elements f x vs at taken past b) left ∙ rw (e, s) refl
 
 -- ---- the entries of a sequence
 

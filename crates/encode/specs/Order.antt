@@ -1,10 +1,21 @@
--- Items that stand in the entries' order are found at once.
+-- Entries that are written at once; and items that stand in the entries' order, which are found at once.
 use mathlib.Core.Path.{_≡_}
-use mathlib.Core.Bool.{Bool, true, false}
+use mathlib.Core.Bool.{Bool, true, false, not, _&&_, cond}
 use Prim.Native.Nat.{ℕ, _≤_}
-use lib.Dec.{eqb}
+use lib.Dec.{eqb, leb}
 use Rattle.spans.specs.Tree.{none, node}
+use Rattle.layout.specs.declared.Entry.{Entry}
+use Rattle.layout.specs.Layout.{isGroup}
 use Rattle.items.specs.Items.{Values, lookup}
+use Rattle.walks.specs.Walk.{single, isPad}
+
+-- an entry that is no group and no table, and has no members
+unfoldable pub lone : Entry → Bool
+lone e = not (isGroup e) && (single e && leb (e .span) 1)
+
+-- the items from an entry's own on: the first of its name; a Pad that is no table has none
+unfoldable pub valueOf : Entry → Values → Values
+valueOf e all = cond (isPad e && single e) none (lookup (e .name) all)
 
 -- whether the first of these items has the name
 abbrev pub heads : ℕ → Values → Bool
@@ -15,6 +26,6 @@ heads name (node it members rest) = eqb (it .name) name
 abbrev pub Ahead : Values → Values → ℕ → Type 0
 Ahead all rest low = (name : ℕ) → low ≤ name → lookup name all ≡ lookup name rest
 
--- where this holds it still holds behind a name's first item
-abbrev pub Advances : ℕ → Values → Values → ℕ → Values → ℕ → Type 0
-Advances name first rest low rest′ low′ = (all : Values) → lookup name all ≡ first → Ahead all rest low → Ahead all rest′ low′
+-- where this holds it still holds of another rest, an entry's own items given
+abbrev pub Advances : Entry → Values → Values → ℕ → Values → ℕ → Type 0
+Advances e own rest low rest′ low′ = (all : Values) → valueOf e all ≡ own → Ahead all rest low → Ahead all rest′ low′

@@ -3,10 +3,10 @@ use encode_leaf::Out;
 use encode_leaf::clear;
 use encode_leaf::elements_of;
 use encode_leaf::encode_leaf;
+use encode_leaf::encode_table;
 use encode_leaf::is_single;
 use encode_leaf::larger;
 use encode_leaf::less;
-use encode_leaf::no_item;
 use encode_leaf::refusal;
 use encode_leaf::room_of;
 use encode_leaf::sat_add;
@@ -27,18 +27,18 @@ use lists::fill;
 use spans::end_of;
 ghost use mathlib.Core.Path.{_≡_};
 ghost use Prim.Native.Nat.{ℕ, _/_};
-ghost use mathlib.Core.Bool.{not, _&&_, _||_};
+ghost use mathlib.Core.Bool.{_&&_, _||_};
 ghost use lib.Dec.{eqb, ltb};
 ghost use lib.IntN.{pos};
 ghost use lib.ListN.{length, replicate};
-ghost use Rattle.layout.specs.Layout.{part, entries, isGroup, recordLength};
-ghost use Rattle.items.specs.Items.{values, lookup};
-ghost use Rattle.walks.specs.Walk.{single};
+ghost use Rattle.layout.specs.Layout.{part, entries, recordLength};
+ghost use Rattle.items.specs.Items.{values};
+ghost use Rattle.walks.specs.Walk.{single, isPad};
 ghost use Rattle.walks.specs.Records.{encodeRecord, refusalOf, bytesOf, filled, supplied};
-ghost use Rattle.encode_leaf.specs.Laying.{one, field, start};
+ghost use Rattle.encode_leaf.specs.Laying.{group, field, start};
 ghost use Rattle.encode_leaf.specs.Machine.{Met, codec, roomIn};
 ghost use Rattle.encode.specs.Asked.{askedOf, sought, passed};
-ghost use Rattle.encode.specs.Order.{heads, Ahead, Advances};
+ghost use Rattle.encode.specs.Order.{lone, heads, valueOf, Ahead, Advances};
 
 // What writing a record answers: the number that refuses it, or 0 with the record's length.
 pub struct Written {
@@ -65,36 +65,62 @@ struct Front {
     low: u64,
 }
 
-// The place of the first item of a name in the sequence from..to.
-fn place_of(items: &[u64], name: u32, from: usize, f: Front, to: usize) -> usize
-    requires { ⌜ Ahead (values (now items) from to) (values (now items) (f .next) to) (f .low) ⌝ }
-    ensures { λ r. ⌜ lookup name (values (now (items .entry)) from to) ≡ values (now (items .entry)) r to ⌝ }
+// Whether an entry is a Pad that is no table.
+fn is_lone_pad(e: Entry) -> bool
+    ensures { λ r. ⌜ r ≡ (isPad e && single e) ⌝ }
 {
+    if e.kind == 6 {
+        return is_single(e);
+    }
+    false
+}
+
+// The place of an entry's value in the sequence from..to, and `to` where there is none.
+fn place_of(items: &[u64], e: Entry, from: usize, f: Front, to: usize) -> usize
+    requires { ⌜ Ahead (values (now items) from to) (values (now items) (f .next) to) (f .low) ⌝ }
+    ensures { λ r. ⌜ valueOf e (values (now (items .entry)) from to) ≡ values (now (items .entry)) r to ⌝ }
+{
+    if is_lone_pad(e) {
+        return to;
+    }
     let next = f.next;
-    if f.low <= name as u64 {
-        if has_name(items, name as u64, next, to) {
+    if f.low <= e.name as u64 {
+        if has_name(items, e.name as u64, next, to) {
             return next;
         }
     }
-    find(items, name as u64, from, to)
+    find(items, e.name as u64, from, to)
 }
 
-// The front behind the first item of a name, which is at j, where that is the next one.
-fn advance(items: &[u64], name: u32, f: Front, j: usize, to: usize) -> Front
-    ensures { λ r. ⌜ Advances name (values (now (items .entry)) j to) (values (now (items .entry)) (f .next) to) (f .low) (values (now (items .entry)) (r .next) to) (r .low) ⌝ }
+// The front behind an entry's value, which is at j, where that is the next item.
+fn advance(items: &[u64], e: Entry, f: Front, j: usize, to: usize) -> Front
+    ensures { λ r. ⌜ Advances e (values (now (items .entry)) j to) (values (now (items .entry)) (f .next) to) (f .low) (values (now (items .entry)) (r .next) to) (r .low) ⌝ }
 {
     if j != f.next {
         return f;
     }
     Front {
         next: item_end(items, j, to),
-        low: larger(f.low, name as u64 + 1),
+        low: larger(f.low, e.name as u64 + 1),
     }
 }
 
 // ---- the walk
 
-// The entries lo up to hi, one after the other, from a base on, by the items from..to.
+// Whether an entry is one scalar or Pad, so no table and no group, and has no members.
+fn is_lone_leaf(e: Entry) -> bool
+    ensures { λ r. ⌜ r ≡ lone e ⌝ }
+{
+    if e.kind == 9 {
+        return false;
+    }
+    if !is_single(e) {
+        return false;
+    }
+    e.span <= 1
+}
+
+// The entries lo up to hi, one after the other, from a base on, by the items from..to. A scalar or Pad that is no table is written at once.
 fn encode_seq(
     layout: &[u32],
     masks: &[u8],
@@ -117,11 +143,21 @@ fn encode_seq(
     let mut f = Front { next: from, low: 0 };
     while i < hi {
         let e = load(layout, i);
-        let end = end_of(e.span as u64, i, hi);
         let off = sat_add(e.offset as u64, shift);
         let at = sat_add(base, off);
-        let j = place_of(items, e.name, from, f, to);
-        f = advance(items, e.name, f, j, to);
+        let j = place_of(items, e, from, f, to);
+        f = advance(items, e, f, j, to);
+        if is_lone_leaf(e) {
+            let o = encode_leaf(masks, text, rec, page, e, fetch(items, j, to), at);
+            if o.refused != 0 {
+                return refusal(o.refused);
+            }
+            taken = larger(taken, sat_add(off, o.taken));
+            past = larger(past, o.past);
+            i += 1;
+            continue;
+        }
+        let end = end_of(e.span as u64, i, hi);
         let o = encode_field(
             layout,
             masks,
@@ -152,18 +188,8 @@ fn encode_seq(
     }
 }
 
-// Whether an entry is one scalar or Pad, so no table and no group.
-fn is_lone_leaf(e: Entry) -> bool
-    ensures { λ r. ⌜ r ≡ (not (isGroup e) && single e) ⌝ }
-{
-    if e.kind == 9 {
-        return false;
-    }
-    is_single(e)
-}
-
-// An entry whose members are the entries lo up to hi, by the first of the items i..to: one scalar or Pad at once; or one element, or the
-// elements of a table. One call of encode_one serves both, so that the frame stays small.
+// An entry whose members are the entries lo up to hi, by the first of the items i..to: its elements, one or those of a table. A table of
+// scalars or Pads is called at two places, with values and without, so that it is not compiled into this frame.
 fn encode_field(
     layout: &[u32],
     masks: &[u8],
@@ -180,34 +206,24 @@ fn encode_field(
 ) -> Out
     ensures { λ r. ⌜ Met (field (codec (now (masks .entry)) page (now (text .entry))) (roomIn (now (rec .entry))) e (start (codec (now (masks .entry)) page (now (text .entry))) (roomIn (now (rec .entry))) (part (now (layout .entry)) lo hi)) (values (now (items .entry)) i to) at (now (rec .entry))) r (now (rec .exit)) ⌝ }
 {
-    if is_lone_leaf(e) {
-        return encode_leaf(masks, text, rec, page, e, fetch(items, i, to), at);
-    }
     let s = elements_of(items, e, i, to);
     if s.refused != 0 {
         return refusal(s.refused);
     }
     let end = s.end;
+    if e.kind != 9 {
+        if s.from < end {
+            return encode_table(masks, text, items, rec, page, e, s.n, s.from, end, at);
+        }
+        return encode_table(masks, text, items, rec, page, e, s.n, end, end, at);
+    }
     let mut j = s.from;
     let mut left = s.n;
     let mut place = at;
     let mut taken: u64 = 0;
     let mut past: u64 = 0;
     while left > 0 {
-        let o = encode_one(
-            layout,
-            masks,
-            items,
-            text,
-            rec,
-            page,
-            e,
-            lo,
-            hi,
-            j,
-            end,
-            place,
-        );
+        let o = encode_one(layout, masks, items, text, rec, page, lo, hi, j, end, place);
         if o.refused != 0 {
             return refusal(o.refused);
         }
@@ -231,8 +247,7 @@ fn encode_field(
     }
 }
 
-// One element, by the first of the items i..to: a group of the entries lo up to hi, or a scalar or Pad. The leaf is called at two places, for
-// a Pad without its value, which does not matter, so that it is not compiled into this frame.
+// One group of the entries lo up to hi, by the first of the items i..to.
 fn encode_one(
     layout: &[u32],
     masks: &[u8],
@@ -240,22 +255,15 @@ fn encode_one(
     text: &[u8],
     rec: &mut [u8],
     page: u32,
-    e: Entry,
     lo: usize,
     hi: usize,
     i: usize,
     to: usize,
     at: u64,
 ) -> Out
-    ensures { λ r. ⌜ Met (one (codec (now (masks .entry)) page (now (text .entry))) (roomIn (now (rec .entry))) e (start (codec (now (masks .entry)) page (now (text .entry))) (roomIn (now (rec .entry))) (part (now (layout .entry)) lo hi)) (values (now (items .entry)) i to) at (now (rec .entry))) r (now (rec .exit)) ⌝ }
+    ensures { λ r. ⌜ Met (group (start (codec (now (masks .entry)) page (now (text .entry))) (roomIn (now (rec .entry))) (part (now (layout .entry)) lo hi)) (values (now (items .entry)) i to) at (now (rec .entry))) r (now (rec .exit)) ⌝ }
 {
-    if e.kind == 6 {
-        return encode_leaf(masks, text, rec, page, e, no_item(), at);
-    }
     let it = fetch(items, i, to);
-    if e.kind != 9 {
-        return encode_leaf(masks, text, rec, page, e, it, at);
-    }
     if !takes(it.tag, 7) {
         return refusal(13);
     }

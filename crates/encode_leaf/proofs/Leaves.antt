@@ -21,7 +21,7 @@ use Rattle.walks.specs.Walk.{single, Coded, unfit, bytes}
 use Rattle.walks.specs.Writing.{lay}
 use Rattle.walks.specs.Kinds.{maskOf, textOf, scalarIn, codedOf, enc}
 use Rattle.encode_leaf.specs.Laying.{sat, Laid, refused, laid, coded, leaf}
-use Rattle.encode_leaf.specs.Machine.{codec, roomIn, putting, putWidth, judged, outside, bytesIn}
+use Rattle.encode_leaf.specs.Machine.{codec, roomIn, putting, putWidth, masking, maskFor, judged, outside, bytesIn}
 use Rattle.encode_leaf.proofs.Widths.{by-kind, wide}
 
 -- ---- products that stop
@@ -63,10 +63,10 @@ pub text-clipped : (text : List ℕ) (it : Item) (b : Bool) → take (cond b (it
 text-clipped text it true = refl
 text-clipped text it false = refl
 
--- ---- the same at the width that is put
+-- ---- the same at the width that is put, and without a mask that no question and no byte looks at
 
 module _ (p q r s : ℕ) (mask : List ℕ) (page w tag : ℕ) (v : Scalar) (t : List ℕ) where
-  other-judged : (kind : ℕ) → 8 < kind → judgedOf kind p q r s mask (putting kind w) tag v t ≡ judgedOf kind p q r s mask w tag v t
+  other-judged : (kind : ℕ) → 8 < kind → judgedOf kind p q r s (masking kind mask) (putting kind w) tag v t ≡ judgedOf kind p q r s mask w tag v t
   unfolding judgedOf numberJudged
   other-judged kind k =
       rw (
@@ -81,7 +81,7 @@ module _ (p q r s : ℕ) (mask : List ℕ) (page w tag : ℕ) (v : Scalar) (t : 
         ne-eqb kind 8 (λ e. omega arith),
       ) refl
 
-  other-bytes : (kind : ℕ) → 8 < kind → bytesOf kind p q r mask page (putting kind w) v t ≡ bytesOf kind p q r mask page w v t
+  other-bytes : (kind : ℕ) → 8 < kind → bytesOf kind p q r (masking kind mask) page (putting kind w) v t ≡ bytesOf kind p q r mask page w v t
   unfolding bytesOf numberBytes
   other-bytes kind k =
       rw (
@@ -96,52 +96,57 @@ module _ (p q r s : ℕ) (mask : List ℕ) (page w tag : ℕ) (v : Scalar) (t : 
         ne-eqb kind 8 (λ e. omega arith),
       ) refl
 
-  same-judged : (kind : ℕ) → judgedOf kind p q r s mask (putting kind w) tag v t ≡ judgedOf kind p q r s mask w tag v t
+  same-judged : (kind : ℕ) → judgedOf kind p q r s (masking kind mask) (putting kind w) tag v t ≡ judgedOf kind p q r s mask w tag v t
   unfolding judgedOf numberJudged
-  same-judged = by-kind (λ kind. judgedOf kind p q r s mask (putting kind w) tag v t ≡ judgedOf kind p q r s mask w tag v t) refl refl refl refl refl refl refl refl refl other-judged
+  same-judged = by-kind (λ kind. judgedOf kind p q r s (masking kind mask) (putting kind w) tag v t ≡ judgedOf kind p q r s mask w tag v t) refl refl refl refl refl refl refl refl refl other-judged
 
-  same-bytes : (kind : ℕ) → bytesOf kind p q r mask page (putting kind w) v t ≡ bytesOf kind p q r mask page w v t
+  same-bytes : (kind : ℕ) → bytesOf kind p q r (masking kind mask) page (putting kind w) v t ≡ bytesOf kind p q r mask page w v t
   unfolding bytesOf numberBytes
-  same-bytes = by-kind (λ kind. bytesOf kind p q r mask page (putting kind w) v t ≡ bytesOf kind p q r mask page w v t) refl refl refl refl refl refl refl refl refl other-bytes
+  same-bytes = by-kind (λ kind. bytesOf kind p q r (masking kind mask) page (putting kind w) v t ≡ bytesOf kind p q r mask page w v t) refl refl refl refl refl refl refl refl refl other-bytes
 
 -- ---- judging, and putting what was judged
 
 pub bytes-long : (masks : List ℕ) (page : ℕ) (text : List ℕ) (e : Entry) (it : Item) → judged masks text e it ≡ 0 → length (bytesIn masks page text e it) ≡ putWidth e
 bytes-long masks page text e it j = wide (e .p) (e .q) (e .r) (e .s) (maskOf masks e) page (e .width) (it .tag) (scalarIn it) (textOf text it) (e .kind) j
 
-module _ (masks text : List ℕ) (e : Entry) (it : Item) (m n a size b : ℕ) (p : m ≡ min (length masks) (e .mask)) (q : n ≡ min (length masks - m) (e .width))
-    (u : a ≡ min (length text) (it .a)) (z : size ≡ cond (eqb (it .tag) 1) (it .b) 0) (v : b ≡ min (length text - a) size) where
-  mask-is : take (m + n - m) (drop m masks) ≡ maskOf masks e
-  mask-is = clipped masks (e .mask) (e .width) m n p q
+module _ (masks : List ℕ) (e : Entry) where
+  pub mask-none : (e .kind ≡ 8 → ⊥) → [] ≡ maskFor masks e
+  mask-none h = rw (ne-eqb (e .kind) 8 h) refl
 
-  text-is : take (a + b - a) (drop a text) ≡ textOf text it
-  text-is = clipped text (it .a) size a b u v ∙ ap (λ i. take i (drop (it .a) text)) z ∙ text-clipped text it (eqb (it .tag) 1)
+  pub mask-is : e .kind ≡ 8 → (m n : ℕ) → m ≡ min (length masks) (e .mask) → n ≡ min (length masks - m) (e .width) → take (m + n - m) (drop m masks) ≡ maskFor masks e
+  mask-is h m n p q = rw (eq-eqb (e .kind) 8 h) (clipped masks (e .mask) (e .width) m n p q)
 
-  pub judge-is : (r : ℕ) → r ≡ judgedOf (e .kind) (e .p) (e .q) (e .r) (e .s) (take (m + n - m) (drop m masks)) (e .width) (it .tag) (scalarIn it) (take (a + b - a) (drop a text)) → r ≡ judged masks text e it
-  judge-is r h = h ∙ ap₂ (λ x y. judgedOf (e .kind) (e .p) (e .q) (e .r) (e .s) x (e .width) (it .tag) (scalarIn it) y) mask-is text-is
+module _ (text : List ℕ) (it : Item) where
+  pub text-none : (it .tag ≡ 1 → ⊥) → [] ≡ textOf text it
+  text-none h = rw (ne-eqb (it .tag) 1 h) refl
 
-  module _ (page : ℕ) (part : List ℕ) (l : length part ≡ putWidth e) where
-    at-width : judgedOf (e .kind) (e .p) (e .q) (e .r) (e .s) (take (m + n - m) (drop m masks)) (length part) (it .tag) (scalarIn it) (take (a + b - a) (drop a text)) ≡ judged masks text e it
-    at-width =
-        ap₂ (λ x y. judgedOf (e .kind) (e .p) (e .q) (e .r) (e .s) x (length part) (it .tag) (scalarIn it) y) mask-is text-is
-        ∙ ap (λ w. judgedOf (e .kind) (e .p) (e .q) (e .r) (e .s) (maskOf masks e) w (it .tag) (scalarIn it) (textOf text it)) l
-        ∙ same-judged (e .p) (e .q) (e .r) (e .s) (maskOf masks e) page (e .width) (it .tag) (scalarIn it) (textOf text it) (e .kind)
+  pub text-is : it .tag ≡ 1 → (a b : ℕ) → a ≡ min (length text) (it .a) → b ≡ min (length text - a) (it .b) → take (a + b - a) (drop a text) ≡ textOf text it
+  text-is h a b u v = rw (eq-eqb (it .tag) 1 h) (clipped text (it .a) (it .b) a b u v)
 
-    pub put-is : (r : ℕ) (last : List ℕ)
-        → r ≡ judgedOf (e .kind) (e .p) (e .q) (e .r) (e .s) (take (m + n - m) (drop m masks)) (length part) (it .tag) (scalarIn it) (take (a + b - a) (drop a text))
-        → last ≡ partAfter (judgedOf (e .kind) (e .p) (e .q) (e .r) (e .s) (take (m + n - m) (drop m masks)) (length part) (it .tag) (scalarIn it) (take (a + b - a) (drop a text)))
-        (bytesOf (e .kind) (e .p) (e .q) (e .r) (take (m + n - m) (drop m masks)) page (length part) (scalarIn it) (take (a + b - a) (drop a text))) part
-        → (r ≡ judged masks text e it) × (r ≡ 0 → last ≡ bytesIn masks page text e it)
-    put-is r last g h = (g ∙ at-width, put)
-      where
-        put : r ≡ 0 → last ≡ bytesIn masks page text e it
-        put z =
-            let j : judged masks text e it ≡ 0 = sym (g ∙ at-width) ∙ z in
-            h ∙ ap₂ (λ x y. partAfter x y part) (at-width ∙ j)
-            (ap₂ (λ x y. bytesOf (e .kind) (e .p) (e .q) (e .r) x page (length part) (scalarIn it) y) mask-is text-is
-            ∙ ap (λ w. bytesOf (e .kind) (e .p) (e .q) (e .r) (maskOf masks e) page w (scalarIn it) (textOf text it)) l
-            ∙ same-bytes (e .p) (e .q) (e .r) (e .s) (maskOf masks e) page (e .width) (it .tag) (scalarIn it) (textOf text it) (e .kind))
-            ∙ sym (whole (bytesIn masks page text e it) part (bytes-long masks page text e it j ∙ sym l))
+module _ (masks text : List ℕ) (e : Entry) (it : Item) (x y : List ℕ) (u : x ≡ maskFor masks e) (v : y ≡ textOf text it) (w : ℕ) (l : w ≡ putWidth e) where
+  at-width : judgedOf (e .kind) (e .p) (e .q) (e .r) (e .s) x w (it .tag) (scalarIn it) y ≡ judged masks text e it
+  at-width =
+      ap₂ (λ i k. judgedOf (e .kind) (e .p) (e .q) (e .r) (e .s) i w (it .tag) (scalarIn it) k) u v
+      ∙ ap (λ i. judgedOf (e .kind) (e .p) (e .q) (e .r) (e .s) (maskFor masks e) i (it .tag) (scalarIn it) (textOf text it)) l
+      ∙ same-judged (e .p) (e .q) (e .r) (e .s) (maskOf masks e) 0 (e .width) (it .tag) (scalarIn it) (textOf text it) (e .kind)
+
+  pub judge-is : (r : ℕ) → r ≡ judgedOf (e .kind) (e .p) (e .q) (e .r) (e .s) x w (it .tag) (scalarIn it) y → r ≡ judged masks text e it
+  judge-is r h = h ∙ at-width
+
+  pub put-is : (page : ℕ) (part last : List ℕ) → w ≡ length part → (r : ℕ)
+      → r ≡ judgedOf (e .kind) (e .p) (e .q) (e .r) (e .s) x w (it .tag) (scalarIn it) y
+      → last ≡ partAfter (judgedOf (e .kind) (e .p) (e .q) (e .r) (e .s) x w (it .tag) (scalarIn it) y) (bytesOf (e .kind) (e .p) (e .q) (e .r) x page w (scalarIn it) y) part
+      → (r ≡ judged masks text e it) × (r ≡ 0 → last ≡ bytesIn masks page text e it)
+  put-is page part last k r g h = (judge-is r g, put)
+    where
+      put : r ≡ 0 → last ≡ bytesIn masks page text e it
+      put z =
+          let j : judged masks text e it ≡ 0 = sym (judge-is r g) ∙ z in
+          h ∙ ap₂ (λ n bs. partAfter n bs part) (at-width ∙ j)
+          (ap₂ (λ i o. bytesOf (e .kind) (e .p) (e .q) (e .r) i page w (scalarIn it) o) u v
+          ∙ ap (λ i. bytesOf (e .kind) (e .p) (e .q) (e .r) (maskFor masks e) page i (scalarIn it) (textOf text it)) l
+          ∙ same-bytes (e .p) (e .q) (e .r) (e .s) (maskOf masks e) page (e .width) (it .tag) (scalarIn it) (textOf text it) (e .kind))
+          ∙ sym (whole (bytesIn masks page text e it) part (bytes-long masks page text e it j ∙ sym l ∙ k))
 
 -- ---- the whole leaf
 

@@ -3,3 +3,4 @@ pub mod Meets
 pub mod Leaves
 pub mod Zeros
 pub mod Inside
+pub mod Elements

@@ -41,8 +41,15 @@ leaf k room e it at b = coded room (e .width) at b (k .enc e it)
 unfoldable pub inside : ℕ → (Values → Laid) → Values → Laid
 inside tag f vs = cond (eqb (headOf vs .tag) tag) (f (membersOf vs)) (cond (eqb (headOf vs .tag) 0) (f none) (refused 13))
 
+-- an element: of a group, and of any other entry
+abbrev pub group : Layer → Layer
+group inner vs at b = inside 7 (λ ms. inner ms at b) vs
+
+abbrev pub leaves : {S : Type 0} → Codec S → ℕ → Entry → Layer
+leaves k room e vs at b = leaf k room e (headOf vs) at b
+
 unfoldable pub one : {S : Type 0} → Codec S → ℕ → Entry → Layer → Layer
-one k room e inner vs at b = cond (isGroup e) (inside 7 (λ ms. inner ms at b) vs) (leaf k room e (headOf vs) at b)
+one k room e inner vs at b = cond (isGroup e) (group inner vs at b) (leaves k room e vs at b)
 
 abbrev pub missing : Values → Bool
 missing none = true

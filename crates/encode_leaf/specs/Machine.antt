@@ -1,7 +1,7 @@
 -- What the writer's inner functions promise, by their own answer: nothing of the buffer after a refusal.
 use mathlib.Core.Path.{_≡_}
 use mathlib.Core.Bool.{Bool, true, false, _||_, cond}
-use mathlib.Core.List.{List}
+use mathlib.Core.List.{List, []}
 use Prim.Native.Nat.{ℕ, min}
 use lib.Dec.{eqb, leb}
 use lib.ListN.{length}
@@ -42,6 +42,13 @@ putting kind width = cond (eqb kind 5) 1 (cond (leb kind 8) width 0)
 
 abbrev pub putWidth : Entry → ℕ
 putWidth e = putting (e .kind) (e .width)
+
+-- only an Edited, kind 8, has a mask
+abbrev pub masking : ℕ → List ℕ → List ℕ
+masking kind mask = cond (eqb kind 8) mask []
+
+abbrev pub maskFor : List ℕ → Entry → List ℕ
+maskFor masks e = masking (e .kind) (maskOf masks e)
 
 -- the number that refuses an item for an entry, and its bytes there
 abbrev pub judged : List ℕ → List ℕ → Entry → Item → ℕ

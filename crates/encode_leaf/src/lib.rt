@@ -13,12 +13,12 @@ ghost use Prim.Native.Nat.{ℕ, _+_, _-_, _*_, _≤_, min, max};
 ghost use lib.IntN.{pos};
 ghost use lib.Dec.{eqb, leb};
 ghost use lib.ListN.{length, replicate};
-ghost use Rattle.spans.specs.Tree.{none};
-ghost use Rattle.items.specs.Items.{values, headOf};
+ghost use Rattle.items.specs.Items.{values};
 ghost use Rattle.walks.specs.Walk.{single};
 ghost use Rattle.walks.specs.Writing.{lay, tableLength};
-ghost use Rattle.encode_leaf.specs.Laying.{sat, leaf};
-ghost use Rattle.encode_leaf.specs.Machine.{Met, Spreads, codec, roomIn, putWidth, judged, outside, bytesIn, taking};
+ghost use Rattle.walks.specs.Kinds.{textOf};
+ghost use Rattle.encode_leaf.specs.Laying.{sat, leaf, leaves, elements};
+ghost use Rattle.encode_leaf.specs.Machine.{Met, Spreads, codec, roomIn, putWidth, maskFor, judged, outside, bytesIn, taking};
 
 // What a part of the walk came to: the number that refuses it, or 0 with one more than the furthest end of what was put, 0 where
 // nothing was, and the bytes taken.
@@ -166,18 +166,6 @@ pub fn settles(j: usize, end: usize, past: u64, taken: u64) -> bool
 
 // ---- one scalar or Pad
 
-// The item of a missing value, a Null.
-pub fn no_item() -> Item
-    ensures { λ r. ⌜ r ≡ headOf none ⌝ }
-{
-    Item {
-        name: 0,
-        tag: 0,
-        a: 0,
-        b: 0,
-    }
-}
-
 // The bytes that a record may have in a buffer.
 pub fn room_of(bytes: usize) -> u64
     ensures { λ r. ⌜ r ≡ min bytes 65536 ⌝ }
@@ -223,26 +211,47 @@ fn inside_room(room: u64, at: u64, width: u64) -> bool
     width <= room - at
 }
 
-// The number of the question that refuses an item for an entry, 0 for none.
-fn judge_leaf(masks: &[u8], text: &[u8], e: Entry, it: Item) -> u32
-    ensures { λ r. ⌜ r ≡ judged (now (masks .entry)) (now (text .entry)) e it ⌝ }
+// The mask of an Edited, no bytes for any other entry.
+fn mask_of(masks: &[u8], e: Entry) -> &[u8]
+    ensures { λ r. ⌜ now r ≡ maskFor (now (masks .entry)) e ⌝ }
 {
+    if e.kind != 8 {
+        return &masks[0..0];
+    }
     let m = clip(e.mask as u64, masks.len());
     let n = clip(e.width as u64, masks.len() - m);
+    &masks[m..m + n]
+}
+
+// The bytes of a Text, none for any other item.
+fn text_of(text: &[u8], it: Item) -> &[u8]
+    ensures { λ r. ⌜ now r ≡ textOf (now (text .entry)) it ⌝ }
+{
+    if it.tag != 1 {
+        return &text[0..0];
+    }
     let a = clip(it.a, text.len());
-    let b = clip(text_size(it), text.len() - a);
+    let b = clip(it.b, text.len() - a);
+    &text[a..a + b]
+}
+
+// The number of the question that refuses an item for an entry of this width, 0 for none.
+fn judge_leaf(masks: &[u8], text: &[u8], e: Entry, width: u64, it: Item) -> u32
+    requires { ⌜ width ≡ putWidth e ⌝ }
+    ensures { λ r. ⌜ r ≡ judged (now (masks .entry)) (now (text .entry)) e it ⌝ }
+{
     encode_scalar::judge_scalar(
         e.kind,
         e.p,
         e.q,
         e.r,
         e.s,
-        &masks[m..m + n],
-        e.width as usize,
+        mask_of(masks, e),
+        width as usize,
         it.tag,
         it.a,
         it.b,
-        &text[a..a + b],
+        text_of(text, it),
     )
 }
 
@@ -252,10 +261,6 @@ fn put_leaf(masks: &[u8], page: u32, text: &[u8], part: &mut [u8], e: Entry, it:
     ensures { λ r. ⌜ r ≡ judged (now (masks .entry)) (now (text .entry)) e it ⌝ }
     ensures { λ r. ⌜ (r ≡ 0 → now (part .exit) ≡ bytesIn (now (masks .entry)) page (now (text .entry)) e it) ⌝ }
 {
-    let m = clip(e.mask as u64, masks.len());
-    let n = clip(e.width as u64, masks.len() - m);
-    let a = clip(it.a, text.len());
-    let b = clip(text_size(it), text.len() - a);
     encode_scalar::encode_scalar(
         part,
         e.kind,
@@ -263,20 +268,21 @@ fn put_leaf(masks: &[u8], page: u32, text: &[u8], part: &mut [u8], e: Entry, it:
         e.q,
         e.r,
         e.s,
-        &masks[m..m + n],
+        mask_of(masks, e),
         page,
         it.tag,
         it.a,
         it.b,
-        &text[a..a + b],
+        text_of(text, it),
     )
 }
 
 // The number that refuses an item for an entry that is not inside the room.
-fn no_room(masks: &[u8], text: &[u8], e: Entry, it: Item) -> u32
+fn no_room(masks: &[u8], text: &[u8], e: Entry, width: u64, it: Item) -> u32
+    requires { ⌜ width ≡ putWidth e ⌝ }
     ensures { λ r. ⌜ r ≡ outside (judged (now (masks .entry)) (now (text .entry)) e it) ⌝ }
 {
-    let n = judge_leaf(masks, text, e, it);
+    let n = judge_leaf(masks, text, e, width, it);
     if n == 0 {
         return 16;
     }
@@ -297,7 +303,7 @@ pub fn encode_leaf(
 {
     let width = put_width(e);
     if !inside_room(room_of(record.len()), at, width) {
-        return refusal(no_room(masks, text, e, it));
+        return refusal(no_room(masks, text, e, width, it));
     }
     let from = at as usize;
     let end = from + width as usize;
@@ -309,6 +315,51 @@ pub fn encode_leaf(
         refused: 0,
         past: at + width + 1,
         taken: e.width as u64,
+    }
+}
+
+// The elements of an entry that is no group, n of them, by the items from..end.
+pub fn encode_table(
+    masks: &[u8],
+    text: &[u8],
+    items: &[u64],
+    record: &mut [u8],
+    page: u32,
+    e: Entry,
+    n: u64,
+    from: usize,
+    end: usize,
+    at: u64,
+) -> Out
+    ensures { λ r. ⌜ Met (elements (leaves (codec (now (masks .entry)) page (now (text .entry))) (roomIn (now («record» .entry))) e) n (values (now (items .entry)) from end) at 0 0 (now («record» .entry))) r (now («record» .exit)) ⌝ }
+{
+    let mut j = from;
+    let mut left = n;
+    let mut place = at;
+    let mut taken: u64 = 0;
+    let mut past: u64 = 0;
+    while left > 0 {
+        let o = encode_leaf(masks, text, record, page, e, fetch(items, j, end), place);
+        if o.refused != 0 {
+            return refusal(o.refused);
+        }
+        past = larger(past, o.past);
+        if settles(j, end, o.past, o.taken) {
+            return Out {
+                refused: 0,
+                past,
+                taken: sat_add(taken, sat_mul(left, o.taken)),
+            };
+        }
+        place = sat_add(place, o.taken);
+        taken = sat_add(taken, o.taken);
+        j = item_end(items, j, end);
+        left = left - 1;
+    }
+    Out {
+        refused: 0,
+        past,
+        taken,
     }
 }
 

@@ -19,6 +19,9 @@ returns c = search needs
 item-end-requires : tie.Need-item-end-requires
 item-end-requires c κs = search needs
 
+cast-larger : tie.Need-cast-larger
+cast-larger c = search needs
+
 add-larger : tie.Need-add-larger
 add-larger c = search needs
 
@@ -26,7 +29,8 @@ larger-requires : tie.Need-larger-requires
 larger-requires c κs = search needs
 
 returns-2 : tie.Need-returns-2
-returns-2 c = goes-behind _ _ _ _ _ _ _ _ (c .before .before .if1 .left) (c .before .item-end .ensures) (c .larger .ensures)
+returns-2 c = goes-behind _ _ _ _ _ _ _ _ (c .before .before .before .if1 .left) (c .before .before .item-end .ensures) (c .larger .ensures)
 
 pub advance-spec : {M : Type 1} → statement M
-advance-spec = tie.close (tie.spec returns item-end-requires add-larger larger-requires returns-2)
+advance-spec =
+    tie.close (tie.spec returns item-end-requires cast-larger add-larger larger-requires returns-2)

@@ -1,19 +1,30 @@
 use mathlib.Core.Path.{_≡_, refl, sym, ap, _∙_, subst}
-use mathlib.Core.Bool.{Bool, true, false, not, _&&_}
-use borrow.Author.Tests.{eq-eqb, ne-eqb}
+use mathlib.Core.Bool.{Bool, true, false}
+use mathlib.Core.Logic.{⊎-elim}
+use mathlib.Core.List.{List, [], _∷_, _++_, map, append-nil, append-assoc}
+use Prim.Native.Nat.{ℕ, zero, suc, _+_, _-_, _*_, _≤_, _<_}
+use native.Mathlib.Omega.{arith}
+use native.Mathlib.Numerals.{add-one}
+use borrow.Author.Tests.{lt-ltb, le-ltb, le-leb, lt-leb, eq-eqb, ne-eqb, eqb-true, eqb-false, ltb-true, ltb-false, leb-true, leb-false}
+use lib.Dec.{eqb, leb, ltb}
+use lib.ListN.{length, take, drop, getD, set, replicate, length-set, length-append, length-take, length-drop, length-replicate, length-map}
+use borrow.Author.Tests.{not-true, not-false}
+use Rattle.encode.proofs.Steps.{lone-group, lone-table, lone-span}
 use borrow.Author.Needs.{needs}
-use Rattle.walks.specs.Walk.{single}
 use Rattle.encode.proofs.is_lone_leaf.Statement.{statement}
 use Rattle.encode.proofs.is_lone_leaf.Tie as tie
 
 returns : tie.Need-returns
-returns c = simp (eq-eqb _ _ (c .if1 .taken))
+returns c = lone-group _ (c .if1 .taken)
 
 is-single-requires : tie.Need-is-single-requires
 is-single-requires c κs = search needs
 
 returns-2 : tie.Need-returns-2
-returns-2 c = c .is-single .ensures ∙ ap (λ x. not x && single (c .before .before .before .args .e)) (sym (ne-eqb _ _ (c .before .if1 .left)))
+returns-2 c = lone-table _ _ (c .before .is-single .ensures) (not-true _ (c .if2 .taken))
+
+returns-3 : tie.Need-returns-3
+returns-3 c = lone-span _ (c .before .before .before .if1 .left) _ (c .before .before .is-single .ensures) (not-false _ (c .before .if2 .left))
 
 pub is-lone-leaf-spec : {M : Type 1} → statement M
-is-lone-leaf-spec = tie.close (tie.spec returns is-single-requires returns-2)
+is-lone-leaf-spec = tie.close (tie.spec returns is-single-requires returns-2 returns-3)

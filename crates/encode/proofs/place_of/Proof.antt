@@ -8,22 +8,48 @@ use native.Mathlib.Numerals.{add-one}
 use borrow.Author.Tests.{lt-ltb, le-ltb, le-leb, lt-leb, eq-eqb, ne-eqb, eqb-true, eqb-false, ltb-true, ltb-false, leb-true, leb-false}
 use lib.Dec.{eqb, leb, ltb}
 use lib.ListN.{length, take, drop, getD, set, replicate, length-set, length-append, length-take, length-drop, length-replicate, length-map}
-use Rattle.encode.proofs.Order.{place-here}
+use Rattle.encode.proofs.Order.{place-pad, place-here, place-there}
 use borrow.Author.Needs.{needs}
 use Rattle.encode.proofs.place_of.Statement.{statement}
 use Rattle.encode.proofs.place_of.Tie as tie
 
+is-lone-pad-requires : tie.Need-is-lone-pad-requires
+is-lone-pad-requires c κs = search needs
+
+returns : tie.Need-returns
+returns c = place-pad _ _ _ _ _ (c .before .is-lone-pad .ensures) (c .if1 .taken)
+
+cast-if2 : tie.Need-cast-if2
+cast-if2 c = search needs
+
+cast-has-name : tie.Need-cast-has-name
+cast-has-name c = search needs
+
 has-name-requires : tie.Need-has-name-requires
 has-name-requires c κs = search needs
 
-returns : tie.Need-returns
-returns c = place-here _ _ _ _ _ _ (c .before .before .before .before .before .pre) (c .before .before .if1 .taken) _ (c .before .has-name .ensures) (c .if2 .taken)
+returns-2 : tie.Need-returns-2
+returns-2 c = place-here _ _ _ _ _ (c .before .before .before .before .before .before .before .is-lone-pad .ensures) (c .before .before .before .before .before .before .if1 .left) _ _ (c .before .before .before .before .before .before .before .before .before .pre) (c .before .before .before .if2 .taken) _ (c .before .has-name .ensures) (c .if3 .taken)
+
+cast-find : tie.Need-cast-find
+cast-find c = search needs
 
 find-requires : tie.Need-find-requires
 find-requires c κs = search needs
 
-returns-2 : tie.Need-returns-2
-returns-2 c = c .find .ensures .1
+returns-3 : tie.Need-returns-3
+returns-3 c = place-there _ _ _ _ _ (c .before .before .before .before .before .before .is-lone-pad .ensures) (c .before .before .before .before .before .if1 .left) _ (c .find .ensures .1)
 
 pub place-of-spec : {M : Type 1} → statement M
-place-of-spec = tie.close (tie.spec has-name-requires returns find-requires returns-2)
+place-of-spec =
+    tie.close
+    (tie.spec
+    is-lone-pad-requires
+    returns
+    cast-if2
+    cast-has-name
+    has-name-requires
+    returns-2
+    cast-find
+    find-requires
+    returns-3)

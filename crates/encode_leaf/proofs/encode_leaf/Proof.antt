@@ -26,7 +26,7 @@ inside-room-requires : tie.Need-inside-room-requires
 inside-room-requires c κs = search needs
 
 no-room-requires : tie.Need-no-room-requires
-no-room-requires c κs = search needs
+no-room-requires c κs = c .before .before .before .put-width .ensures
 
 refusal-requires : tie.Need-refusal-requires
 refusal-requires c κs = search needs

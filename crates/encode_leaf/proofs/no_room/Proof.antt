@@ -14,7 +14,7 @@ use Rattle.encode_leaf.proofs.no_room.Statement.{statement}
 use Rattle.encode_leaf.proofs.no_room.Tie as tie
 
 judge-leaf-requires : tie.Need-judge-leaf-requires
-judge-leaf-requires c κs = search needs
+judge-leaf-requires c κs = c .before .before .pre
 
 returns : tie.Need-returns
 returns c = outside-fit _ _ (c .before .judge-leaf .ensures) (c .if1 .taken)

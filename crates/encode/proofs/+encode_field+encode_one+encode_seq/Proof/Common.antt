@@ -14,7 +14,7 @@ abbrev pub μ-encode-field : Measures 5 encode-field-kinds.ps ℕ
 μ-encode-field κs a = 3 * (a .1 .1 .1 .1 .1 .1 .1 .1 .0 - a .1 .1 .1 .1 .1 .1 .1 .0) + 2
 
 abbrev pub μ-encode-one : Measures 5 encode-one-kinds.ps ℕ
-μ-encode-one κs a = 3 * (a .1 .1 .1 .1 .1 .1 .1 .1 .0 - a .1 .1 .1 .1 .1 .1 .1 .0) + 1
+μ-encode-one κs a = 3 * (a .1 .1 .1 .1 .1 .1 .1 .0 - a .1 .1 .1 .1 .1 .1 .0) + 1
 
 abbrev pub μ-encode-seq : Measures 5 encode-seq-kinds.ps ℕ
 μ-encode-seq κs a = 3 * (a .1 .1 .1 .1 .1 .1 .1 .0 - a .1 .1 .1 .1 .1 .1 .0)

@@ -2,15 +2,13 @@ use Prim.Native.Nat.{ℕ}
 use Rattle.encode.proofs.encode_field.Reads as encode-field
 use Rattle.encode.proofs.+encode_field+encode_one+encode_seq.Lts-encode_field as encode-field-lts
 use Rattle.encode.proofs.encode_one.Reads as encode-one
-use Rattle.encode.proofs.is_lone_leaf.Reads as is-lone-leaf-reads
 use Rattle.encode_leaf.proofs.elements_of.Reads as elements-of-reads
-use Rattle.encode_leaf.proofs.encode_leaf.Reads as encode-leaf-reads
+use Rattle.encode_leaf.proofs.encode_table.Reads as encode-table-reads
 use Rattle.encode_leaf.proofs.larger.Reads as larger-reads
 use Rattle.encode_leaf.proofs.refusal.Reads as refusal-reads
 use Rattle.encode_leaf.proofs.sat_add.Reads as sat-add-reads
 use Rattle.encode_leaf.proofs.sat_mul.Reads as sat-mul-reads
 use Rattle.encode_leaf.proofs.settles.Reads as settles-reads
-use Rattle.items.proofs.fetch.Reads as fetch-reads
 use Rattle.items.proofs.item_end.Reads as item-end-reads
 use Rattle.encode.proofs.+encode_field+encode_one+encode_seq.Proof.Common.{encode-field-at, encode-one-below}
 use mathlib.Core.Path.{_≡_, refl, sym, ap, _∙_}
@@ -20,33 +18,19 @@ use native.Mathlib.Omega.{arith}
 use borrow.Author.Needs.{needs}
 use lib.ListN.{length}
 use Rattle.encode_leaf.proofs.Meets.{refuse, fine, same-as}
-use Rattle.encode.proofs.Steps.{field-leaf}
 use Rattle.items.specs.Items.{values}
-use Rattle.encode.proofs.Turns.{fieldIn, FieldInv, field-not, field-starts, field-stops, field-settles, field-goes, field-done}
+use Rattle.encode_leaf.specs.Laying.{elements}
+use Rattle.encode_leaf.proofs.Elements.{ElementsInv, elements-starts, elements-stops, elements-settles, elements-goes, elements-done}
+use Rattle.encode.proofs.Turns.{groupIn, group-here, field-not, field-group, field-leaves, field-empty}
 
 abbrev pub encode-field-claims : ℕ → encode-field-lts.Claims
-encode-field-claims t = (is-lone-leaf-reads.Asked, is-lone-leaf-reads.Learnt, fetch-reads.Asked, fetch-reads.Learnt, encode-leaf-reads.Asked, encode-leaf-reads.Learnt, elements-of-reads.Asked, elements-of-reads.Learnt, refusal-reads.Asked, refusal-reads.Learnt, encode-one-below t, encode-one.Post, larger-reads.Asked, larger-reads.Learnt, settles-reads.Asked, settles-reads.Learnt, sat-mul-reads.Asked, sat-mul-reads.Learnt, sat-add-reads.Asked, sat-add-reads.Learnt, item-end-reads.Asked, item-end-reads.Learnt)
+encode-field-claims t = (elements-of-reads.Asked, elements-of-reads.Learnt, refusal-reads.Asked, refusal-reads.Learnt, encode-table-reads.Asked, encode-table-reads.Learnt, encode-one-below t, encode-one.Post, larger-reads.Asked, larger-reads.Learnt, settles-reads.Asked, settles-reads.Learnt, sat-mul-reads.Asked, sat-mul-reads.Learnt, sat-add-reads.Asked, sat-add-reads.Learnt, item-end-reads.Asked, item-end-reads.Learnt)
 
 abbrev pub encode-field-Inv-loop : encode-field-lts.InvT-loop
-encode-field-Inv-loop layout masks items text rec₀ page e lo hi i to at end j₀ left₀ place₀ taken₀ past₀ rec j left place taken past = FieldInv (fieldIn masks text page layout rec₀ e lo hi (values items i to) at rec₀) masks text page layout items rec₀ e lo hi end rec j left place taken past
+encode-field-Inv-loop layout masks items text rec₀ page lo hi i to at end j₀ left₀ place₀ taken₀ past₀ rec j left place taken past = ElementsInv (elements (groupIn masks text page layout rec₀ lo hi) left₀ (values items j₀ end) place₀ taken₀ past₀ rec₀) (groupIn masks text page layout rec₀ lo hi) items rec₀ end rec j left place taken past
 
 abbrev pub encode-field-μ-loop : encode-field-lts.MeasureT-loop
-encode-field-μ-loop layout masks items text rec₀ page e lo hi i to at end j₀ left₀ place₀ taken₀ past₀ rec j left place taken past = left
-
-pub encode-field-is-lone-leaf-requires : (t : ℕ) → encode-field-lts.Need-is-lone-leaf-requires (encode-field-claims t) (encode-field-at t) encode-field.Post encode-field-Inv-loop encode-field-μ-loop
-encode-field-is-lone-leaf-requires t c κs = search needs
-
-pub encode-field-fetch-requires : (t : ℕ) → encode-field-lts.Need-fetch-requires (encode-field-claims t) (encode-field-at t) encode-field.Post encode-field-Inv-loop encode-field-μ-loop
-encode-field-fetch-requires t c κs = search needs
-
-pub encode-field-encode-leaf-requires : (t : ℕ) → encode-field-lts.Need-encode-leaf-requires (encode-field-claims t) (encode-field-at t) encode-field.Post encode-field-Inv-loop encode-field-μ-loop
-encode-field-encode-leaf-requires t c κs = search needs
-
-pub encode-field-same-length : (t : ℕ) → encode-field-lts.Need-same-length (encode-field-claims t) (encode-field-at t) encode-field.Post encode-field-Inv-loop encode-field-μ-loop
-encode-field-same-length t c = c .before .before .encode-leaf .kept .1 .1 .0
-
-pub encode-field-returns : (t : ℕ) → encode-field-lts.Need-returns (encode-field-claims t) (encode-field-at t) encode-field.Post encode-field-Inv-loop encode-field-μ-loop
-encode-field-returns t c = same-as (field-leaf _ _ _ _ _ _ _ _ _ _ (c .before .before .before .fetch .ensures) _ (c .before .before .before .before .before .before .is-lone-leaf .ensures) (c .before .before .before .before .before .if1 .taken)) (c .before .before .encode-leaf .ensures)
+encode-field-μ-loop layout masks items text rec₀ page lo hi i to at end j₀ left₀ place₀ taken₀ past₀ rec j left place taken past = left
 
 pub encode-field-elements-of-requires : (t : ℕ) → encode-field-lts.Need-elements-of-requires (encode-field-claims t) (encode-field-at t) encode-field.Post encode-field-Inv-loop encode-field-μ-loop
 encode-field-elements-of-requires t c κs = search needs
@@ -54,11 +38,29 @@ encode-field-elements-of-requires t c κs = search needs
 pub encode-field-refusal-requires : (t : ℕ) → encode-field-lts.Need-refusal-requires (encode-field-claims t) (encode-field-at t) encode-field.Post encode-field-Inv-loop encode-field-μ-loop
 encode-field-refusal-requires t c κs = search needs
 
+pub encode-field-returns : (t : ℕ) → encode-field-lts.Need-returns (encode-field-claims t) (encode-field-at t) encode-field.Post encode-field-Inv-loop encode-field-μ-loop
+encode-field-returns t c = refuse (c .before .before .before .elements-of .result .refused) (c .refusal .ensures) (c .before .if1 .taken) (field-not (c .before .before .before .before .before .before .before .before .before .args .masks .now) (c .before .before .before .before .before .before .before .before .before .args .text .now) (c .before .before .before .before .before .before .before .before .before .args .page) (c .before .before .before .before .before .before .before .before .before .args .layout .now) (c .before .before .before .before .before .before .before .before .before .args .items .now) (c .before .before .before .before .before .before .before .before .before .args .rec .now) (c .before .before .before .before .before .before .before .before .before .args .e) (c .before .before .before .before .before .before .before .before .before .args .lo) (c .before .before .before .before .before .before .before .before .before .args .hi) (c .before .before .before .before .before .before .before .before .before .args .i) (c .before .before .before .before .before .before .before .before .before .args .to) (c .before .before .before .before .before .before .before .before .before .args .at) (omega (arith, c .before .before .before .before .before .before .before .before .before .good .1 .1 .1 .1 .1 .1 .0)) _ (c .before .before .before .elements-of .ensures) (c .before .if1 .taken))
+
+pub encode-field-encode-table-requires : (t : ℕ) → encode-field-lts.Need-encode-table-requires (encode-field-claims t) (encode-field-at t) encode-field.Post encode-field-Inv-loop encode-field-μ-loop
+encode-field-encode-table-requires t c κs = search needs
+
+pub encode-field-same-length : (t : ℕ) → encode-field-lts.Need-same-length (encode-field-claims t) (encode-field-at t) encode-field.Post encode-field-Inv-loop encode-field-μ-loop
+encode-field-same-length t c = c .before .before .encode-table .kept .1 .1 .1 .0
+
 pub encode-field-returns-2 : (t : ℕ) → encode-field-lts.Need-returns-2 (encode-field-claims t) (encode-field-at t) encode-field.Post encode-field-Inv-loop encode-field-μ-loop
-encode-field-returns-2 t c = refuse (c .before .before .before .elements-of .result .refused) (c .refusal .ensures) (c .before .if2 .taken) (field-not (c .before .before .before .before .before .before .before .before .before .before .before .args .masks .now) (c .before .before .before .before .before .before .before .before .before .before .before .args .text .now) (c .before .before .before .before .before .before .before .before .before .before .before .args .page) (c .before .before .before .before .before .before .before .before .before .before .before .args .layout .now) (c .before .before .before .before .before .before .before .before .before .before .before .args .items .now) (c .before .before .before .before .before .before .before .before .before .before .before .args .rec .now) (c .before .before .before .before .before .before .before .before .before .before .before .args .e) (c .before .before .before .before .before .before .before .before .before .before .before .args .lo) (c .before .before .before .before .before .before .before .before .before .before .before .args .hi) (c .before .before .before .before .before .before .before .before .before .before .before .args .i) (c .before .before .before .before .before .before .before .before .before .before .before .args .to) (c .before .before .before .before .before .before .before .before .before .before .before .args .at) (omega (arith, c .before .before .before .before .before .before .before .before .before .before .before .good .1 .1 .1 .1 .1 .1 .0)) _ (c .before .before .before .elements-of .ensures) (c .before .if2 .taken))
+encode-field-returns-2 t c = same-as (field-leaves (c .before .before .before .before .before .before .before .before .before .before .before .before .before .before .before .before .args .masks .now) (c .before .before .before .before .before .before .before .before .before .before .before .before .before .before .before .before .args .text .now) (c .before .before .before .before .before .before .before .before .before .before .before .before .before .before .before .before .args .page) (c .before .before .before .before .before .before .before .before .before .before .before .before .before .before .before .before .args .layout .now) (c .before .before .before .before .before .before .before .before .before .before .before .before .before .before .before .before .args .items .now) (c .before .before .before .before .before .before .before .before .before .before .before .before .before .before .before .before .args .rec .now) (c .before .before .before .before .before .before .before .before .before .before .before .before .before .before .before .before .args .e) (c .before .before .before .before .before .before .before .before .before .before .before .before .before .before .before .before .args .lo) (c .before .before .before .before .before .before .before .before .before .before .before .before .before .before .before .before .args .hi) (c .before .before .before .before .before .before .before .before .before .before .before .before .before .before .before .before .args .i) (c .before .before .before .before .before .before .before .before .before .before .before .before .before .before .before .before .args .to) (c .before .before .before .before .before .before .before .before .before .before .before .before .before .before .before .before .args .at) (omega (arith, c .before .before .before .before .before .before .before .before .before .before .before .before .before .before .before .before .good .1 .1 .1 .1 .1 .1 .0)) _ (c .before .before .before .before .before .before .before .before .before .before .elements-of .ensures) (c .before .before .before .before .before .before .before .before .if1 .left) (c .before .before .before .before .before .before .if2 .taken)) (c .before .before .encode-table .ensures)
+
+pub encode-field-encode-table-requires-2 : (t : ℕ) → encode-field-lts.Need-encode-table-requires-2 (encode-field-claims t) (encode-field-at t) encode-field.Post encode-field-Inv-loop encode-field-μ-loop
+encode-field-encode-table-requires-2 t c κs = search needs
+
+pub encode-field-same-length-2 : (t : ℕ) → encode-field-lts.Need-same-length-2 (encode-field-claims t) (encode-field-at t) encode-field.Post encode-field-Inv-loop encode-field-μ-loop
+encode-field-same-length-2 t c = c .before .before .encode-table2 .kept .1 .1 .1 .0
+
+pub encode-field-returns-3 : (t : ℕ) → encode-field-lts.Need-returns-3 (encode-field-claims t) (encode-field-at t) encode-field.Post encode-field-Inv-loop encode-field-μ-loop
+encode-field-returns-3 t c = same-as (field-empty (c .before .before .before .before .before .before .before .before .before .before .before .before .before .before .before .before .args .masks .now) (c .before .before .before .before .before .before .before .before .before .before .before .before .before .before .before .before .args .text .now) (c .before .before .before .before .before .before .before .before .before .before .before .before .before .before .before .before .args .page) (c .before .before .before .before .before .before .before .before .before .before .before .before .before .before .before .before .args .layout .now) (c .before .before .before .before .before .before .before .before .before .before .before .before .before .before .before .before .args .items .now) (c .before .before .before .before .before .before .before .before .before .before .before .before .before .before .before .before .args .rec .now) (c .before .before .before .before .before .before .before .before .before .before .before .before .before .before .before .before .args .e) (c .before .before .before .before .before .before .before .before .before .before .before .before .before .before .before .before .args .lo) (c .before .before .before .before .before .before .before .before .before .before .before .before .before .before .before .before .args .hi) (c .before .before .before .before .before .before .before .before .before .before .before .before .before .before .before .before .args .i) (c .before .before .before .before .before .before .before .before .before .before .before .before .before .before .before .before .args .to) (c .before .before .before .before .before .before .before .before .before .before .before .before .before .before .before .before .args .at) (omega (arith, c .before .before .before .before .before .before .before .before .before .before .before .before .before .before .before .before .good .1 .1 .1 .1 .1 .1 .0)) _ (c .before .before .before .before .before .before .before .before .before .before .elements-of .ensures) (c .before .before .before .before .before .before .before .before .if1 .left) (c .before .before .before .before .before .before .if2 .taken) (c .before .before .before .before .if3 .left)) (c .before .before .encode-table2 .ensures)
 
 pub encode-field-loop-holds : (t : ℕ) → encode-field-lts.Need-loop-holds (encode-field-claims t) (encode-field-at t) encode-field.Post encode-field-Inv-loop encode-field-μ-loop
-encode-field-loop-holds t c = field-starts _ _ _ _ _ _ _ _ _ _ _ _ (omega (arith, c .before .before .before .before .before .before .before .before .before .before .good .1 .1 .1 .1 .1 .1 .0)) _ (c .before .before .elements-of .ensures) (c .if2 .left)
+encode-field-loop-holds t c = elements-starts _ _ _ _ _ _ _ _ _
 
 pub encode-field-encode-one-requires : (t : ℕ) → encode-field-lts.Need-encode-one-requires (encode-field-claims t) (encode-field-at t) encode-field.Post encode-field-Inv-loop encode-field-μ-loop
 encode-field-encode-one-requires t c κs = omega (arith, c .before .before .before .before .before .before .before .before .before .before .before .before .before .pre)
@@ -66,11 +68,11 @@ encode-field-encode-one-requires t c κs = omega (arith, c .before .before .befo
 pub encode-field-refusal-requires-2 : (t : ℕ) → encode-field-lts.Need-refusal-requires-2 (encode-field-claims t) (encode-field-at t) encode-field.Post encode-field-Inv-loop encode-field-μ-loop
 encode-field-refusal-requires-2 t c κs = search needs
 
-pub encode-field-same-length-2 : (t : ℕ) → encode-field-lts.Need-same-length-2 (encode-field-claims t) (encode-field-at t) encode-field.Post encode-field-Inv-loop encode-field-μ-loop
-encode-field-same-length-2 t c = c .before .before .before .before .before .encode-one .kept .1 .1 .1 .1 .0 ∙ c .before .before .before .before .before .before .before .before .loop .inv .same
+pub encode-field-same-length-3 : (t : ℕ) → encode-field-lts.Need-same-length-3 (encode-field-claims t) (encode-field-at t) encode-field.Post encode-field-Inv-loop encode-field-μ-loop
+encode-field-same-length-3 t c = c .before .before .before .before .before .encode-one .kept .1 .1 .1 .1 .0 ∙ c .before .before .before .before .before .before .before .before .loop .inv .same
 
-pub encode-field-returns-3 : (t : ℕ) → encode-field-lts.Need-returns-3 (encode-field-claims t) (encode-field-at t) encode-field.Post encode-field-Inv-loop encode-field-μ-loop
-encode-field-returns-3 t c = refuse (c .before .before .before .before .before .encode-one .result .refused) (c .refusal2 .ensures) (c .before .if3 .taken) (field-stops (c .before .before .before .before .before .before .before .before .loop .inv) (c .before .before .before .before .before .before .before .loop-test .taken) _ (c .before .before .before .before .before .encode-one .ensures .refuses (c .before .if3 .taken)))
+pub encode-field-returns-4 : (t : ℕ) → encode-field-lts.Need-returns-4 (encode-field-claims t) (encode-field-at t) encode-field.Post encode-field-Inv-loop encode-field-μ-loop
+encode-field-returns-4 t c = refuse (c .before .before .before .before .before .encode-one .result .refused) (c .refusal2 .ensures) (c .before .if4 .taken) (field-group (c .before .before .before .before .before .before .before .before .before .before .before .before .before .before .before .before .before .before .before .args .masks .now) (c .before .before .before .before .before .before .before .before .before .before .before .before .before .before .before .before .before .before .before .args .text .now) (c .before .before .before .before .before .before .before .before .before .before .before .before .before .before .before .before .before .before .before .args .page) (c .before .before .before .before .before .before .before .before .before .before .before .before .before .before .before .before .before .before .before .args .layout .now) (c .before .before .before .before .before .before .before .before .before .before .before .before .before .before .before .before .before .before .before .args .items .now) (c .before .before .before .before .before .before .before .before .before .before .before .before .before .before .before .before .before .before .before .args .rec .now) (c .before .before .before .before .before .before .before .before .before .before .before .before .before .before .before .before .before .before .before .args .e) (c .before .before .before .before .before .before .before .before .before .before .before .before .before .before .before .before .before .before .before .args .lo) (c .before .before .before .before .before .before .before .before .before .before .before .before .before .before .before .before .before .before .before .args .hi) (c .before .before .before .before .before .before .before .before .before .before .before .before .before .before .before .before .before .before .before .args .i) (c .before .before .before .before .before .before .before .before .before .before .before .before .before .before .before .before .before .before .before .args .to) (c .before .before .before .before .before .before .before .before .before .before .before .before .before .before .before .before .before .before .before .args .at) (omega (arith, c .before .before .before .before .before .before .before .before .before .before .before .before .before .before .before .before .before .before .before .good .1 .1 .1 .1 .1 .1 .0)) _ (c .before .before .before .before .before .before .before .before .before .before .before .before .before .elements-of .ensures) (c .before .before .before .before .before .before .before .before .before .before .before .if1 .left) (c .before .before .before .before .before .before .before .before .before .if2 .left) ∙ elements-stops (c .before .before .before .before .before .before .before .before .loop .inv) (c .before .before .before .before .before .before .before .loop-test .taken) _ (group-here (c .before .before .before .before .before .before .before .before .before .before .before .before .before .before .before .before .before .before .before .args .masks .now) (c .before .before .before .before .before .before .before .before .before .before .before .before .before .before .before .before .before .before .before .args .text .now) (c .before .before .before .before .before .before .before .before .before .before .before .before .before .before .before .before .before .before .before .args .page) (c .before .before .before .before .before .before .before .before .before .before .before .before .before .before .before .before .before .before .before .args .layout .now) (c .before .before .before .before .before .before .before .before .before .before .before .before .before .before .before .before .before .before .before .args .lo) (c .before .before .before .before .before .before .before .before .before .before .before .before .before .before .before .before .before .before .before .args .hi) (c .before .before .before .before .before .before .before .before .loop .inv) _ (c .before .before .before .before .before .encode-one .ensures .refuses (c .before .if4 .taken))))
 
 pub encode-field-larger-requires : (t : ℕ) → encode-field-lts.Need-larger-requires (encode-field-claims t) (encode-field-at t) encode-field.Post encode-field-Inv-loop encode-field-μ-loop
 encode-field-larger-requires t c κs = search needs
@@ -84,11 +86,11 @@ encode-field-sat-mul-requires t c κs = search needs
 pub encode-field-sat-add-requires : (t : ℕ) → encode-field-lts.Need-sat-add-requires (encode-field-claims t) (encode-field-at t) encode-field.Post encode-field-Inv-loop encode-field-μ-loop
 encode-field-sat-add-requires t c κs = search needs
 
-pub encode-field-same-length-3 : (t : ℕ) → encode-field-lts.Need-same-length-3 (encode-field-claims t) (encode-field-at t) encode-field.Post encode-field-Inv-loop encode-field-μ-loop
-encode-field-same-length-3 t c = c .before .before .before .before .before .before .before .before .before .encode-one .kept .1 .1 .1 .1 .0 ∙ c .before .before .before .before .before .before .before .before .before .before .before .before .loop .inv .same
+pub encode-field-same-length-4 : (t : ℕ) → encode-field-lts.Need-same-length-4 (encode-field-claims t) (encode-field-at t) encode-field.Post encode-field-Inv-loop encode-field-μ-loop
+encode-field-same-length-4 t c = c .before .before .before .before .before .before .before .before .before .encode-one .kept .1 .1 .1 .1 .0 ∙ c .before .before .before .before .before .before .before .before .before .before .before .before .loop .inv .same
 
-pub encode-field-returns-4 : (t : ℕ) → encode-field-lts.Need-returns-4 (encode-field-claims t) (encode-field-at t) encode-field.Post encode-field-Inv-loop encode-field-μ-loop
-encode-field-returns-4 t c = fine _ _ (field-settles (c .before .before .before .before .before .before .before .before .before .before .before .before .loop .inv) (c .before .before .before .before .before .before .before .before .before .before .before .loop-test .taken) (c .before .before .before .before .before .before .before .before .before .encode-one .result) _ _ (c .before .before .before .before .before .before .before .before .before .encode-one .ensures .fine (c .before .before .before .before .before .if3 .left)) (c .before .before .before .before .larger .ensures) _ (c .before .before .before .settles .ensures) (c .before .before .if4 .taken) _ _ (c .before .sat-mul .ensures) (c .sat-add .ensures))
+pub encode-field-returns-5 : (t : ℕ) → encode-field-lts.Need-returns-5 (encode-field-claims t) (encode-field-at t) encode-field.Post encode-field-Inv-loop encode-field-μ-loop
+encode-field-returns-5 t c = fine _ _ (field-group (c .before .before .before .before .before .before .before .before .before .before .before .before .before .before .before .before .before .before .before .before .before .before .before .args .masks .now) (c .before .before .before .before .before .before .before .before .before .before .before .before .before .before .before .before .before .before .before .before .before .before .before .args .text .now) (c .before .before .before .before .before .before .before .before .before .before .before .before .before .before .before .before .before .before .before .before .before .before .before .args .page) (c .before .before .before .before .before .before .before .before .before .before .before .before .before .before .before .before .before .before .before .before .before .before .before .args .layout .now) (c .before .before .before .before .before .before .before .before .before .before .before .before .before .before .before .before .before .before .before .before .before .before .before .args .items .now) (c .before .before .before .before .before .before .before .before .before .before .before .before .before .before .before .before .before .before .before .before .before .before .before .args .rec .now) (c .before .before .before .before .before .before .before .before .before .before .before .before .before .before .before .before .before .before .before .before .before .before .before .args .e) (c .before .before .before .before .before .before .before .before .before .before .before .before .before .before .before .before .before .before .before .before .before .before .before .args .lo) (c .before .before .before .before .before .before .before .before .before .before .before .before .before .before .before .before .before .before .before .before .before .before .before .args .hi) (c .before .before .before .before .before .before .before .before .before .before .before .before .before .before .before .before .before .before .before .before .before .before .before .args .i) (c .before .before .before .before .before .before .before .before .before .before .before .before .before .before .before .before .before .before .before .before .before .before .before .args .to) (c .before .before .before .before .before .before .before .before .before .before .before .before .before .before .before .before .before .before .before .before .before .before .before .args .at) (omega (arith, c .before .before .before .before .before .before .before .before .before .before .before .before .before .before .before .before .before .before .before .before .before .before .before .good .1 .1 .1 .1 .1 .1 .0)) _ (c .before .before .before .before .before .before .before .before .before .before .before .before .before .before .before .before .before .elements-of .ensures) (c .before .before .before .before .before .before .before .before .before .before .before .before .before .before .before .if1 .left) (c .before .before .before .before .before .before .before .before .before .before .before .before .before .if2 .left) ∙ elements-settles (c .before .before .before .before .before .before .before .before .before .before .before .before .loop .inv) (c .before .before .before .before .before .before .before .before .before .before .before .loop-test .taken) (c .before .before .before .before .before .before .before .before .before .encode-one .result) _ _ (group-here (c .before .before .before .before .before .before .before .before .before .before .before .before .before .before .before .before .before .before .before .before .before .before .before .args .masks .now) (c .before .before .before .before .before .before .before .before .before .before .before .before .before .before .before .before .before .before .before .before .before .before .before .args .text .now) (c .before .before .before .before .before .before .before .before .before .before .before .before .before .before .before .before .before .before .before .before .before .before .before .args .page) (c .before .before .before .before .before .before .before .before .before .before .before .before .before .before .before .before .before .before .before .before .before .before .before .args .layout .now) (c .before .before .before .before .before .before .before .before .before .before .before .before .before .before .before .before .before .before .before .before .before .before .before .args .lo) (c .before .before .before .before .before .before .before .before .before .before .before .before .before .before .before .before .before .before .before .before .before .before .before .args .hi) (c .before .before .before .before .before .before .before .before .before .before .before .before .loop .inv) _ (c .before .before .before .before .before .before .before .before .before .encode-one .ensures .fine (c .before .before .before .before .before .if4 .left))) (c .before .before .before .before .larger .ensures) _ (c .before .before .before .settles .ensures) (c .before .before .if5 .taken) _ _ (c .before .sat-mul .ensures) (c .sat-add .ensures))
 
 pub encode-field-sat-add-requires-2 : (t : ℕ) → encode-field-lts.Need-sat-add-requires-2 (encode-field-claims t) (encode-field-at t) encode-field.Post encode-field-Inv-loop encode-field-μ-loop
 encode-field-sat-add-requires-2 t c κs = search needs
@@ -106,10 +108,10 @@ pub encode-field-loop-less : (t : ℕ) → encode-field-lts.Need-loop-less (enco
 encode-field-loop-less t c = search needs
 
 pub encode-field-loop-again : (t : ℕ) → encode-field-lts.Need-loop-again (encode-field-claims t) (encode-field-at t) encode-field.Post encode-field-Inv-loop encode-field-μ-loop
-encode-field-loop-again t c = field-goes (c .before .before .before .before .before .before .before .before .before .before .before .before .before .loop .inv) (c .before .before .before .before .before .before .before .before .before .before .before .before .loop-test .taken) (c .before .before .before .before .before .before .before .before .before .before .encode-one .result) _ _ (c .before .before .before .before .before .before .before .before .before .before .encode-one .ensures .fine (c .before .before .before .before .before .before .if3 .left)) (c .before .before .before .before .before .larger .ensures) _ (c .before .before .before .before .settles .ensures) (c .before .before .before .if4 .left) _ _ _ _ (c .before .before .before .before .before .before .before .before .before .before .encode-one .kept .1 .1 .1 .1 .0) (c .before .before .sat-add2 .ensures) (c .before .sat-add3 .ensures) (c .item-end .ensures) refl
+encode-field-loop-again t c = elements-goes (c .before .before .before .before .before .before .before .before .before .before .before .before .before .loop .inv) (c .before .before .before .before .before .before .before .before .before .before .before .before .loop-test .taken) (c .before .before .before .before .before .before .before .before .before .before .encode-one .result) _ _ (group-here (c .before .before .before .before .before .before .before .before .before .before .before .before .before .before .before .before .before .before .before .before .before .before .before .before .args .masks .now) (c .before .before .before .before .before .before .before .before .before .before .before .before .before .before .before .before .before .before .before .before .before .before .before .before .args .text .now) (c .before .before .before .before .before .before .before .before .before .before .before .before .before .before .before .before .before .before .before .before .before .before .before .before .args .page) (c .before .before .before .before .before .before .before .before .before .before .before .before .before .before .before .before .before .before .before .before .before .before .before .before .args .layout .now) (c .before .before .before .before .before .before .before .before .before .before .before .before .before .before .before .before .before .before .before .before .before .before .before .before .args .lo) (c .before .before .before .before .before .before .before .before .before .before .before .before .before .before .before .before .before .before .before .before .before .before .before .before .args .hi) (c .before .before .before .before .before .before .before .before .before .before .before .before .before .loop .inv) _ (c .before .before .before .before .before .before .before .before .before .before .encode-one .ensures .fine (c .before .before .before .before .before .before .if4 .left))) (c .before .before .before .before .before .larger .ensures) _ (c .before .before .before .before .settles .ensures) (c .before .before .before .if5 .left) _ _ _ _ (c .before .before .before .before .before .before .before .before .before .before .encode-one .kept .1 .1 .1 .1 .0) (c .before .before .sat-add2 .ensures) (c .before .sat-add3 .ensures) (c .item-end .ensures) refl
 
-pub encode-field-same-length-4 : (t : ℕ) → encode-field-lts.Need-same-length-4 (encode-field-claims t) (encode-field-at t) encode-field.Post encode-field-Inv-loop encode-field-μ-loop
-encode-field-same-length-4 t c = c .before .loop .inv .same
+pub encode-field-same-length-5 : (t : ℕ) → encode-field-lts.Need-same-length-5 (encode-field-claims t) (encode-field-at t) encode-field.Post encode-field-Inv-loop encode-field-μ-loop
+encode-field-same-length-5 t c = c .before .loop .inv .same
 
-pub encode-field-returns-5 : (t : ℕ) → encode-field-lts.Need-returns-5 (encode-field-claims t) (encode-field-at t) encode-field.Post encode-field-Inv-loop encode-field-μ-loop
-encode-field-returns-5 t c = fine _ _ (field-done (c .before .loop .inv) (c .loop-test .left))
+pub encode-field-returns-6 : (t : ℕ) → encode-field-lts.Need-returns-6 (encode-field-claims t) (encode-field-at t) encode-field.Post encode-field-Inv-loop encode-field-μ-loop
+encode-field-returns-6 t c = fine _ _ (field-group (c .before .before .before .before .before .before .before .before .before .before .before .before .args .masks .now) (c .before .before .before .before .before .before .before .before .before .before .before .before .args .text .now) (c .before .before .before .before .before .before .before .before .before .before .before .before .args .page) (c .before .before .before .before .before .before .before .before .before .before .before .before .args .layout .now) (c .before .before .before .before .before .before .before .before .before .before .before .before .args .items .now) (c .before .before .before .before .before .before .before .before .before .before .before .before .args .rec .now) (c .before .before .before .before .before .before .before .before .before .before .before .before .args .e) (c .before .before .before .before .before .before .before .before .before .before .before .before .args .lo) (c .before .before .before .before .before .before .before .before .before .before .before .before .args .hi) (c .before .before .before .before .before .before .before .before .before .before .before .before .args .i) (c .before .before .before .before .before .before .before .before .before .before .before .before .args .to) (c .before .before .before .before .before .before .before .before .before .before .before .before .args .at) (omega (arith, c .before .before .before .before .before .before .before .before .before .before .before .before .good .1 .1 .1 .1 .1 .1 .0)) _ (c .before .before .before .before .before .before .elements-of .ensures) (c .before .before .before .before .if1 .left) (c .before .before .if2 .left) ∙ elements-done (c .before .loop .inv) (c .loop-test .left))

@@ -2,8 +2,6 @@ use Prim.Native.Nat.{ℕ}
 use Rattle.encode.proofs.encode_one.Reads as encode-one
 use Rattle.encode.proofs.+encode_field+encode_one+encode_seq.Lts-encode_one as encode-one-lts
 use Rattle.encode.proofs.encode_seq.Reads as encode-seq
-use Rattle.encode_leaf.proofs.encode_leaf.Reads as encode-leaf-reads
-use Rattle.encode_leaf.proofs.no_item.Reads as no-item-reads
 use Rattle.encode_leaf.proofs.refusal.Reads as refusal-reads
 use Rattle.encode_leaf.proofs.takes.Reads as takes-reads
 use Rattle.items.proofs.after.Reads as after-reads
@@ -18,34 +16,13 @@ use borrow.Author.Needs.{needs}
 use borrow.Author.Tests.{not-true, not-false}
 use lib.ListN.{length}
 use Rattle.encode_leaf.proofs.Meets.{refuse, fine, same-as}
-use Rattle.encode.proofs.Steps.{one-pad, one-leaf, one-not, one-group}
+use Rattle.encode_leaf.proofs.Inside.{inside-not, inside-is}
 
 abbrev pub encode-one-claims : ℕ → encode-one-lts.Claims
-encode-one-claims t = (no-item-reads.Asked, no-item-reads.Learnt, encode-leaf-reads.Asked, encode-leaf-reads.Learnt, fetch-reads.Asked, fetch-reads.Learnt, takes-reads.Asked, takes-reads.Learnt, refusal-reads.Asked, refusal-reads.Learnt, item-end-reads.Asked, item-end-reads.Learnt, after-reads.Asked, after-reads.Learnt, encode-seq-below t, encode-seq.Post)
-
-pub encode-one-no-item-requires : (t : ℕ) → encode-one-lts.Need-no-item-requires (encode-one-claims t) (encode-one-at t) encode-one.Post
-encode-one-no-item-requires t c κs = search needs
-
-pub encode-one-encode-leaf-requires : (t : ℕ) → encode-one-lts.Need-encode-leaf-requires (encode-one-claims t) (encode-one-at t) encode-one.Post
-encode-one-encode-leaf-requires t c κs = search needs
-
-pub encode-one-same-length : (t : ℕ) → encode-one-lts.Need-same-length (encode-one-claims t) (encode-one-at t) encode-one.Post
-encode-one-same-length t c = c .before .before .encode-leaf .kept .1 .1 .0
-
-pub encode-one-returns : (t : ℕ) → encode-one-lts.Need-returns (encode-one-claims t) (encode-one-at t) encode-one.Post
-encode-one-returns t c = same-as (one-pad _ _ _ _ _ _ _ _ _ _ (c .before .before .before .before .before .if1 .taken)) (c .before .before .encode-leaf .ensures)
+encode-one-claims t = (fetch-reads.Asked, fetch-reads.Learnt, takes-reads.Asked, takes-reads.Learnt, refusal-reads.Asked, refusal-reads.Learnt, item-end-reads.Asked, item-end-reads.Learnt, after-reads.Asked, after-reads.Learnt, encode-seq-below t, encode-seq.Post)
 
 pub encode-one-fetch-requires : (t : ℕ) → encode-one-lts.Need-fetch-requires (encode-one-claims t) (encode-one-at t) encode-one.Post
 encode-one-fetch-requires t c κs = search needs
-
-pub encode-one-encode-leaf-requires-2 : (t : ℕ) → encode-one-lts.Need-encode-leaf-requires-2 (encode-one-claims t) (encode-one-at t) encode-one.Post
-encode-one-encode-leaf-requires-2 t c κs = search needs
-
-pub encode-one-same-length-2 : (t : ℕ) → encode-one-lts.Need-same-length-2 (encode-one-claims t) (encode-one-at t) encode-one.Post
-encode-one-same-length-2 t c = c .before .before .encode-leaf2 .kept .1 .1 .0
-
-pub encode-one-returns-2 : (t : ℕ) → encode-one-lts.Need-returns-2 (encode-one-claims t) (encode-one-at t) encode-one.Post
-encode-one-returns-2 t c = same-as (one-leaf _ _ _ _ _ _ _ _ _ _ (c .before .before .before .before .before .before .fetch .ensures) (c .before .before .before .before .if2 .taken)) (c .before .before .encode-leaf2 .ensures)
 
 pub encode-one-takes-requires : (t : ℕ) → encode-one-lts.Need-takes-requires (encode-one-claims t) (encode-one-at t) encode-one.Post
 encode-one-takes-requires t c κs = search needs
@@ -53,8 +30,8 @@ encode-one-takes-requires t c κs = search needs
 pub encode-one-refusal-requires : (t : ℕ) → encode-one-lts.Need-refusal-requires (encode-one-claims t) (encode-one-at t) encode-one.Post
 encode-one-refusal-requires t c κs = search needs
 
-pub encode-one-returns-3 : (t : ℕ) → encode-one-lts.Need-returns-3 (encode-one-claims t) (encode-one-at t) encode-one.Post
-encode-one-returns-3 t c = refuse 13 (c .refusal .ensures) (λ e. omega arith) (one-not _ _ _ _ _ _ _ _ _ _ (c .before .before .before .before .before .fetch .ensures) (c .before .before .before .if2 .left) _ (c .before .before .takes .ensures) (not-true _ (c .before .if3 .taken)))
+pub encode-one-returns : (t : ℕ) → encode-one-lts.Need-returns (encode-one-claims t) (encode-one-at t) encode-one.Post
+encode-one-returns t c = refuse 13 (c .refusal .ensures) (λ e. omega arith) (inside-not 7 _ _ _ _ _ (c .before .before .before .fetch .ensures) (sym (c .before .before .takes .ensures) ∙ not-true _ (c .before .if1 .taken)))
 
 pub encode-one-item-end-requires : (t : ℕ) → encode-one-lts.Need-item-end-requires (encode-one-claims t) (encode-one-at t) encode-one.Post
 encode-one-item-end-requires t c κs = search needs
@@ -63,10 +40,10 @@ pub encode-one-after-requires : (t : ℕ) → encode-one-lts.Need-after-requires
 encode-one-after-requires t c κs = search needs
 
 pub encode-one-encode-seq-requires : (t : ℕ) → encode-one-lts.Need-encode-seq-requires (encode-one-claims t) (encode-one-at t) encode-one.Post
-encode-one-encode-seq-requires t c κs = omega (arith, c .before .before .before .before .before .before .before .before .before .before .before .before .before .before .before .pre)
+encode-one-encode-seq-requires t c κs = omega (arith, c .before .before .before .before .before .before .before .before .before .before .before .pre)
 
-pub encode-one-same-length-3 : (t : ℕ) → encode-one-lts.Need-same-length-3 (encode-one-claims t) (encode-one-at t) encode-one.Post
-encode-one-same-length-3 t c = c .before .before .encode-seq .kept .1 .1 .1 .1 .0
+pub encode-one-same-length : (t : ℕ) → encode-one-lts.Need-same-length (encode-one-claims t) (encode-one-at t) encode-one.Post
+encode-one-same-length t c = c .before .before .encode-seq .kept .1 .1 .1 .1 .0
 
-pub encode-one-returns-4 : (t : ℕ) → encode-one-lts.Need-returns-4 (encode-one-claims t) (encode-one-at t) encode-one.Post
-encode-one-returns-4 t c = same-as (one-group _ _ _ _ _ _ _ _ _ _ (c .before .before .before .before .before .before .before .before .before .before .fetch .ensures) (c .before .before .before .before .before .before .before .before .if2 .left) _ (c .before .before .before .before .before .before .before .takes .ensures) (not-false _ (c .before .before .before .before .before .before .if3 .left)) _ _ (c .before .before .before .before .before .item-end .ensures) (c .before .before .before .before .after .ensures)) (c .before .before .encode-seq .ensures)
+pub encode-one-returns-2 : (t : ℕ) → encode-one-lts.Need-returns-2 (encode-one-claims t) (encode-one-at t) encode-one.Post
+encode-one-returns-2 t c = same-as (inside-is 7 _ _ _ _ _ (c .before .before .before .before .before .before .before .before .fetch .ensures) _ _ (sym (c .before .before .before .before .before .before .before .takes .ensures) ∙ not-false _ (c .before .before .before .before .before .before .if1 .left)) (c .before .before .before .before .before .item-end .ensures) (c .before .before .before .before .after .ensures)) (c .before .before .encode-seq .ensures)

@@ -3,11 +3,14 @@ use Rattle.encode.proofs.encode_field.Reads as encode-field
 use Rattle.encode.proofs.encode_seq.Reads as encode-seq
 use Rattle.encode.proofs.+encode_field+encode_one+encode_seq.Lts-encode_seq as encode-seq-lts
 use Rattle.encode.proofs.advance.Reads as advance-reads
+use Rattle.encode.proofs.is_lone_leaf.Reads as is-lone-leaf-reads
 use Rattle.encode.proofs.place_of.Reads as place-of-reads
+use Rattle.encode_leaf.proofs.encode_leaf.Reads as encode-leaf-reads
 use Rattle.encode_leaf.proofs.larger.Reads as larger-reads
 use Rattle.encode_leaf.proofs.less.Reads as less-reads
 use Rattle.encode_leaf.proofs.refusal.Reads as refusal-reads
 use Rattle.encode_leaf.proofs.sat_add.Reads as sat-add-reads
+use Rattle.items.proofs.fetch.Reads as fetch-reads
 use Rattle.layout.proofs.load.Reads as load-reads
 use Rattle.layout.proofs.reserved_width.Reads as reserved-width-reads
 use Rattle.spans.proofs.end_of.Reads as end-of-reads
@@ -20,10 +23,11 @@ use borrow.Author.Needs.{needs}
 use borrow.Author.Tests.{not-true, not-false}
 use lib.ListN.{length}
 use Rattle.encode_leaf.proofs.Meets.{refuse, fine, same-as}
+use Rattle.encode.proofs.Steps.{lone-end, lone-field, lone-shift}
 use Rattle.encode.proofs.Turns.{SeqInv, seq-starts, seq-stops, seq-goes, seq-done}
 
 abbrev pub encode-seq-claims : ℕ → encode-seq-lts.Claims
-encode-seq-claims t = (load-reads.Asked, load-reads.Learnt, end-of-reads.Asked, end-of-reads.Learnt, sat-add-reads.Asked, sat-add-reads.Learnt, place-of-reads.Asked, place-of-reads.Learnt, advance-reads.Asked, advance-reads.Learnt, encode-field-below t, encode-field.Post, refusal-reads.Asked, refusal-reads.Learnt, reserved-width-reads.Asked, reserved-width-reads.Learnt, less-reads.Asked, less-reads.Learnt, larger-reads.Asked, larger-reads.Learnt)
+encode-seq-claims t = (load-reads.Asked, load-reads.Learnt, sat-add-reads.Asked, sat-add-reads.Learnt, place-of-reads.Asked, place-of-reads.Learnt, advance-reads.Asked, advance-reads.Learnt, is-lone-leaf-reads.Asked, is-lone-leaf-reads.Learnt, fetch-reads.Asked, fetch-reads.Learnt, encode-leaf-reads.Asked, encode-leaf-reads.Learnt, refusal-reads.Asked, refusal-reads.Learnt, larger-reads.Asked, larger-reads.Learnt, end-of-reads.Asked, end-of-reads.Learnt, encode-field-below t, encode-field.Post, reserved-width-reads.Asked, reserved-width-reads.Learnt, less-reads.Asked, less-reads.Learnt)
 
 abbrev pub encode-seq-Inv-loop : encode-seq-lts.InvT-loop
 encode-seq-Inv-loop layout masks items text rec₀ page lo hi from to base i₀ shift₀ taken₀ past₀ f₀ rec i shift taken past f = SeqInv masks text page layout items rec₀ lo hi from to base rec i shift taken past f
@@ -37,12 +41,6 @@ encode-seq-loop-holds t c = seq-starts _ _ _ _ _ _ _ _ _ _ _
 pub encode-seq-load-requires : (t : ℕ) → encode-seq-lts.Need-load-requires (encode-seq-claims t) (encode-seq-at t) encode-seq.Post encode-seq-Inv-loop encode-seq-μ-loop
 encode-seq-load-requires t c κs = search needs
 
-pub encode-seq-cast-end-of : (t : ℕ) → encode-seq-lts.Need-cast-end-of (encode-seq-claims t) (encode-seq-at t) encode-seq.Post encode-seq-Inv-loop encode-seq-μ-loop
-encode-seq-cast-end-of t c = search needs
-
-pub encode-seq-end-of-requires : (t : ℕ) → encode-seq-lts.Need-end-of-requires (encode-seq-claims t) (encode-seq-at t) encode-seq.Post encode-seq-Inv-loop encode-seq-μ-loop
-encode-seq-end-of-requires t c κs = search needs
-
 pub encode-seq-cast-sat-add : (t : ℕ) → encode-seq-lts.Need-cast-sat-add (encode-seq-claims t) (encode-seq-at t) encode-seq.Post encode-seq-Inv-loop encode-seq-μ-loop
 encode-seq-cast-sat-add t c = search needs
 
@@ -53,37 +51,31 @@ pub encode-seq-sat-add-requires-2 : (t : ℕ) → encode-seq-lts.Need-sat-add-re
 encode-seq-sat-add-requires-2 t c κs = search needs
 
 pub encode-seq-place-of-requires : (t : ℕ) → encode-seq-lts.Need-place-of-requires (encode-seq-claims t) (encode-seq-at t) encode-seq.Post encode-seq-Inv-loop encode-seq-μ-loop
-encode-seq-place-of-requires t c κs = c .before .before .before .before .before .before .before .loop .inv .ahead
+encode-seq-place-of-requires t c κs = c .before .before .before .before .before .loop .inv .ahead
 
 pub encode-seq-advance-requires : (t : ℕ) → encode-seq-lts.Need-advance-requires (encode-seq-claims t) (encode-seq-at t) encode-seq.Post encode-seq-Inv-loop encode-seq-μ-loop
 encode-seq-advance-requires t c κs = search needs
 
-pub encode-seq-add-encode-field : (t : ℕ) → encode-seq-lts.Need-add-encode-field (encode-seq-claims t) (encode-seq-at t) encode-seq.Post encode-seq-Inv-loop encode-seq-μ-loop
-encode-seq-add-encode-field t c = search needs
+pub encode-seq-is-lone-leaf-requires : (t : ℕ) → encode-seq-lts.Need-is-lone-leaf-requires (encode-seq-claims t) (encode-seq-at t) encode-seq.Post encode-seq-Inv-loop encode-seq-μ-loop
+encode-seq-is-lone-leaf-requires t c κs = search needs
 
-pub encode-seq-encode-field-requires : (t : ℕ) → encode-seq-lts.Need-encode-field-requires (encode-seq-claims t) (encode-seq-at t) encode-seq.Post encode-seq-Inv-loop encode-seq-μ-loop
-encode-seq-encode-field-requires t c κs = omega (arith, c .before .before .before .before .before .before .end-of .ensures, c .before .before .before .before .before .before .before .before .before .loop-test .taken, c .before .before .before .before .before .before .before .before .before .before .loop .inv .past-lo, c .before .before .before .before .before .before .before .before .before .before .before .before .before .before .before .before .pre)
+pub encode-seq-fetch-requires : (t : ℕ) → encode-seq-lts.Need-fetch-requires (encode-seq-claims t) (encode-seq-at t) encode-seq.Post encode-seq-Inv-loop encode-seq-μ-loop
+encode-seq-fetch-requires t c κs = search needs
+
+pub encode-seq-encode-leaf-requires : (t : ℕ) → encode-seq-lts.Need-encode-leaf-requires (encode-seq-claims t) (encode-seq-at t) encode-seq.Post encode-seq-Inv-loop encode-seq-μ-loop
+encode-seq-encode-leaf-requires t c κs = search needs
 
 pub encode-seq-refusal-requires : (t : ℕ) → encode-seq-lts.Need-refusal-requires (encode-seq-claims t) (encode-seq-at t) encode-seq.Post encode-seq-Inv-loop encode-seq-μ-loop
 encode-seq-refusal-requires t c κs = search needs
 
 pub encode-seq-same-length : (t : ℕ) → encode-seq-lts.Need-same-length (encode-seq-claims t) (encode-seq-at t) encode-seq.Post encode-seq-Inv-loop encode-seq-μ-loop
-encode-seq-same-length t c = c .before .before .before .before .before .encode-field .kept .1 .1 .1 .1 .0 ∙ c .before .before .before .before .before .before .before .before .before .before .before .before .before .before .before .before .loop .inv .same
+encode-seq-same-length t c = c .before .before .before .before .before .encode-leaf .kept .1 .1 .0 ∙ c .before .before .before .before .before .before .before .before .before .before .before .before .before .before .before .before .before .loop .inv .same
 
 pub encode-seq-returns : (t : ℕ) → encode-seq-lts.Need-returns (encode-seq-claims t) (encode-seq-at t) encode-seq.Post encode-seq-Inv-loop encode-seq-μ-loop
-encode-seq-returns t c = refuse (c .before .before .before .before .before .encode-field .result .refused) (c .refusal .ensures) (c .before .if1 .taken) (seq-stops (c .before .before .before .before .before .before .before .before .before .before .before .before .before .before .before .before .loop .inv) (c .before .before .before .before .before .before .before .before .before .before .before .before .before .before .load .result) _ _ _ _ (c .before .before .before .before .before .before .before .before .before .before .before .before .before .before .before .loop-test .taken) (c .before .before .before .before .before .before .before .before .before .before .before .before .before .before .load .ensures) (c .before .before .before .before .before .before .before .before .before .before .before .before .end-of .ensures) (c .before .before .before .before .before .before .before .before .before .before .sat-add .ensures) (c .before .before .before .before .before .before .before .before .before .sat-add2 .ensures) (c .before .before .before .before .before .before .before .before .place-of .ensures) _ (c .before .before .before .before .before .encode-field .ensures .refuses (c .before .if1 .taken)))
-
-pub encode-seq-reserved-width-requires : (t : ℕ) → encode-seq-lts.Need-reserved-width-requires (encode-seq-claims t) (encode-seq-at t) encode-seq.Post encode-seq-Inv-loop encode-seq-μ-loop
-encode-seq-reserved-width-requires t c κs = search needs
-
-pub encode-seq-less-requires : (t : ℕ) → encode-seq-lts.Need-less-requires (encode-seq-claims t) (encode-seq-at t) encode-seq.Post encode-seq-Inv-loop encode-seq-μ-loop
-encode-seq-less-requires t c κs = search needs
+encode-seq-returns t c = refuse (c .before .before .before .before .before .encode-leaf .result .refused) (c .refusal .ensures) (c .before .if2 .taken) (seq-stops (c .before .before .before .before .before .before .before .before .before .before .before .before .before .before .before .before .before .loop .inv) (c .before .before .before .before .before .before .before .before .before .before .before .before .before .before .before .load .result) _ _ _ _ (c .before .before .before .before .before .before .before .before .before .before .before .before .before .before .before .before .loop-test .taken) (c .before .before .before .before .before .before .before .before .before .before .before .before .before .before .before .load .ensures) (lone-end _ _ (c .before .before .before .before .before .before .before .before .before .is-lone-leaf .ensures) (c .before .before .before .before .before .before .before .before .if1 .taken) _ _ (c .before .before .before .before .before .before .before .before .before .before .before .before .before .before .before .before .loop-test .taken)) (c .before .before .before .before .before .before .before .before .before .before .before .before .before .sat-add .ensures) (c .before .before .before .before .before .before .before .before .before .before .before .before .sat-add2 .ensures) (c .before .before .before .before .before .before .before .before .before .before .before .place-of .ensures) _ (lone-field _ _ (c .before .before .before .before .before .before .before .before .before .is-lone-leaf .ensures) (c .before .before .before .before .before .before .before .before .if1 .taken) _ _ _ _ _ _ _ (c .before .before .before .before .before .before .fetch .ensures) ∙ c .before .before .before .before .before .encode-leaf .ensures .refuses (c .before .if2 .taken)))
 
 pub encode-seq-sat-add-requires-3 : (t : ℕ) → encode-seq-lts.Need-sat-add-requires-3 (encode-seq-claims t) (encode-seq-at t) encode-seq.Post encode-seq-Inv-loop encode-seq-μ-loop
 encode-seq-sat-add-requires-3 t c κs = search needs
-
-pub encode-seq-sat-add-requires-4 : (t : ℕ) → encode-seq-lts.Need-sat-add-requires-4 (encode-seq-claims t) (encode-seq-at t) encode-seq.Post encode-seq-Inv-loop encode-seq-μ-loop
-encode-seq-sat-add-requires-4 t c κs = search needs
 
 pub encode-seq-larger-requires : (t : ℕ) → encode-seq-lts.Need-larger-requires (encode-seq-claims t) (encode-seq-at t) encode-seq.Post encode-seq-Inv-loop encode-seq-μ-loop
 encode-seq-larger-requires t c κs = search needs
@@ -91,14 +83,62 @@ encode-seq-larger-requires t c κs = search needs
 pub encode-seq-larger-requires-2 : (t : ℕ) → encode-seq-lts.Need-larger-requires-2 (encode-seq-claims t) (encode-seq-at t) encode-seq.Post encode-seq-Inv-loop encode-seq-μ-loop
 encode-seq-larger-requires-2 t c κs = search needs
 
+pub encode-seq-add-i : (t : ℕ) → encode-seq-lts.Need-add-i (encode-seq-claims t) (encode-seq-at t) encode-seq.Post encode-seq-Inv-loop encode-seq-μ-loop
+encode-seq-add-i t c = omega (arith, c .before .before .before .before .before .before .before .before .before .before .before .before .before .before .before .before .before .before .loop-test .taken, c .before .before .before .before .before .before .before .before .before .before .before .before .before .before .before .before .before .before .before .before .before .before .before .before .before .good .1 .1 .1 .1 .1 .1 .1 .0)
+
 pub encode-seq-loop-less : (t : ℕ) → encode-seq-lts.Need-loop-less (encode-seq-claims t) (encode-seq-at t) encode-seq.Post encode-seq-Inv-loop encode-seq-μ-loop
-encode-seq-loop-less t c = omega (arith, c .before .before .before .before .before .before .before .before .before .before .before .before .before .before .before .before .before .end-of .ensures, c .before .before .before .before .before .before .before .before .before .before .before .before .before .before .before .before .before .before .before .before .loop-test .taken)
+encode-seq-loop-less t c = omega (arith, c .before .before .before .before .before .before .before .before .before .before .before .before .before .before .before .before .before .before .loop-test .taken)
 
 pub encode-seq-loop-again : (t : ℕ) → encode-seq-lts.Need-loop-again (encode-seq-claims t) (encode-seq-at t) encode-seq.Post encode-seq-Inv-loop encode-seq-μ-loop
-encode-seq-loop-again t c = seq-goes (c .before .before .before .before .before .before .before .before .before .before .before .before .before .before .before .before .before .before .before .before .before .loop .inv) (c .before .before .before .before .before .before .before .before .before .before .before .before .before .before .before .before .before .before .before .load .result) _ _ _ _ (c .before .before .before .before .before .before .before .before .before .before .before .before .before .before .before .before .before .before .before .before .loop-test .taken) (c .before .before .before .before .before .before .before .before .before .before .before .before .before .before .before .before .before .before .before .load .ensures) (c .before .before .before .before .before .before .before .before .before .before .before .before .before .before .before .before .before .end-of .ensures) (c .before .before .before .before .before .before .before .before .before .before .before .before .before .before .before .sat-add .ensures) (c .before .before .before .before .before .before .before .before .before .before .before .before .before .before .sat-add2 .ensures) (c .before .before .before .before .before .before .before .before .before .before .before .before .before .place-of .ensures) (c .before .before .before .before .before .before .before .before .before .before .encode-field .result) _ (c .before .before .before .before .before .before .before .before .before .before .before .before .advance .result) _ _ _ _ _ _ (c .before .before .before .before .before .before .before .before .before .before .encode-field .ensures .fine (c .before .before .before .before .before .before .if1 .left)) (c .before .before .before .before .before .before .before .before .before .before .encode-field .kept .1 .1 .1 .1 .0) (c .before .before .before .before .before .reserved-width .ensures) (c .before .before .before .before .less .ensures) (c .before .before .before .sat-add3 .ensures) (c .before .before .sat-add4 .ensures) (c .before .larger .ensures) (c .larger2 .ensures) (c .before .before .before .before .before .before .before .before .before .before .before .before .advance .ensures)
+encode-seq-loop-again t c = seq-goes (c .before .before .before .before .before .before .before .before .before .before .before .before .before .before .before .before .before .before .before .loop .inv) (c .before .before .before .before .before .before .before .before .before .before .before .before .before .before .before .before .before .load .result) _ _ _ _ (c .before .before .before .before .before .before .before .before .before .before .before .before .before .before .before .before .before .before .loop-test .taken) (c .before .before .before .before .before .before .before .before .before .before .before .before .before .before .before .before .before .load .ensures) (lone-end _ _ (c .before .before .before .before .before .before .before .before .before .before .before .is-lone-leaf .ensures) (c .before .before .before .before .before .before .before .before .before .before .if1 .taken) _ _ (c .before .before .before .before .before .before .before .before .before .before .before .before .before .before .before .before .before .before .loop-test .taken)) (c .before .before .before .before .before .before .before .before .before .before .before .before .before .before .before .sat-add .ensures) (c .before .before .before .before .before .before .before .before .before .before .before .before .before .before .sat-add2 .ensures) (c .before .before .before .before .before .before .before .before .before .before .before .before .before .place-of .ensures) (c .before .before .before .before .before .before .before .encode-leaf .result) _ (c .before .before .before .before .before .before .before .before .before .before .before .before .advance .result) _ _ _ _ _ _ (lone-field _ _ (c .before .before .before .before .before .before .before .before .before .before .before .is-lone-leaf .ensures) (c .before .before .before .before .before .before .before .before .before .before .if1 .taken) _ _ _ _ _ _ _ (c .before .before .before .before .before .before .before .before .fetch .ensures) ∙ c .before .before .before .before .before .before .before .encode-leaf .ensures .fine (c .before .before .before .if2 .left)) (c .before .before .before .before .before .before .before .encode-leaf .kept .1 .1 .0) refl refl (lone-shift _ _ (c .before .before .before .before .before .before .before .before .before .before .before .is-lone-leaf .ensures) (c .before .before .before .before .before .before .before .before .before .before .if1 .taken) _ _ _ _ _ _ _ _ _ (c .before .before .before .before .before .before .before .encode-leaf .ensures .fine (c .before .before .before .if2 .left)) (c .before .before .before .before .before .before .before .before .before .before .before .before .before .before .before .before .before .before .before .loop .inv .stops)) (c .before .before .sat-add3 .ensures) (c .before .larger .ensures) (c .larger2 .ensures) (c .before .before .before .before .before .before .before .before .before .before .before .before .advance .ensures)
+
+pub encode-seq-cast-end-of : (t : ℕ) → encode-seq-lts.Need-cast-end-of (encode-seq-claims t) (encode-seq-at t) encode-seq.Post encode-seq-Inv-loop encode-seq-μ-loop
+encode-seq-cast-end-of t c = search needs
+
+pub encode-seq-end-of-requires : (t : ℕ) → encode-seq-lts.Need-end-of-requires (encode-seq-claims t) (encode-seq-at t) encode-seq.Post encode-seq-Inv-loop encode-seq-μ-loop
+encode-seq-end-of-requires t c κs = search needs
+
+pub encode-seq-add-encode-field : (t : ℕ) → encode-seq-lts.Need-add-encode-field (encode-seq-claims t) (encode-seq-at t) encode-seq.Post encode-seq-Inv-loop encode-seq-μ-loop
+encode-seq-add-encode-field t c = search needs
+
+pub encode-seq-encode-field-requires : (t : ℕ) → encode-seq-lts.Need-encode-field-requires (encode-seq-claims t) (encode-seq-at t) encode-seq.Post encode-seq-Inv-loop encode-seq-μ-loop
+encode-seq-encode-field-requires t c κs = omega (arith, c .before .end-of .ensures, c .before .before .before .before .before .before .before .before .before .before .before .loop-test .taken, c .before .before .before .before .before .before .before .before .before .before .before .before .loop .inv .past-lo, c .before .before .before .before .before .before .before .before .before .before .before .before .before .before .before .before .before .before .pre)
+
+pub encode-seq-refusal-requires-2 : (t : ℕ) → encode-seq-lts.Need-refusal-requires-2 (encode-seq-claims t) (encode-seq-at t) encode-seq.Post encode-seq-Inv-loop encode-seq-μ-loop
+encode-seq-refusal-requires-2 t c κs = search needs
 
 pub encode-seq-same-length-2 : (t : ℕ) → encode-seq-lts.Need-same-length-2 (encode-seq-claims t) (encode-seq-at t) encode-seq.Post encode-seq-Inv-loop encode-seq-μ-loop
-encode-seq-same-length-2 t c = c .before .loop .inv .same
+encode-seq-same-length-2 t c = c .before .before .before .before .before .encode-field .kept .1 .1 .1 .1 .0 ∙ c .before .before .before .before .before .before .before .before .before .before .before .before .before .before .before .before .before .before .loop .inv .same
 
 pub encode-seq-returns-2 : (t : ℕ) → encode-seq-lts.Need-returns-2 (encode-seq-claims t) (encode-seq-at t) encode-seq.Post encode-seq-Inv-loop encode-seq-μ-loop
-encode-seq-returns-2 t c = fine _ _ (seq-done (c .before .loop .inv) (c .loop-test .left))
+encode-seq-returns-2 t c = refuse (c .before .before .before .before .before .encode-field .result .refused) (c .refusal2 .ensures) (c .before .if3 .taken) (seq-stops (c .before .before .before .before .before .before .before .before .before .before .before .before .before .before .before .before .before .before .loop .inv) (c .before .before .before .before .before .before .before .before .before .before .before .before .before .before .before .before .load .result) _ _ _ _ (c .before .before .before .before .before .before .before .before .before .before .before .before .before .before .before .before .before .loop-test .taken) (c .before .before .before .before .before .before .before .before .before .before .before .before .before .before .before .before .load .ensures) (c .before .before .before .before .before .before .before .end-of .ensures) (c .before .before .before .before .before .before .before .before .before .before .before .before .before .before .sat-add .ensures) (c .before .before .before .before .before .before .before .before .before .before .before .before .before .sat-add2 .ensures) (c .before .before .before .before .before .before .before .before .before .before .before .before .place-of .ensures) _ (c .before .before .before .before .before .encode-field .ensures .refuses (c .before .if3 .taken)))
+
+pub encode-seq-reserved-width-requires : (t : ℕ) → encode-seq-lts.Need-reserved-width-requires (encode-seq-claims t) (encode-seq-at t) encode-seq.Post encode-seq-Inv-loop encode-seq-μ-loop
+encode-seq-reserved-width-requires t c κs = search needs
+
+pub encode-seq-less-requires : (t : ℕ) → encode-seq-lts.Need-less-requires (encode-seq-claims t) (encode-seq-at t) encode-seq.Post encode-seq-Inv-loop encode-seq-μ-loop
+encode-seq-less-requires t c κs = search needs
+
+pub encode-seq-sat-add-requires-4 : (t : ℕ) → encode-seq-lts.Need-sat-add-requires-4 (encode-seq-claims t) (encode-seq-at t) encode-seq.Post encode-seq-Inv-loop encode-seq-μ-loop
+encode-seq-sat-add-requires-4 t c κs = search needs
+
+pub encode-seq-sat-add-requires-5 : (t : ℕ) → encode-seq-lts.Need-sat-add-requires-5 (encode-seq-claims t) (encode-seq-at t) encode-seq.Post encode-seq-Inv-loop encode-seq-μ-loop
+encode-seq-sat-add-requires-5 t c κs = search needs
+
+pub encode-seq-larger-requires-3 : (t : ℕ) → encode-seq-lts.Need-larger-requires-3 (encode-seq-claims t) (encode-seq-at t) encode-seq.Post encode-seq-Inv-loop encode-seq-μ-loop
+encode-seq-larger-requires-3 t c κs = search needs
+
+pub encode-seq-larger-requires-4 : (t : ℕ) → encode-seq-lts.Need-larger-requires-4 (encode-seq-claims t) (encode-seq-at t) encode-seq.Post encode-seq-Inv-loop encode-seq-μ-loop
+encode-seq-larger-requires-4 t c κs = search needs
+
+pub encode-seq-loop-less-2 : (t : ℕ) → encode-seq-lts.Need-loop-less-2 (encode-seq-claims t) (encode-seq-at t) encode-seq.Post encode-seq-Inv-loop encode-seq-μ-loop
+encode-seq-loop-less-2 t c = omega (arith, c .before .before .before .before .before .before .before .before .before .before .before .before .end-of .ensures, c .before .before .before .before .before .before .before .before .before .before .before .before .before .before .before .before .before .before .before .before .before .before .loop-test .taken)
+
+pub encode-seq-loop-again-2 : (t : ℕ) → encode-seq-lts.Need-loop-again-2 (encode-seq-claims t) (encode-seq-at t) encode-seq.Post encode-seq-Inv-loop encode-seq-μ-loop
+encode-seq-loop-again-2 t c = seq-goes (c .before .before .before .before .before .before .before .before .before .before .before .before .before .before .before .before .before .before .before .before .before .before .before .loop .inv) (c .before .before .before .before .before .before .before .before .before .before .before .before .before .before .before .before .before .before .before .before .before .load .result) _ _ _ _ (c .before .before .before .before .before .before .before .before .before .before .before .before .before .before .before .before .before .before .before .before .before .before .loop-test .taken) (c .before .before .before .before .before .before .before .before .before .before .before .before .before .before .before .before .before .before .before .before .before .load .ensures) (c .before .before .before .before .before .before .before .before .before .before .before .before .end-of .ensures) (c .before .before .before .before .before .before .before .before .before .before .before .before .before .before .before .before .before .before .before .sat-add .ensures) (c .before .before .before .before .before .before .before .before .before .before .before .before .before .before .before .before .before .before .sat-add2 .ensures) (c .before .before .before .before .before .before .before .before .before .before .before .before .before .before .before .before .before .place-of .ensures) (c .before .before .before .before .before .before .before .before .before .before .encode-field .result) _ (c .before .before .before .before .before .before .before .before .before .before .before .before .before .before .before .before .advance .result) _ _ _ _ _ _ (c .before .before .before .before .before .before .before .before .before .before .encode-field .ensures .fine (c .before .before .before .before .before .before .if3 .left)) (c .before .before .before .before .before .before .before .before .before .before .encode-field .kept .1 .1 .1 .1 .0) (c .before .before .before .before .before .reserved-width .ensures) (c .before .before .before .before .less .ensures) (c .before .before .before .sat-add4 .ensures) (c .before .before .sat-add5 .ensures) (c .before .larger3 .ensures) (c .larger4 .ensures) (c .before .before .before .before .before .before .before .before .before .before .before .before .before .before .before .before .advance .ensures)
+
+pub encode-seq-same-length-3 : (t : ℕ) → encode-seq-lts.Need-same-length-3 (encode-seq-claims t) (encode-seq-at t) encode-seq.Post encode-seq-Inv-loop encode-seq-μ-loop
+encode-seq-same-length-3 t c = c .before .loop .inv .same
+
+pub encode-seq-returns-3 : (t : ℕ) → encode-seq-lts.Need-returns-3 (encode-seq-claims t) (encode-seq-at t) encode-seq.Post encode-seq-Inv-loop encode-seq-μ-loop
+encode-seq-returns-3 t c = fine _ _ (seq-done (c .before .loop .inv) (c .loop-test .left))

@@ -1,0 +1,111 @@
+use mathlib.Core.Path.{_≡_, refl, sym, ap, _∙_, subst}
+use mathlib.Core.Bool.{Bool, true, false}
+use mathlib.Core.Logic.{⊎-elim}
+use mathlib.Core.List.{List, [], _∷_, _++_, map, append-nil, append-assoc}
+use Prim.Native.Nat.{ℕ, zero, suc, _+_, _-_, _*_, _≤_, _<_}
+use native.Mathlib.Omega.{arith}
+use native.Mathlib.Numerals.{add-one}
+use borrow.Author.Tests.{lt-ltb, le-ltb, le-leb, lt-leb, eq-eqb, ne-eqb, eqb-true, eqb-false, ltb-true, ltb-false, leb-true, leb-false}
+use lib.Dec.{eqb, leb, ltb}
+use lib.ListN.{length, take, drop, getD, set, replicate, length-set, length-append, length-take, length-drop, length-replicate, length-map}
+use borrow.Author.Needs.{needs}
+use Rattle.items.specs.Items.{values}
+use Rattle.encode_leaf.specs.Laying.{leaves, elements}
+use Rattle.encode_leaf.specs.Machine.{codec, roomIn}
+use Rattle.encode_leaf.proofs.Meets.{refuse, fine}
+use Rattle.encode_leaf.proofs.Elements.{ElementsInv, elements-starts, elements-stops, elements-settles, elements-goes, elements-done, leaf-here}
+use Rattle.encode_leaf.proofs.encode_table.Statement.{statement}
+use Rattle.encode_leaf.proofs.encode_table.Tie as tie
+
+abbrev Inv-loop : tie.InvT-loop
+Inv-loop masks text items record₀ page e n from end at j₀ left₀ place₀ taken₀ past₀ «record» j left place taken past = ElementsInv (elements (leaves (codec masks page text) (roomIn record₀) e) n (values items from end) at 0 0 record₀) (leaves (codec masks page text) (roomIn record₀) e) items record₀ end «record» j left place taken past
+
+abbrev μ-loop : tie.MeasureT-loop
+μ-loop masks text items record₀ page e n from end at j₀ left₀ place₀ taken₀ past₀ «record» j left place taken past = left
+
+loop-holds : tie.Need-loop-holds Inv-loop μ-loop
+loop-holds c = elements-starts _ _ _ _ _ _ _ _ _
+
+fetch-requires : tie.Need-fetch-requires Inv-loop μ-loop
+fetch-requires c κs = search needs
+
+encode-leaf-requires : tie.Need-encode-leaf-requires Inv-loop μ-loop
+encode-leaf-requires c κs = search needs
+
+refusal-requires : tie.Need-refusal-requires Inv-loop μ-loop
+refusal-requires c κs = search needs
+
+same-length : tie.Need-same-length Inv-loop μ-loop
+same-length c = c .before .before .before .before .before .encode-leaf .kept .1 .1 .0 ∙ c .before .before .before .before .before .before .before .before .before .loop .inv .same
+
+returns : tie.Need-returns Inv-loop μ-loop
+returns c = refuse (c .before .before .before .before .before .encode-leaf .result .refused) (c .refusal .ensures) (c .before .if1 .taken) (elements-stops (c .before .before .before .before .before .before .before .before .before .loop .inv) (c .before .before .before .before .before .before .before .before .loop-test .taken) _ (leaf-here (c .before .before .before .before .before .before .before .before .before .before .before .before .before .before .args .masks .now) (c .before .before .before .before .before .before .before .before .before .before .before .before .before .before .args .text .now) (c .before .before .before .before .before .before .before .before .before .before .before .before .before .before .args .page) (c .before .before .before .before .before .before .before .before .before .before .before .before .before .before .args .e) (c .before .before .before .before .before .before .before .before .before .loop .inv) _ (c .before .before .before .before .before .before .fetch .ensures) _ (c .before .before .before .before .before .encode-leaf .ensures .refuses (c .before .if1 .taken))))
+
+larger-requires : tie.Need-larger-requires Inv-loop μ-loop
+larger-requires c κs = search needs
+
+settles-requires : tie.Need-settles-requires Inv-loop μ-loop
+settles-requires c κs = search needs
+
+sat-mul-requires : tie.Need-sat-mul-requires Inv-loop μ-loop
+sat-mul-requires c κs = search needs
+
+sat-add-requires : tie.Need-sat-add-requires Inv-loop μ-loop
+sat-add-requires c κs = search needs
+
+same-length-2 : tie.Need-same-length-2 Inv-loop μ-loop
+same-length-2 c = c .before .before .before .before .before .before .before .before .before .encode-leaf .kept .1 .1 .0 ∙ c .before .before .before .before .before .before .before .before .before .before .before .before .before .loop .inv .same
+
+returns-2 : tie.Need-returns-2 Inv-loop μ-loop
+returns-2 c = fine _ _ (elements-settles (c .before .before .before .before .before .before .before .before .before .before .before .before .before .loop .inv) (c .before .before .before .before .before .before .before .before .before .before .before .before .loop-test .taken) (c .before .before .before .before .before .before .before .before .before .encode-leaf .result) _ _ (leaf-here (c .before .before .before .before .before .before .before .before .before .before .before .before .before .before .before .before .before .before .args .masks .now) (c .before .before .before .before .before .before .before .before .before .before .before .before .before .before .before .before .before .before .args .text .now) (c .before .before .before .before .before .before .before .before .before .before .before .before .before .before .before .before .before .before .args .page) (c .before .before .before .before .before .before .before .before .before .before .before .before .before .before .before .before .before .before .args .e) (c .before .before .before .before .before .before .before .before .before .before .before .before .before .loop .inv) _ (c .before .before .before .before .before .before .before .before .before .before .fetch .ensures) _ (c .before .before .before .before .before .before .before .before .before .encode-leaf .ensures .fine (c .before .before .before .before .before .if1 .left))) (c .before .before .before .before .larger .ensures) _ (c .before .before .before .settles .ensures) (c .before .before .if2 .taken) _ _ (c .before .sat-mul .ensures) (c .sat-add .ensures))
+
+sat-add-requires-2 : tie.Need-sat-add-requires-2 Inv-loop μ-loop
+sat-add-requires-2 c κs = search needs
+
+sat-add-requires-3 : tie.Need-sat-add-requires-3 Inv-loop μ-loop
+sat-add-requires-3 c κs = search needs
+
+item-end-requires : tie.Need-item-end-requires Inv-loop μ-loop
+item-end-requires c κs = search needs
+
+sub-left : tie.Need-sub-left Inv-loop μ-loop
+sub-left c = search needs
+
+loop-less : tie.Need-loop-less Inv-loop μ-loop
+loop-less c = search needs
+
+loop-again : tie.Need-loop-again Inv-loop μ-loop
+loop-again c = elements-goes (c .before .before .before .before .before .before .before .before .before .before .before .before .before .before .loop .inv) (c .before .before .before .before .before .before .before .before .before .before .before .before .before .loop-test .taken) (c .before .before .before .before .before .before .before .before .before .before .encode-leaf .result) _ _ (leaf-here (c .before .before .before .before .before .before .before .before .before .before .before .before .before .before .before .before .before .before .before .args .masks .now) (c .before .before .before .before .before .before .before .before .before .before .before .before .before .before .before .before .before .before .before .args .text .now) (c .before .before .before .before .before .before .before .before .before .before .before .before .before .before .before .before .before .before .before .args .page) (c .before .before .before .before .before .before .before .before .before .before .before .before .before .before .before .before .before .before .before .args .e) (c .before .before .before .before .before .before .before .before .before .before .before .before .before .before .loop .inv) _ (c .before .before .before .before .before .before .before .before .before .before .before .fetch .ensures) _ (c .before .before .before .before .before .before .before .before .before .before .encode-leaf .ensures .fine (c .before .before .before .before .before .before .if1 .left))) (c .before .before .before .before .before .larger .ensures) _ (c .before .before .before .before .settles .ensures) (c .before .before .before .if2 .left) _ _ _ _ (c .before .before .before .before .before .before .before .before .before .before .encode-leaf .kept .1 .1 .0) (c .before .before .sat-add2 .ensures) (c .before .sat-add3 .ensures) (c .item-end .ensures) refl
+
+same-length-3 : tie.Need-same-length-3 Inv-loop μ-loop
+same-length-3 c = c .before .loop .inv .same
+
+returns-3 : tie.Need-returns-3 Inv-loop μ-loop
+returns-3 c = fine _ _ (elements-done (c .before .loop .inv) (c .loop-test .left))
+
+pub encode-table-spec : {M : Type 1} → statement M
+encode-table-spec =
+    tie.close
+    (tie.spec
+    Inv-loop
+    μ-loop
+    loop-holds
+    fetch-requires
+    encode-leaf-requires
+    refusal-requires
+    same-length
+    returns
+    larger-requires
+    settles-requires
+    sat-mul-requires
+    sat-add-requires
+    same-length-2
+    returns-2
+    sat-add-requires-2
+    sat-add-requires-3
+    item-end-requires
+    sub-left
+    loop-less
+    loop-again
+    same-length-3
+    returns-3)

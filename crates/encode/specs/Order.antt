@@ -1,6 +1,6 @@
 -- Entries that are written at once; and items that stand in the entries' order, which are found at once.
 use mathlib.Core.Path.{_≡_}
-use mathlib.Core.Bool.{Bool, true, false, not, _&&_, cond}
+use mathlib.Core.Bool.{Bool, false, not, _&&_, cond}
 use Prim.Native.Nat.{ℕ, _≤_}
 use lib.Dec.{eqb, leb}
 use Rattle.spans.specs.Tree.{none, node}

@@ -2,7 +2,7 @@
 use mathlib.Core.Path.{_≡_, refl, sym, ap, _∙_}
 use mathlib.Core.Bool.{Bool, true, false, _&&_, cond, false≢true}
 use mathlib.Core.List.{List}
-use Prim.Native.Nat.{ℕ, _+_, _≤_, _<_, max}
+use Prim.Native.Nat.{ℕ, _+_, _≤_, _<_}
 use native.Mathlib.Omega.{arith}
 use lib.Dec.{eqb}
 use borrow.Author.Tests.{ne-eqb, eqb-true}
@@ -13,7 +13,7 @@ use Rattle.items.specs.Items as Items
 use Rattle.items.specs.Items.{Values, values, headOf, restOf, lookup}
 use Rattle.items.proofs.Items.{values-none, values-node, rest-is}
 use Rattle.walks.specs.Walk.{single, isPad}
-use Rattle.encode.specs.Order.{heads, valueOf, Ahead, Advances}
+use Rattle.encode.specs.Order.{heads, valueOf, Ahead}
 
 -- ---- the first item
 
@@ -29,35 +29,13 @@ unfolding lookup
 lookup-heads name none h = absurd (false≢true h)
 lookup-heads name (node it members rest) h = rw h refl
 
--- ---- an entry's own
-
-nothing : (it : Item) (members rest : Values) → none ≡ node it members rest → ⊥
-nothing it members rest h = false≢true (ap filled h)
-  where
-    filled : Values → Bool
-    filled none = false
-    filled (node it members rest) = true
-
--- what a lookup finds has the name
-named : (name : ℕ) (all : Values) (it : Item) (members rest : Values) → lookup name all ≡ node it members rest → it .name ≡ name
-unfolding lookup
-named name none it members rest h = absurd (nothing it members rest h)
-named name (node jt ms more) it members rest h = go (named name more it members rest) (eqb (jt .name) name) refl h
-  where
-    go : (lookup name more ≡ node it members rest → it .name ≡ name)
-        → (x : Bool) → eqb (jt .name) name ≡ x → cond x (node jt ms more) (lookup name more) ≡ node it members rest → it .name ≡ name
-    go f true p k = ap (λ vs. headOf vs .name) (sym k) ∙ eqb-true (jt .name) name p
-    go f false p k = f k
-
 -- an item of another name is stepped over
-value-over : (e : Entry) (other : ℕ) (all own : Values) → valueOf e all ≡ own → (e .name ≡ other → ⊥) → lookup other own ≡ lookup other (restOf own)
-unfolding lookup valueOf
-value-over e other all none h k = refl
-value-over e other all (node it members rest) h k = rw (ne-eqb (it .name) other (λ p. k (sym (go (isPad e && single e) h) ∙ p))) refl
-  where
-    go : (x : Bool) → cond x none (lookup (e .name) all) ≡ node it members rest → it .name ≡ e .name
-    go true f = absurd (nothing it members rest f)
-    go false f = named (e .name) all it members rest f
+heads-over : (name other : ℕ) (vs : Values) → heads name vs ≡ true → (name ≡ other → ⊥) → lookup other vs ≡ lookup other (restOf vs)
+unfolding lookup
+heads-over name other none h k = absurd (false≢true h)
+heads-over name other (node it members rest) h k = rw (ne-eqb (it .name) other (λ p. k (sym (eqb-true (it .name) name h) ∙ p))) refl
+
+-- ---- an entry's own
 
 module _ (v : List ℕ) (e : Entry) (to : ℕ) (all : Values) (z : Bool) (y : z ≡ (isPad e && single e)) where
   pub place-pad : z ≡ true → valueOf e all ≡ values v to to
@@ -69,11 +47,11 @@ module _ (v : List ℕ) (e : Entry) (to : ℕ) (all : Values) (z : Bool) (y : z 
     unfolding valueOf
     place-there r g = rw (sym y ∙ f) g
 
-    pub place-here : (next low : ℕ) → Ahead all (values v next to) low → low ≤ e .name → (x : Bool) → x ≡ heads (e .name) (values v next to) → x ≡ true → valueOf e all ≡ values v next to
-    place-here next low a h x p q = place-there next (a (e .name) h ∙ lookup-heads (e .name) (values v next to) (sym p ∙ q))
+    module _ (next low : ℕ) (a : Ahead all (values v next to) low) (h : low ≤ e .name) (x : Bool) (p : x ≡ heads (e .name) (values v next to)) (q : x ≡ true) where
+      pub place-here : valueOf e all ≡ values v next to
+      place-here = place-there next (a (e .name) h ∙ lookup-heads (e .name) (values v next to) (sym p ∙ q))
 
-pub goes-behind : (v : List ℕ) (e : Entry) (next to low j next′ low′ : ℕ) → j ≡ next → next′ ≡ endOf (Items.spanOf (headOf (values v j to))) j to → low′ ≡ max low (e .name + 1)
-    → Advances e (values v j to) (values v next to) low (values v next′ to) low′
-goes-behind v e next to low j next′ low′ same p q all f a other h =
-    a other (omega arith) ∙ ap (λ i. lookup other (values v i to)) (sym same) ∙ value-over e other all (values v j to) f (λ k. omega arith)
-    ∙ ap (lookup other) (rest-is v j to (headOf (values v j to)) (Items.spanOf (headOf (values v j to))) next′ refl refl p)
+      pub ahead-behind : (next′ : ℕ) → next′ ≡ endOf (Items.spanOf (headOf (values v next to))) next to → Ahead all (values v next′ to) (e .name + 1)
+      ahead-behind next′ r other k =
+          a other (omega arith) ∙ heads-over (e .name) other (values v next to) (sym p ∙ q) (λ n. omega arith)
+          ∙ ap (lookup other) (rest-is v next to (headOf (values v next to)) (Items.spanOf (headOf (values v next to))) next′ refl refl r)

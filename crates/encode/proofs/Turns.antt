@@ -16,9 +16,9 @@ use Rattle.encode_leaf.specs.declared.Out.{Out}
 use Rattle.encode_leaf.specs.declared.Run.{Run}
 use Rattle.encode_leaf.specs.Laying.{sat, Laid, refused, laid, Layer, group, leaves, one, elements, field, seq, start}
 use Rattle.encode_leaf.specs.Machine.{codec, roomIn, spread, Spreads}
-use Rattle.encode.specs.declared.Front.{Front}
+use Rattle.encode.specs.declared.Place.{Place}
 use Rattle.encode_leaf.proofs.Elements.{ElementsInv}
-use Rattle.encode.specs.Order.{valueOf, Ahead, Advances}
+use Rattle.encode.specs.Order.{valueOf, Ahead}
 use Rattle.encode.proofs.Steps.{field-value, field-spread, seq-end, seq-refused, seq-go}
 
 -- the walk's parts in a buffer of this length
@@ -34,7 +34,7 @@ module _ (masks text : List ℕ) (page : ℕ) (l : List ℕ) (b : List ℕ) wher
 
 -- ---- a sequence
 
-pub record SeqInv (masks text : List ℕ) (page : ℕ) (l v b₀ : List ℕ) (lo hi from to base : ℕ) (b : List ℕ) (i shift taken past : ℕ) (f : Front) : Type 0 where
+pub record SeqInv (masks text : List ℕ) (page : ℕ) (l v b₀ : List ℕ) (lo hi from to base : ℕ) (b : List ℕ) (i shift taken past : ℕ) (f : Place) : Type 0 where
   pub whole : seqIn masks text page l b₀ lo hi (values v from to) base b₀
       ≡ seq (codec masks page text) (roomIn b₀) (part l i hi) (values v from to) base shift taken past b
   pub same : length b ≡ length b₀
@@ -42,10 +42,10 @@ pub record SeqInv (masks text : List ℕ) (page : ℕ) (l v b₀ : List ℕ) (lo
   pub stops : shift ≤ 9223372036854775808
   pub ahead : Ahead (values v from to) (values v (f .next) to) (f .low)
 
-pub seq-starts : (masks text : List ℕ) (page : ℕ) (l v b₀ : List ℕ) (lo hi from to base : ℕ) → SeqInv masks text page l v b₀ lo hi from to base b₀ lo 0 0 0 (record { next = from; low = 0 })
+pub seq-starts : (masks text : List ℕ) (page : ℕ) (l v b₀ : List ℕ) (lo hi from to base : ℕ) → SeqInv masks text page l v b₀ lo hi from to base b₀ lo 0 0 0 (record { at = from; next = from; low = 0 })
 seq-starts masks text page l v b₀ lo hi from to base = record { whole = refl; same = refl; past-lo = omega arith; stops = omega arith; ahead = λ name h. refl }
 
-module _ {masks text : List ℕ} {page : ℕ} {l v b₀ : List ℕ} {lo hi from to base : ℕ} {b : List ℕ} {i shift taken past : ℕ} {f : Front}
+module _ {masks text : List ℕ} {page : ℕ} {l v b₀ : List ℕ} {lo hi from to base : ℕ} {b : List ℕ} {i shift taken past : ℕ} {f : Place}
     (inv : SeqInv masks text page l v b₀ lo hi from to base b i shift taken past f) where
   pub seq-done : hi ≤ i → seqIn masks text page l b₀ lo hi (values v from to) base b₀ ≡ laid b past taken
   seq-done h = inv .whole ∙ seq-end (codec masks page text) (roomIn b₀) l i hi (values v from to) base shift taken past b h
@@ -63,9 +63,9 @@ module _ {masks text : List ℕ} {page : ℕ} {l v b₀ : List ℕ} {lo hi from 
     pub seq-stops : (n : ℕ) → called ≡ refused n → seqIn masks text page l b₀ lo hi (values v from to) base b₀ ≡ refused n
     seq-stops n r = inv .whole ∙ seq-refused (codec masks page text) (roomIn b₀) l i hi (values v from to) base shift taken past b e en h p q n (sym called-is ∙ r)
 
-    pub seq-goes : (o : Out) (b′ : List ℕ) (f′ : Front) (res grown shift′ stop taken′ past′ : ℕ) → called ≡ laid b′ (o .past) (o .taken) → length b′ ≡ length b
+    pub seq-goes : (o : Out) (b′ : List ℕ) (f′ : Place) (res grown shift′ stop taken′ past′ : ℕ) → called ≡ laid b′ (o .past) (o .taken) → length b′ ≡ length b
         → res ≡ reservedWidth e → grown ≡ o .taken - res → shift′ ≡ sat (shift + grown) → stop ≡ sat (off + o .taken) → taken′ ≡ max taken stop → past′ ≡ max past (o .past)
-        → Advances e (values v j to) (values v (f .next) to) (f .low) (values v (f′ .next) to) (f′ .low)
+        → Ahead (values v from to) (values v (f′ .next) to) (f′ .low)
         → SeqInv masks text page l v b₀ lo hi from to base b′ en shift′ taken′ past′ f′
     seq-goes o b′ f′ res grown shift′ stop taken′ past′ r0 same r1 r2 r3 r4 r5 r6 r7 = record {
       whole = inv .whole ∙ seq-go (codec masks page text) (roomIn b₀) l i hi (values v from to) base shift taken past b e en h p q b′ (o .past) (o .taken) (sym called-is ∙ r0)
@@ -76,7 +76,7 @@ module _ {masks text : List ℕ} {page : ℕ} {l v b₀ : List ℕ} {lo hi from 
       same = same ∙ inv .same;
       past-lo = omega (arith, inv .past-lo);
       stops = omega (arith, r3);
-      ahead = r7 (values v from to) found (inv .ahead);
+      ahead = r7;
     }
 
 -- ---- the elements of an entry

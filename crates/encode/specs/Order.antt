@@ -25,7 +25,3 @@ heads name (node it members rest) = eqb (it .name) name
 -- no item of all in front of the rest has a name from `low` on
 abbrev pub Ahead : Values → Values → ℕ → Type 0
 Ahead all rest low = (name : ℕ) → low ≤ name → lookup name all ≡ lookup name rest
-
--- where this holds it still holds of another rest, an entry's own items given
-abbrev pub Advances : Entry → Values → Values → ℕ → Values → ℕ → Type 0
-Advances e own rest low rest′ low′ = (all : Values) → valueOf e all ≡ own → Ahead all rest low → Ahead all rest′ low′

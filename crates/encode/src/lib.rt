@@ -38,7 +38,7 @@ ghost use Rattle.walks.specs.Records.{encodeRecord, refusalOf, bytesOf, filled,
 ghost use Rattle.encode_leaf.specs.Laying.{group, field, start};
 ghost use Rattle.encode_leaf.specs.Machine.{Met, codec, roomIn};
 ghost use Rattle.encode.specs.Asked.{askedOf, sought, passed};
-ghost use Rattle.encode.specs.Order.{lone, heads, valueOf, Ahead, Advances};
+ghost use Rattle.encode.specs.Order.{lone, heads, valueOf, Ahead};
 
 // What writing a record answers: the number that refuses it, or 0 with the record's length.
 pub struct Written {
@@ -59,8 +59,10 @@ fn has_name(items: &[u64], name: u64, i: usize, to: usize) -> bool
     false
 }
 
-// How far the items of a sequence were met in the entries' order: none in front of `next` has a name from `low` on.
-struct Front {
+// Where an entry's value is, and how far the items of its sequence were met in the entries' order: none in front of `next` has a name from
+// `low` on.
+struct Place {
+    at: usize,
     next: usize,
     low: u64,
 }
@@ -75,33 +77,30 @@ fn is_lone_pad(e: Entry) -> bool
     false
 }
 
-// The place of an entry's value in the sequence from..to, and `to` where there is none.
-fn place_of(items: &[u64], e: Entry, from: usize, f: Front, to: usize) -> usize
+// The place of an entry's value in the sequence from..to, at `to` where there is none; f is the place of the entry before it.
+fn place_of(items: &[u64], e: Entry, from: usize, f: Place, to: usize) -> Place
     requires { ⌜ Ahead (values (now items) from to) (values (now items) (f .next) to) (f .low) ⌝ }
-    ensures { λ r. ⌜ valueOf e (values (now (items .entry)) from to) ≡ values (now (items .entry)) r to ⌝ }
+    ensures { λ r. ⌜ valueOf e (values (now (items .entry)) from to) ≡ values (now (items .entry)) (r .at) to ⌝ }
+    ensures { λ r. ⌜ Ahead (values (now (items .entry)) from to) (values (now (items .entry)) (r .next) to) (r .low) ⌝ }
 {
-    if is_lone_pad(e) {
-        return to;
-    }
     let next = f.next;
-    if f.low <= e.name as u64 {
+    let low = f.low;
+    if is_lone_pad(e) {
+        return Place { at: to, next, low };
+    }
+    if low <= e.name as u64 {
         if has_name(items, e.name as u64, next, to) {
-            return next;
+            return Place {
+                at: next,
+                next: item_end(items, next, to),
+                low: e.name as u64 + 1,
+            };
         }
     }
-    find(items, e.name as u64, from, to)
-}
-
-// The front behind an entry's value, which is at j, where that is the next item.
-fn advance(items: &[u64], e: Entry, f: Front, j: usize, to: usize) -> Front
-    ensures { λ r. ⌜ Advances e (values (now (items .entry)) j to) (values (now (items .entry)) (f .next) to) (f .low) (values (now (items .entry)) (r .next) to) (r .low) ⌝ }
-{
-    if j != f.next {
-        return f;
-    }
-    Front {
-        next: item_end(items, j, to),
-        low: larger(f.low, e.name as u64 + 1),
+    Place {
+        at: find(items, e.name as u64, from, to),
+        next,
+        low,
     }
 }
 
@@ -140,15 +139,18 @@ fn encode_seq(
     let mut shift: u64 = 0;
     let mut taken: u64 = 0;
     let mut past: u64 = 0;
-    let mut f = Front { next: from, low: 0 };
+    let mut f = Place {
+        at: from,
+        next: from,
+        low: 0,
+    };
     while i < hi {
         let e = load(layout, i);
         let off = sat_add(e.offset as u64, shift);
         let at = sat_add(base, off);
-        let j = place_of(items, e, from, f, to);
-        f = advance(items, e, f, j, to);
+        f = place_of(items, e, from, f, to);
         if is_lone_leaf(e) {
-            let o = encode_leaf(masks, text, rec, page, e, fetch(items, j, to), at);
+            let o = encode_leaf(masks, text, rec, page, e, fetch(items, f.at, to), at);
             if o.refused != 0 {
                 return refusal(o.refused);
             }
@@ -168,7 +170,7 @@ fn encode_seq(
             e,
             i + 1,
             end,
-            j,
+            f.at,
             to,
             at,
         );
@@ -188,8 +190,8 @@ fn encode_seq(
     }
 }
 
-// An entry whose members are the entries lo up to hi, by the first of the items i..to: its elements, one or those of a table. A table of
-// scalars or Pads is called at two places, with values and without, so that it is not compiled into this frame.
+// An entry whose members are the entries lo up to hi, by the first of the items i..to: its elements, one or those of a table. The two calls for
+// scalars and Pads, with values and without, compile to a smaller frame than one.
 fn encode_field(
     layout: &[u32],
     masks: &[u8],

@@ -2,7 +2,6 @@ use Prim.Native.Nat.{ℕ}
 use Rattle.encode.proofs.encode_field.Reads as encode-field
 use Rattle.encode.proofs.encode_seq.Reads as encode-seq
 use Rattle.encode.proofs.+encode_field+encode_one+encode_seq.Lts-encode_seq as encode-seq-lts
-use Rattle.encode.proofs.advance.Reads as advance-reads
 use Rattle.encode.proofs.is_lone_leaf.Reads as is-lone-leaf-reads
 use Rattle.encode.proofs.place_of.Reads as place-of-reads
 use Rattle.encode_leaf.proofs.encode_leaf.Reads as encode-leaf-reads
@@ -27,7 +26,7 @@ use Rattle.encode.proofs.Steps.{lone-end, lone-field, lone-shift}
 use Rattle.encode.proofs.Turns.{SeqInv, seq-starts, seq-stops, seq-goes, seq-done}
 
 abbrev pub encode-seq-claims : ℕ → encode-seq-lts.Claims
-encode-seq-claims t = (load-reads.Asked, load-reads.Learnt, sat-add-reads.Asked, sat-add-reads.Learnt, place-of-reads.Asked, place-of-reads.Learnt, advance-reads.Asked, advance-reads.Learnt, is-lone-leaf-reads.Asked, is-lone-leaf-reads.Learnt, fetch-reads.Asked, fetch-reads.Learnt, encode-leaf-reads.Asked, encode-leaf-reads.Learnt, refusal-reads.Asked, refusal-reads.Learnt, larger-reads.Asked, larger-reads.Learnt, end-of-reads.Asked, end-of-reads.Learnt, encode-field-below t, encode-field.Post, reserved-width-reads.Asked, reserved-width-reads.Learnt, less-reads.Asked, less-reads.Learnt)
+encode-seq-claims t = (load-reads.Asked, load-reads.Learnt, sat-add-reads.Asked, sat-add-reads.Learnt, place-of-reads.Asked, place-of-reads.Learnt, is-lone-leaf-reads.Asked, is-lone-leaf-reads.Learnt, fetch-reads.Asked, fetch-reads.Learnt, encode-leaf-reads.Asked, encode-leaf-reads.Learnt, refusal-reads.Asked, refusal-reads.Learnt, larger-reads.Asked, larger-reads.Learnt, end-of-reads.Asked, end-of-reads.Learnt, encode-field-below t, encode-field.Post, reserved-width-reads.Asked, reserved-width-reads.Learnt, less-reads.Asked, less-reads.Learnt)
 
 abbrev pub encode-seq-Inv-loop : encode-seq-lts.InvT-loop
 encode-seq-Inv-loop layout masks items text rec₀ page lo hi from to base i₀ shift₀ taken₀ past₀ f₀ rec i shift taken past f = SeqInv masks text page layout items rec₀ lo hi from to base rec i shift taken past f
@@ -53,9 +52,6 @@ encode-seq-sat-add-requires-2 t c κs = search needs
 pub encode-seq-place-of-requires : (t : ℕ) → encode-seq-lts.Need-place-of-requires (encode-seq-claims t) (encode-seq-at t) encode-seq.Post encode-seq-Inv-loop encode-seq-μ-loop
 encode-seq-place-of-requires t c κs = c .before .before .before .before .before .loop .inv .ahead
 
-pub encode-seq-advance-requires : (t : ℕ) → encode-seq-lts.Need-advance-requires (encode-seq-claims t) (encode-seq-at t) encode-seq.Post encode-seq-Inv-loop encode-seq-μ-loop
-encode-seq-advance-requires t c κs = search needs
-
 pub encode-seq-is-lone-leaf-requires : (t : ℕ) → encode-seq-lts.Need-is-lone-leaf-requires (encode-seq-claims t) (encode-seq-at t) encode-seq.Post encode-seq-Inv-loop encode-seq-μ-loop
 encode-seq-is-lone-leaf-requires t c κs = search needs
 
@@ -69,10 +65,10 @@ pub encode-seq-refusal-requires : (t : ℕ) → encode-seq-lts.Need-refusal-requ
 encode-seq-refusal-requires t c κs = search needs
 
 pub encode-seq-same-length : (t : ℕ) → encode-seq-lts.Need-same-length (encode-seq-claims t) (encode-seq-at t) encode-seq.Post encode-seq-Inv-loop encode-seq-μ-loop
-encode-seq-same-length t c = c .before .before .before .before .before .encode-leaf .kept .1 .1 .0 ∙ c .before .before .before .before .before .before .before .before .before .before .before .before .before .before .before .before .before .loop .inv .same
+encode-seq-same-length t c = c .before .before .before .before .before .encode-leaf .kept .1 .1 .0 ∙ c .before .before .before .before .before .before .before .before .before .before .before .before .before .before .before .before .loop .inv .same
 
 pub encode-seq-returns : (t : ℕ) → encode-seq-lts.Need-returns (encode-seq-claims t) (encode-seq-at t) encode-seq.Post encode-seq-Inv-loop encode-seq-μ-loop
-encode-seq-returns t c = refuse (c .before .before .before .before .before .encode-leaf .result .refused) (c .refusal .ensures) (c .before .if2 .taken) (seq-stops (c .before .before .before .before .before .before .before .before .before .before .before .before .before .before .before .before .before .loop .inv) (c .before .before .before .before .before .before .before .before .before .before .before .before .before .before .before .load .result) _ _ _ _ (c .before .before .before .before .before .before .before .before .before .before .before .before .before .before .before .before .loop-test .taken) (c .before .before .before .before .before .before .before .before .before .before .before .before .before .before .before .load .ensures) (lone-end _ _ (c .before .before .before .before .before .before .before .before .before .is-lone-leaf .ensures) (c .before .before .before .before .before .before .before .before .if1 .taken) _ _ (c .before .before .before .before .before .before .before .before .before .before .before .before .before .before .before .before .loop-test .taken)) (c .before .before .before .before .before .before .before .before .before .before .before .before .before .sat-add .ensures) (c .before .before .before .before .before .before .before .before .before .before .before .before .sat-add2 .ensures) (c .before .before .before .before .before .before .before .before .before .before .before .place-of .ensures) _ (lone-field _ _ (c .before .before .before .before .before .before .before .before .before .is-lone-leaf .ensures) (c .before .before .before .before .before .before .before .before .if1 .taken) _ _ _ _ _ _ _ (c .before .before .before .before .before .before .fetch .ensures) ∙ c .before .before .before .before .before .encode-leaf .ensures .refuses (c .before .if2 .taken)))
+encode-seq-returns t c = refuse (c .before .before .before .before .before .encode-leaf .result .refused) (c .refusal .ensures) (c .before .if2 .taken) (seq-stops (c .before .before .before .before .before .before .before .before .before .before .before .before .before .before .before .before .loop .inv) (c .before .before .before .before .before .before .before .before .before .before .before .before .before .before .load .result) _ _ _ _ (c .before .before .before .before .before .before .before .before .before .before .before .before .before .before .before .loop-test .taken) (c .before .before .before .before .before .before .before .before .before .before .before .before .before .before .load .ensures) (lone-end _ _ (c .before .before .before .before .before .before .before .before .before .is-lone-leaf .ensures) (c .before .before .before .before .before .before .before .before .if1 .taken) _ _ (c .before .before .before .before .before .before .before .before .before .before .before .before .before .before .before .loop-test .taken)) (c .before .before .before .before .before .before .before .before .before .before .before .before .sat-add .ensures) (c .before .before .before .before .before .before .before .before .before .before .before .sat-add2 .ensures) (c .before .before .before .before .before .before .before .before .before .before .place-of .ensures .0) _ (lone-field _ _ (c .before .before .before .before .before .before .before .before .before .is-lone-leaf .ensures) (c .before .before .before .before .before .before .before .before .if1 .taken) _ _ _ _ _ _ _ (c .before .before .before .before .before .before .fetch .ensures) ∙ c .before .before .before .before .before .encode-leaf .ensures .refuses (c .before .if2 .taken)))
 
 pub encode-seq-sat-add-requires-3 : (t : ℕ) → encode-seq-lts.Need-sat-add-requires-3 (encode-seq-claims t) (encode-seq-at t) encode-seq.Post encode-seq-Inv-loop encode-seq-μ-loop
 encode-seq-sat-add-requires-3 t c κs = search needs
@@ -84,13 +80,13 @@ pub encode-seq-larger-requires-2 : (t : ℕ) → encode-seq-lts.Need-larger-requ
 encode-seq-larger-requires-2 t c κs = search needs
 
 pub encode-seq-add-i : (t : ℕ) → encode-seq-lts.Need-add-i (encode-seq-claims t) (encode-seq-at t) encode-seq.Post encode-seq-Inv-loop encode-seq-μ-loop
-encode-seq-add-i t c = omega (arith, c .before .before .before .before .before .before .before .before .before .before .before .before .before .before .before .before .before .before .loop-test .taken, c .before .before .before .before .before .before .before .before .before .before .before .before .before .before .before .before .before .before .before .before .before .before .before .before .before .good .1 .1 .1 .1 .1 .1 .1 .0)
+encode-seq-add-i t c = omega (arith, c .before .before .before .before .before .before .before .before .before .before .before .before .before .before .before .before .before .loop-test .taken, c .before .before .before .before .before .before .before .before .before .before .before .before .before .before .before .before .before .before .before .before .before .before .before .before .good .1 .1 .1 .1 .1 .1 .1 .0)
 
 pub encode-seq-loop-less : (t : ℕ) → encode-seq-lts.Need-loop-less (encode-seq-claims t) (encode-seq-at t) encode-seq.Post encode-seq-Inv-loop encode-seq-μ-loop
-encode-seq-loop-less t c = omega (arith, c .before .before .before .before .before .before .before .before .before .before .before .before .before .before .before .before .before .before .loop-test .taken)
+encode-seq-loop-less t c = omega (arith, c .before .before .before .before .before .before .before .before .before .before .before .before .before .before .before .before .before .loop-test .taken)
 
 pub encode-seq-loop-again : (t : ℕ) → encode-seq-lts.Need-loop-again (encode-seq-claims t) (encode-seq-at t) encode-seq.Post encode-seq-Inv-loop encode-seq-μ-loop
-encode-seq-loop-again t c = seq-goes (c .before .before .before .before .before .before .before .before .before .before .before .before .before .before .before .before .before .before .before .loop .inv) (c .before .before .before .before .before .before .before .before .before .before .before .before .before .before .before .before .before .load .result) _ _ _ _ (c .before .before .before .before .before .before .before .before .before .before .before .before .before .before .before .before .before .before .loop-test .taken) (c .before .before .before .before .before .before .before .before .before .before .before .before .before .before .before .before .before .load .ensures) (lone-end _ _ (c .before .before .before .before .before .before .before .before .before .before .before .is-lone-leaf .ensures) (c .before .before .before .before .before .before .before .before .before .before .if1 .taken) _ _ (c .before .before .before .before .before .before .before .before .before .before .before .before .before .before .before .before .before .before .loop-test .taken)) (c .before .before .before .before .before .before .before .before .before .before .before .before .before .before .before .sat-add .ensures) (c .before .before .before .before .before .before .before .before .before .before .before .before .before .before .sat-add2 .ensures) (c .before .before .before .before .before .before .before .before .before .before .before .before .before .place-of .ensures) (c .before .before .before .before .before .before .before .encode-leaf .result) _ (c .before .before .before .before .before .before .before .before .before .before .before .before .advance .result) _ _ _ _ _ _ (lone-field _ _ (c .before .before .before .before .before .before .before .before .before .before .before .is-lone-leaf .ensures) (c .before .before .before .before .before .before .before .before .before .before .if1 .taken) _ _ _ _ _ _ _ (c .before .before .before .before .before .before .before .before .fetch .ensures) ∙ c .before .before .before .before .before .before .before .encode-leaf .ensures .fine (c .before .before .before .if2 .left)) (c .before .before .before .before .before .before .before .encode-leaf .kept .1 .1 .0) refl refl (lone-shift _ _ (c .before .before .before .before .before .before .before .before .before .before .before .is-lone-leaf .ensures) (c .before .before .before .before .before .before .before .before .before .before .if1 .taken) _ _ _ _ _ _ _ _ _ (c .before .before .before .before .before .before .before .encode-leaf .ensures .fine (c .before .before .before .if2 .left)) (c .before .before .before .before .before .before .before .before .before .before .before .before .before .before .before .before .before .before .before .loop .inv .stops)) (c .before .before .sat-add3 .ensures) (c .before .larger .ensures) (c .larger2 .ensures) (c .before .before .before .before .before .before .before .before .before .before .before .before .advance .ensures)
+encode-seq-loop-again t c = seq-goes (c .before .before .before .before .before .before .before .before .before .before .before .before .before .before .before .before .before .before .loop .inv) (c .before .before .before .before .before .before .before .before .before .before .before .before .before .before .before .before .load .result) _ _ _ _ (c .before .before .before .before .before .before .before .before .before .before .before .before .before .before .before .before .before .loop-test .taken) (c .before .before .before .before .before .before .before .before .before .before .before .before .before .before .before .before .load .ensures) (lone-end _ _ (c .before .before .before .before .before .before .before .before .before .before .before .is-lone-leaf .ensures) (c .before .before .before .before .before .before .before .before .before .before .if1 .taken) _ _ (c .before .before .before .before .before .before .before .before .before .before .before .before .before .before .before .before .before .loop-test .taken)) (c .before .before .before .before .before .before .before .before .before .before .before .before .before .before .sat-add .ensures) (c .before .before .before .before .before .before .before .before .before .before .before .before .before .sat-add2 .ensures) (c .before .before .before .before .before .before .before .before .before .before .before .before .place-of .ensures .0) (c .before .before .before .before .before .before .before .encode-leaf .result) _ (c .before .before .before .before .before .before .before .before .before .before .before .before .place-of .result) _ _ _ _ _ _ (lone-field _ _ (c .before .before .before .before .before .before .before .before .before .before .before .is-lone-leaf .ensures) (c .before .before .before .before .before .before .before .before .before .before .if1 .taken) _ _ _ _ _ _ _ (c .before .before .before .before .before .before .before .before .fetch .ensures) ∙ c .before .before .before .before .before .before .before .encode-leaf .ensures .fine (c .before .before .before .if2 .left)) (c .before .before .before .before .before .before .before .encode-leaf .kept .1 .1 .0) refl refl (lone-shift _ _ (c .before .before .before .before .before .before .before .before .before .before .before .is-lone-leaf .ensures) (c .before .before .before .before .before .before .before .before .before .before .if1 .taken) _ _ _ _ _ _ _ _ _ (c .before .before .before .before .before .before .before .encode-leaf .ensures .fine (c .before .before .before .if2 .left)) (c .before .before .before .before .before .before .before .before .before .before .before .before .before .before .before .before .before .before .loop .inv .stops)) (c .before .before .sat-add3 .ensures) (c .before .larger .ensures) (c .larger2 .ensures) (c .before .before .before .before .before .before .before .before .before .before .before .before .place-of .ensures .1)
 
 pub encode-seq-cast-end-of : (t : ℕ) → encode-seq-lts.Need-cast-end-of (encode-seq-claims t) (encode-seq-at t) encode-seq.Post encode-seq-Inv-loop encode-seq-μ-loop
 encode-seq-cast-end-of t c = search needs
@@ -102,16 +98,16 @@ pub encode-seq-add-encode-field : (t : ℕ) → encode-seq-lts.Need-add-encode-f
 encode-seq-add-encode-field t c = search needs
 
 pub encode-seq-encode-field-requires : (t : ℕ) → encode-seq-lts.Need-encode-field-requires (encode-seq-claims t) (encode-seq-at t) encode-seq.Post encode-seq-Inv-loop encode-seq-μ-loop
-encode-seq-encode-field-requires t c κs = omega (arith, c .before .end-of .ensures, c .before .before .before .before .before .before .before .before .before .before .before .loop-test .taken, c .before .before .before .before .before .before .before .before .before .before .before .before .loop .inv .past-lo, c .before .before .before .before .before .before .before .before .before .before .before .before .before .before .before .before .before .before .pre)
+encode-seq-encode-field-requires t c κs = omega (arith, c .before .end-of .ensures, c .before .before .before .before .before .before .before .before .before .before .loop-test .taken, c .before .before .before .before .before .before .before .before .before .before .before .loop .inv .past-lo, c .before .before .before .before .before .before .before .before .before .before .before .before .before .before .before .before .before .pre)
 
 pub encode-seq-refusal-requires-2 : (t : ℕ) → encode-seq-lts.Need-refusal-requires-2 (encode-seq-claims t) (encode-seq-at t) encode-seq.Post encode-seq-Inv-loop encode-seq-μ-loop
 encode-seq-refusal-requires-2 t c κs = search needs
 
 pub encode-seq-same-length-2 : (t : ℕ) → encode-seq-lts.Need-same-length-2 (encode-seq-claims t) (encode-seq-at t) encode-seq.Post encode-seq-Inv-loop encode-seq-μ-loop
-encode-seq-same-length-2 t c = c .before .before .before .before .before .encode-field .kept .1 .1 .1 .1 .0 ∙ c .before .before .before .before .before .before .before .before .before .before .before .before .before .before .before .before .before .before .loop .inv .same
+encode-seq-same-length-2 t c = c .before .before .before .before .before .encode-field .kept .1 .1 .1 .1 .0 ∙ c .before .before .before .before .before .before .before .before .before .before .before .before .before .before .before .before .before .loop .inv .same
 
 pub encode-seq-returns-2 : (t : ℕ) → encode-seq-lts.Need-returns-2 (encode-seq-claims t) (encode-seq-at t) encode-seq.Post encode-seq-Inv-loop encode-seq-μ-loop
-encode-seq-returns-2 t c = refuse (c .before .before .before .before .before .encode-field .result .refused) (c .refusal2 .ensures) (c .before .if3 .taken) (seq-stops (c .before .before .before .before .before .before .before .before .before .before .before .before .before .before .before .before .before .before .loop .inv) (c .before .before .before .before .before .before .before .before .before .before .before .before .before .before .before .before .load .result) _ _ _ _ (c .before .before .before .before .before .before .before .before .before .before .before .before .before .before .before .before .before .loop-test .taken) (c .before .before .before .before .before .before .before .before .before .before .before .before .before .before .before .before .load .ensures) (c .before .before .before .before .before .before .before .end-of .ensures) (c .before .before .before .before .before .before .before .before .before .before .before .before .before .before .sat-add .ensures) (c .before .before .before .before .before .before .before .before .before .before .before .before .before .sat-add2 .ensures) (c .before .before .before .before .before .before .before .before .before .before .before .before .place-of .ensures) _ (c .before .before .before .before .before .encode-field .ensures .refuses (c .before .if3 .taken)))
+encode-seq-returns-2 t c = refuse (c .before .before .before .before .before .encode-field .result .refused) (c .refusal2 .ensures) (c .before .if3 .taken) (seq-stops (c .before .before .before .before .before .before .before .before .before .before .before .before .before .before .before .before .before .loop .inv) (c .before .before .before .before .before .before .before .before .before .before .before .before .before .before .before .load .result) _ _ _ _ (c .before .before .before .before .before .before .before .before .before .before .before .before .before .before .before .before .loop-test .taken) (c .before .before .before .before .before .before .before .before .before .before .before .before .before .before .before .load .ensures) (c .before .before .before .before .before .before .before .end-of .ensures) (c .before .before .before .before .before .before .before .before .before .before .before .before .before .sat-add .ensures) (c .before .before .before .before .before .before .before .before .before .before .before .before .sat-add2 .ensures) (c .before .before .before .before .before .before .before .before .before .before .before .place-of .ensures .0) _ (c .before .before .before .before .before .encode-field .ensures .refuses (c .before .if3 .taken)))
 
 pub encode-seq-reserved-width-requires : (t : ℕ) → encode-seq-lts.Need-reserved-width-requires (encode-seq-claims t) (encode-seq-at t) encode-seq.Post encode-seq-Inv-loop encode-seq-μ-loop
 encode-seq-reserved-width-requires t c κs = search needs
@@ -132,10 +128,10 @@ pub encode-seq-larger-requires-4 : (t : ℕ) → encode-seq-lts.Need-larger-requ
 encode-seq-larger-requires-4 t c κs = search needs
 
 pub encode-seq-loop-less-2 : (t : ℕ) → encode-seq-lts.Need-loop-less-2 (encode-seq-claims t) (encode-seq-at t) encode-seq.Post encode-seq-Inv-loop encode-seq-μ-loop
-encode-seq-loop-less-2 t c = omega (arith, c .before .before .before .before .before .before .before .before .before .before .before .before .end-of .ensures, c .before .before .before .before .before .before .before .before .before .before .before .before .before .before .before .before .before .before .before .before .before .before .loop-test .taken)
+encode-seq-loop-less-2 t c = omega (arith, c .before .before .before .before .before .before .before .before .before .before .before .before .end-of .ensures, c .before .before .before .before .before .before .before .before .before .before .before .before .before .before .before .before .before .before .before .before .before .loop-test .taken)
 
 pub encode-seq-loop-again-2 : (t : ℕ) → encode-seq-lts.Need-loop-again-2 (encode-seq-claims t) (encode-seq-at t) encode-seq.Post encode-seq-Inv-loop encode-seq-μ-loop
-encode-seq-loop-again-2 t c = seq-goes (c .before .before .before .before .before .before .before .before .before .before .before .before .before .before .before .before .before .before .before .before .before .before .before .loop .inv) (c .before .before .before .before .before .before .before .before .before .before .before .before .before .before .before .before .before .before .before .before .before .load .result) _ _ _ _ (c .before .before .before .before .before .before .before .before .before .before .before .before .before .before .before .before .before .before .before .before .before .before .loop-test .taken) (c .before .before .before .before .before .before .before .before .before .before .before .before .before .before .before .before .before .before .before .before .before .load .ensures) (c .before .before .before .before .before .before .before .before .before .before .before .before .end-of .ensures) (c .before .before .before .before .before .before .before .before .before .before .before .before .before .before .before .before .before .before .before .sat-add .ensures) (c .before .before .before .before .before .before .before .before .before .before .before .before .before .before .before .before .before .before .sat-add2 .ensures) (c .before .before .before .before .before .before .before .before .before .before .before .before .before .before .before .before .before .place-of .ensures) (c .before .before .before .before .before .before .before .before .before .before .encode-field .result) _ (c .before .before .before .before .before .before .before .before .before .before .before .before .before .before .before .before .advance .result) _ _ _ _ _ _ (c .before .before .before .before .before .before .before .before .before .before .encode-field .ensures .fine (c .before .before .before .before .before .before .if3 .left)) (c .before .before .before .before .before .before .before .before .before .before .encode-field .kept .1 .1 .1 .1 .0) (c .before .before .before .before .before .reserved-width .ensures) (c .before .before .before .before .less .ensures) (c .before .before .before .sat-add4 .ensures) (c .before .before .sat-add5 .ensures) (c .before .larger3 .ensures) (c .larger4 .ensures) (c .before .before .before .before .before .before .before .before .before .before .before .before .before .before .before .before .advance .ensures)
+encode-seq-loop-again-2 t c = seq-goes (c .before .before .before .before .before .before .before .before .before .before .before .before .before .before .before .before .before .before .before .before .before .before .loop .inv) (c .before .before .before .before .before .before .before .before .before .before .before .before .before .before .before .before .before .before .before .before .load .result) _ _ _ _ (c .before .before .before .before .before .before .before .before .before .before .before .before .before .before .before .before .before .before .before .before .before .loop-test .taken) (c .before .before .before .before .before .before .before .before .before .before .before .before .before .before .before .before .before .before .before .before .load .ensures) (c .before .before .before .before .before .before .before .before .before .before .before .before .end-of .ensures) (c .before .before .before .before .before .before .before .before .before .before .before .before .before .before .before .before .before .before .sat-add .ensures) (c .before .before .before .before .before .before .before .before .before .before .before .before .before .before .before .before .before .sat-add2 .ensures) (c .before .before .before .before .before .before .before .before .before .before .before .before .before .before .before .before .place-of .ensures .0) (c .before .before .before .before .before .before .before .before .before .before .encode-field .result) _ (c .before .before .before .before .before .before .before .before .before .before .before .before .before .before .before .before .place-of .result) _ _ _ _ _ _ (c .before .before .before .before .before .before .before .before .before .before .encode-field .ensures .fine (c .before .before .before .before .before .before .if3 .left)) (c .before .before .before .before .before .before .before .before .before .before .encode-field .kept .1 .1 .1 .1 .0) (c .before .before .before .before .before .reserved-width .ensures) (c .before .before .before .before .less .ensures) (c .before .before .before .sat-add4 .ensures) (c .before .before .sat-add5 .ensures) (c .before .larger3 .ensures) (c .larger4 .ensures) (c .before .before .before .before .before .before .before .before .before .before .before .before .before .before .before .before .place-of .ensures .1)
 
 pub encode-seq-same-length-3 : (t : ℕ) → encode-seq-lts.Need-same-length-3 (encode-seq-claims t) (encode-seq-at t) encode-seq.Post encode-seq-Inv-loop encode-seq-μ-loop
 encode-seq-same-length-3 t c = c .before .loop .inv .same

@@ -339,7 +339,9 @@ pub fn encode_table(
     let mut taken: u64 = 0;
     let mut past: u64 = 0;
     while left > 0 {
-        let o = encode_leaf(masks, text, record, page, e, fetch(items, j, end), place);
+        let it = fetch(items, j, end);
+        let next = item_end(items, j, end);
+        let o = encode_leaf(masks, text, record, page, e, it, place);
         if o.refused != 0 {
             return refusal(o.refused);
         }
@@ -353,7 +355,7 @@ pub fn encode_table(
         }
         place = sat_add(place, o.taken);
         taken = sat_add(taken, o.taken);
-        j = item_end(items, j, end);
+        j = next;
         left = left - 1;
     }
     Out {

@@ -29,6 +29,9 @@ loop-holds c = elements-starts _ _ _ _ _ _ _ _ _
 fetch-requires : tie.Need-fetch-requires Inv-loop μ-loop
 fetch-requires c κs = search needs
 
+item-end-requires : tie.Need-item-end-requires Inv-loop μ-loop
+item-end-requires c κs = search needs
+
 encode-leaf-requires : tie.Need-encode-leaf-requires Inv-loop μ-loop
 encode-leaf-requires c κs = search needs
 
@@ -36,10 +39,10 @@ refusal-requires : tie.Need-refusal-requires Inv-loop μ-loop
 refusal-requires c κs = search needs
 
 same-length : tie.Need-same-length Inv-loop μ-loop
-same-length c = c .before .before .before .before .before .encode-leaf .kept .1 .1 .0 ∙ c .before .before .before .before .before .before .before .before .before .loop .inv .same
+same-length c = c .before .before .before .before .before .encode-leaf .kept .1 .1 .0 ∙ c .before .before .before .before .before .before .before .before .before .before .loop .inv .same
 
 returns : tie.Need-returns Inv-loop μ-loop
-returns c = refuse (c .before .before .before .before .before .encode-leaf .result .refused) (c .refusal .ensures) (c .before .if1 .taken) (elements-stops (c .before .before .before .before .before .before .before .before .before .loop .inv) (c .before .before .before .before .before .before .before .before .loop-test .taken) _ (leaf-here (c .before .before .before .before .before .before .before .before .before .before .before .before .before .before .args .masks .now) (c .before .before .before .before .before .before .before .before .before .before .before .before .before .before .args .text .now) (c .before .before .before .before .before .before .before .before .before .before .before .before .before .before .args .page) (c .before .before .before .before .before .before .before .before .before .before .before .before .before .before .args .e) (c .before .before .before .before .before .before .before .before .before .loop .inv) _ (c .before .before .before .before .before .before .fetch .ensures) _ (c .before .before .before .before .before .encode-leaf .ensures .refuses (c .before .if1 .taken))))
+returns c = refuse (c .before .before .before .before .before .encode-leaf .result .refused) (c .refusal .ensures) (c .before .if1 .taken) (elements-stops (c .before .before .before .before .before .before .before .before .before .before .loop .inv) (c .before .before .before .before .before .before .before .before .before .loop-test .taken) _ (leaf-here (c .before .before .before .before .before .before .before .before .before .before .before .before .before .before .before .args .masks .now) (c .before .before .before .before .before .before .before .before .before .before .before .before .before .before .before .args .text .now) (c .before .before .before .before .before .before .before .before .before .before .before .before .before .before .before .args .page) (c .before .before .before .before .before .before .before .before .before .before .before .before .before .before .before .args .e) (c .before .before .before .before .before .before .before .before .before .before .loop .inv) _ (c .before .before .before .before .before .before .before .before .fetch .ensures) _ (c .before .before .before .before .before .encode-leaf .ensures .refuses (c .before .if1 .taken))))
 
 larger-requires : tie.Need-larger-requires Inv-loop μ-loop
 larger-requires c κs = search needs
@@ -54,19 +57,16 @@ sat-add-requires : tie.Need-sat-add-requires Inv-loop μ-loop
 sat-add-requires c κs = search needs
 
 same-length-2 : tie.Need-same-length-2 Inv-loop μ-loop
-same-length-2 c = c .before .before .before .before .before .before .before .before .before .encode-leaf .kept .1 .1 .0 ∙ c .before .before .before .before .before .before .before .before .before .before .before .before .before .loop .inv .same
+same-length-2 c = c .before .before .before .before .before .before .before .before .before .encode-leaf .kept .1 .1 .0 ∙ c .before .before .before .before .before .before .before .before .before .before .before .before .before .before .loop .inv .same
 
 returns-2 : tie.Need-returns-2 Inv-loop μ-loop
-returns-2 c = fine _ _ (elements-settles (c .before .before .before .before .before .before .before .before .before .before .before .before .before .loop .inv) (c .before .before .before .before .before .before .before .before .before .before .before .before .loop-test .taken) (c .before .before .before .before .before .before .before .before .before .encode-leaf .result) _ _ (leaf-here (c .before .before .before .before .before .before .before .before .before .before .before .before .before .before .before .before .before .before .args .masks .now) (c .before .before .before .before .before .before .before .before .before .before .before .before .before .before .before .before .before .before .args .text .now) (c .before .before .before .before .before .before .before .before .before .before .before .before .before .before .before .before .before .before .args .page) (c .before .before .before .before .before .before .before .before .before .before .before .before .before .before .before .before .before .before .args .e) (c .before .before .before .before .before .before .before .before .before .before .before .before .before .loop .inv) _ (c .before .before .before .before .before .before .before .before .before .before .fetch .ensures) _ (c .before .before .before .before .before .before .before .before .before .encode-leaf .ensures .fine (c .before .before .before .before .before .if1 .left))) (c .before .before .before .before .larger .ensures) _ (c .before .before .before .settles .ensures) (c .before .before .if2 .taken) _ _ (c .before .sat-mul .ensures) (c .sat-add .ensures))
+returns-2 c = fine _ _ (elements-settles (c .before .before .before .before .before .before .before .before .before .before .before .before .before .before .loop .inv) (c .before .before .before .before .before .before .before .before .before .before .before .before .before .loop-test .taken) (c .before .before .before .before .before .before .before .before .before .encode-leaf .result) _ _ (leaf-here (c .before .before .before .before .before .before .before .before .before .before .before .before .before .before .before .before .before .before .before .args .masks .now) (c .before .before .before .before .before .before .before .before .before .before .before .before .before .before .before .before .before .before .before .args .text .now) (c .before .before .before .before .before .before .before .before .before .before .before .before .before .before .before .before .before .before .before .args .page) (c .before .before .before .before .before .before .before .before .before .before .before .before .before .before .before .before .before .before .before .args .e) (c .before .before .before .before .before .before .before .before .before .before .before .before .before .before .loop .inv) _ (c .before .before .before .before .before .before .before .before .before .before .before .before .fetch .ensures) _ (c .before .before .before .before .before .before .before .before .before .encode-leaf .ensures .fine (c .before .before .before .before .before .if1 .left))) (c .before .before .before .before .larger .ensures) _ (c .before .before .before .settles .ensures) (c .before .before .if2 .taken) _ _ (c .before .sat-mul .ensures) (c .sat-add .ensures))
 
 sat-add-requires-2 : tie.Need-sat-add-requires-2 Inv-loop μ-loop
 sat-add-requires-2 c κs = search needs
 
 sat-add-requires-3 : tie.Need-sat-add-requires-3 Inv-loop μ-loop
 sat-add-requires-3 c κs = search needs
-
-item-end-requires : tie.Need-item-end-requires Inv-loop μ-loop
-item-end-requires c κs = search needs
 
 sub-left : tie.Need-sub-left Inv-loop μ-loop
 sub-left c = search needs
@@ -75,7 +75,7 @@ loop-less : tie.Need-loop-less Inv-loop μ-loop
 loop-less c = search needs
 
 loop-again : tie.Need-loop-again Inv-loop μ-loop
-loop-again c = elements-goes (c .before .before .before .before .before .before .before .before .before .before .before .before .before .before .loop .inv) (c .before .before .before .before .before .before .before .before .before .before .before .before .before .loop-test .taken) (c .before .before .before .before .before .before .before .before .before .before .encode-leaf .result) _ _ (leaf-here (c .before .before .before .before .before .before .before .before .before .before .before .before .before .before .before .before .before .before .before .args .masks .now) (c .before .before .before .before .before .before .before .before .before .before .before .before .before .before .before .before .before .before .before .args .text .now) (c .before .before .before .before .before .before .before .before .before .before .before .before .before .before .before .before .before .before .before .args .page) (c .before .before .before .before .before .before .before .before .before .before .before .before .before .before .before .before .before .before .before .args .e) (c .before .before .before .before .before .before .before .before .before .before .before .before .before .before .loop .inv) _ (c .before .before .before .before .before .before .before .before .before .before .before .fetch .ensures) _ (c .before .before .before .before .before .before .before .before .before .before .encode-leaf .ensures .fine (c .before .before .before .before .before .before .if1 .left))) (c .before .before .before .before .before .larger .ensures) _ (c .before .before .before .before .settles .ensures) (c .before .before .before .if2 .left) _ _ _ _ (c .before .before .before .before .before .before .before .before .before .before .encode-leaf .kept .1 .1 .0) (c .before .before .sat-add2 .ensures) (c .before .sat-add3 .ensures) (c .item-end .ensures) refl
+loop-again c = elements-goes (c .before .before .before .before .before .before .before .before .before .before .before .before .before .before .loop .inv) (c .before .before .before .before .before .before .before .before .before .before .before .before .before .loop-test .taken) (c .before .before .before .before .before .before .before .before .before .encode-leaf .result) _ _ (leaf-here (c .before .before .before .before .before .before .before .before .before .before .before .before .before .before .before .before .before .before .before .args .masks .now) (c .before .before .before .before .before .before .before .before .before .before .before .before .before .before .before .before .before .before .before .args .text .now) (c .before .before .before .before .before .before .before .before .before .before .before .before .before .before .before .before .before .before .before .args .page) (c .before .before .before .before .before .before .before .before .before .before .before .before .before .before .before .before .before .before .before .args .e) (c .before .before .before .before .before .before .before .before .before .before .before .before .before .before .loop .inv) _ (c .before .before .before .before .before .before .before .before .before .before .before .before .fetch .ensures) _ (c .before .before .before .before .before .before .before .before .before .encode-leaf .ensures .fine (c .before .before .before .before .before .if1 .left))) (c .before .before .before .before .larger .ensures) _ (c .before .before .before .settles .ensures) (c .before .before .if2 .left) _ _ _ _ (c .before .before .before .before .before .before .before .before .before .encode-leaf .kept .1 .1 .0) (c .before .sat-add2 .ensures) (c .sat-add3 .ensures) (c .before .before .before .before .before .before .before .before .before .before .before .item-end .ensures) refl
 
 same-length-3 : tie.Need-same-length-3 Inv-loop μ-loop
 same-length-3 c = c .before .loop .inv .same
@@ -91,6 +91,7 @@ encode-table-spec =
     μ-loop
     loop-holds
     fetch-requires
+    item-end-requires
     encode-leaf-requires
     refusal-requires
     same-length
@@ -103,7 +104,6 @@ encode-table-spec =
     returns-2
     sat-add-requires-2
     sat-add-requires-3
-    item-end-requires
     sub-left
     loop-less
     loop-again

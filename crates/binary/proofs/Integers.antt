@@ -13,7 +13,7 @@ use borrow.Author.Tests.{le-leb, lt-leb, leb-true, lt-ltb, le-ltb}
 use Rattle.lists.proofs.Table.{at}
 use Rattle.value.specs.declared.Number.{Number}
 use Rattle.value.specs.declared.Number.the-variants.{Of, Bad, Big}
-use Rattle.binary.specs.Binary.{widthOk, signedWord, integerOf}
+use Rattle.binary.specs.Binary.{halfOf, widthOk, signedWord, integerOf}
 use Rattle.binary.proofs.Words.{word-below}
 use Rattle.binary.specs.Bytes.{wordIn}
 
@@ -49,6 +49,9 @@ even k x = eqb (2 * x) (256 ^ (k + 1))
 pub half-is : (n : ℕ) → n ≤ 8 → halfAt n ≡ 256 ^ n / 2
 unfolding halves right
 half-is n h = eqb→eq (getD halves n 0) (256 ^ n / 2) (at right halves tt n (omega arith))
+
+pub half-known : (n : ℕ) → widthOk n ≡ true → halfOf n ≡ halfAt n
+half-known n ok = rw ok (sym (half-is n (width-high n ok)))
 
 pub half-twice : (n : ℕ) → 1 ≤ n → n ≤ 8 → 2 * halfAt n ≡ 256 ^ n
 unfolding behind even

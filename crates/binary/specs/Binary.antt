@@ -13,6 +13,10 @@ use Rattle.binary.specs.Bytes.{wordIn, bytesOf}
 abbrev pub widthOk : ℕ → Bool
 widthOk n = leb 1 n && leb n 8
 
+-- half of 256^n, for the widths of a Binary field
+abbrev pub halfOf : ℕ → ℕ
+halfOf n = cond (widthOk n) (256 ^ n / 2) 0
+
 -- two's complement over n bytes: from half of 256^n on, the number less 256^n
 abbrev pub signedWord : ℕ → ℕ → Number
 signedWord n v = cond (leb (256 ^ n / 2) v) (Of true (256 ^ n - v)) (Of false v)

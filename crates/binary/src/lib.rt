@@ -7,7 +7,7 @@ ghost use mathlib.Core.List.{List, [], _∷_, _++_};
 ghost use Prim.Native.Nat.{ℕ, _+_, _*_, _%_, _^_, _<_, _≤_};
 ghost use lib.ListN.{length, drop};
 ghost use Rattle.binary.specs.Bytes.{wordIn, bytesOf, bigFrom, littleOf, bigBytes, littleBytes};
-ghost use Rattle.binary.specs.Binary.{widthOk, signedWord, integerOf, integerBytes, boolOf, isFalse};
+ghost use Rattle.binary.specs.Binary.{halfOf, widthOk, signedWord, integerOf, integerBytes, boolOf, isFalse};
 
 fn wide(x: u8) -> u64
     ensures { λ r. ⌜ (r ≡ x) × (r < 256) ⌝ }
@@ -94,24 +94,30 @@ pub fn width_ok(width: usize) -> bool
     width <= 8
 }
 
-const HALVES: [u64; 9] = [
-    0,
-    0x80,
-    0x8000,
-    0x80_0000,
-    0x8000_0000,
-    0x80_0000_0000,
-    0x8000_0000_0000,
-    0x80_0000_0000_0000,
-    0x8000_0000_0000_0000,
-];
+// Half of 256^n, for the widths that a Binary field may have.
+pub fn half_of(n: usize) -> u64
+    ensures { λ r. ⌜ r ≡ halfOf n ⌝ }
+{
+    match n {
+        0 => 0,
+        1 => 0x80,
+        2 => 0x8000,
+        3 => 0x80_0000,
+        4 => 0x8000_0000,
+        5 => 0x80_0000_0000,
+        6 => 0x8000_0000_0000,
+        7 => 0x80_0000_0000_0000,
+        8 => 0x8000_0000_0000_0000,
+        _ => 0,
+    }
+}
 
 // A number of n bytes as two's complement.
 fn signed_word(n: usize, v: u64) -> Number
     requires { ⌜ (widthOk n ≡ true) × (v < 256 ^ n) ⌝ }
     ensures { λ r. ⌜ r ≡ signedWord n v ⌝ }
 {
-    let half = HALVES[n];
+    let half = half_of(n);
     if v < half {
         return Number::Of(false, v);
     }

@@ -156,24 +156,11 @@ fn fits_int(width: usize, sign: u32, negative: bool, size: u64) -> bool
     false
 }
 
-// Half of 256^width.
-const HALVES: [u64; 9] = [
-    0,
-    0x80,
-    0x8000,
-    0x80_0000,
-    0x8000_0000,
-    0x80_0000_0000,
-    0x8000_0000_0000,
-    0x80_0000_0000_0000,
-    0x8000_0000_0000_0000,
-];
-
 fn in_range(width: usize, signed: bool, negative: bool, size: u64) -> bool
     requires { ⌜ widthOk width ≡ true ⌝ }
     ensures { λ r. ⌜ r ≡ inRange width signed negative size ⌝ }
 {
-    let half = HALVES[width];
+    let half = binary::half_of(width);
     if signed {
         if negative {
             if size == 0 {

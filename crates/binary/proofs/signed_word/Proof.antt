@@ -8,26 +8,24 @@ use native.Mathlib.Numerals.{add-one}
 use borrow.Author.Tests.{lt-ltb, le-ltb, le-leb, lt-leb, eq-eqb, ne-eqb, eqb-true, eqb-false, ltb-true, ltb-false, leb-true, leb-false}
 use lib.Dec.{eqb, leb, ltb}
 use lib.ListN.{length, take, drop, getD, set, replicate, length-set, length-append, length-take, length-drop, length-replicate, length-map}
-use borrow.Author.Needs.{needs}
+use Rattle.value.specs.declared.Number.the-variants.{Of}
 use Rattle.binary.specs.Binary.{widthOk}
-use Rattle.binary.proofs.Integers.{width-low, width-high, half-twice, halfAt, below-half, from-half}
+use Rattle.binary.proofs.Integers.{width-low, width-high, half-twice, halfAt, half-known, below-half, from-half}
+use borrow.Author.Needs.{needs}
 use Rattle.binary.proofs.signed_word.Statement.{statement}
 use Rattle.binary.proofs.signed_word.Tie as tie
 
-mul-half : tie.Need-mul-half
-mul-half c = record { fits = omega (arith, width-high (c .args .n) (c .pre .0)) }
-
-array-read-half : tie.Need-array-read-half
-array-read-half c = omega (arith, width-high (c .args .n) (c .pre .0))
+half-of-requires : tie.Need-half-of-requires
+half-of-requires c κs = search needs
 
 returns : tie.Need-returns
-returns c = below-half (c .before .args .n) (c .before .args .v) (width-high (c .before .args .n) (c .before .pre .0)) (c .if1 .taken)
+returns c = below-half (c .before .before .args .n) (c .before .before .args .v) (width-high (c .before .before .args .n) (c .before .before .pre .0)) (omega (arith, c .if1 .taken, (c .before .half-of .ensures ∙ half-known (c .before .before .args .n) (c .before .before .pre .0))))
 
-sub-t10 : tie.Need-sub-t10
-sub-t10 c = omega (arith, half-twice (c .before .args .n) (width-low (c .before .args .n) (c .before .pre .0)) (width-high (c .before .args .n) (c .before .pre .0)), c .before .pre .1)
+sub-t6 : tie.Need-sub-t6
+sub-t6 c = omega (arith, (c .before .half-of .ensures ∙ half-known (c .before .before .args .n) (c .before .before .pre .0)), half-twice (c .before .before .args .n) (width-low (c .before .before .args .n) (c .before .before .pre .0)) (width-high (c .before .before .args .n) (c .before .before .pre .0)), c .before .before .pre .1)
 
 returns-2 : tie.Need-returns-2
-returns-2 c = from-half (c .before .args .n) (c .before .args .v) (width-low (c .before .args .n) (c .before .pre .0)) (width-high (c .before .args .n) (c .before .pre .0)) (c .before .pre .1) (c .if1 .left)
+returns-2 c = ap (λ h. Of true (h - ((c .before .before .args .v) - h))) (c .before .half-of .ensures ∙ half-known (c .before .before .args .n) (c .before .before .pre .0)) ∙ from-half (c .before .before .args .n) (c .before .before .args .v) (width-low (c .before .before .args .n) (c .before .before .pre .0)) (width-high (c .before .before .args .n) (c .before .before .pre .0)) (c .before .before .pre .1) (omega (arith, c .if1 .left, (c .before .half-of .ensures ∙ half-known (c .before .before .args .n) (c .before .before .pre .0))))
 
 pub signed-word-spec : {M : Type 1} → statement M
-signed-word-spec = tie.close (tie.spec mul-half array-read-half returns sub-t10 returns-2)
+signed-word-spec = tie.close (tie.spec half-of-requires returns sub-t6 returns-2)

@@ -164,11 +164,14 @@ fn set_count(layout: &[u32], counts: &mut [i64], name: u32, negative: bool, size
     put_word(counts, j * 2 + 1, stored(size));
 }
 
-// Int and Binary set the count for their name, where some table depends on one.
-fn sets_count(deps: bool, kind: u32) -> bool
-    ensures { λ r. ⌜ r ≡ (deps && (eqb kind 1 || eqb kind 2)) ⌝ }
+// An unrepeated Int or Binary sets the count for its name, where some table depends on one.
+fn sets_count(deps: bool, once: bool, kind: u32) -> bool
+    ensures { λ r. ⌜ r ≡ (deps && (once && (eqb kind 1 || eqb kind 2))) ⌝ }
 {
     if !deps {
+        return false;
+    }
+    if !once {
         return false;
     }
     if kind == 1 {
@@ -177,11 +180,10 @@ fn sets_count(deps: bool, kind: u32) -> bool
     kind == 2
 }
 
-// The count that an unrepeated scalar sets.
-pub fn note(layout: &[u32], counts: &mut [i64], deps: bool, e: Entry, v: Scalar)
-    ensures { λ _. ⌜ now (counts .exit) ≡ noteIn (now (layout .entry)) deps e true v (now (counts .entry)) ⌝ }
+pub fn note(layout: &[u32], counts: &mut [i64], deps: bool, e: Entry, once: bool, v: Scalar)
+    ensures { λ _. ⌜ now (counts .exit) ≡ noteIn (now (layout .entry)) deps e once v (now (counts .entry)) ⌝ }
 {
-    if sets_count(deps, e.kind) {
+    if sets_count(deps, once, e.kind) {
         match v {
             Scalar::Int(negative, size) => set_count(layout, counts, e.name, negative, size),
             _ => {}
@@ -373,7 +375,7 @@ fn place_lone(
     if o.refused != 0 {
         return o;
     }
-    note(layout, counts, deps, e, v);
+    note(layout, counts, deps, e, true, v);
     o
 }
 

@@ -26,13 +26,13 @@ same-length : tie.Need-same-length
 same-length c = search needs
 
 returns : tie.Need-returns
-returns c = note-int (c .before .before .before .before .before .before .before .before .before .args .layout .now) (c .before .before .before .before .before .before .before .before .before .args .deps) (c .before .before .before .before .before .before .before .before .before .args .e) true (c .before .before .before .before .before .before .before .before .before .args .counts .now) (c .before .before .before .before .before .before .before .sets-count .result) (c .before .before .before .before .before .before .before .sets-count .ensures) (c .before .before .before .before .before .before .if1 .taken) _ _ _ _ (c .before .before .before .before .v .given .1) (c .before .set-count .ensures)
+returns c = note-int (c .before .before .before .before .before .before .before .before .before .args .layout .now) (c .before .before .before .before .before .before .before .before .before .args .deps) (c .before .before .before .before .before .before .before .before .before .args .e) (c .before .before .before .before .before .before .before .before .before .args .once) (c .before .before .before .before .before .before .before .before .before .args .counts .now) (c .before .before .before .before .before .before .before .sets-count .result) (c .before .before .before .before .before .before .before .sets-count .ensures) (c .before .before .before .before .before .before .if1 .taken) _ _ _ _ (c .before .before .before .before .v .given .1) (c .before .set-count .ensures)
 
 returns-2 : tie.Need-returns-2
-returns-2 c = note-other (c .before .before .before .before .args .layout .now) (c .before .before .before .before .args .deps) (c .before .before .before .before .args .e) true (c .before .before .before .before .args .counts .now) (c .before .before .sets-count .result) (c .before .before .sets-count .ensures) (c .before .if1 .taken) _ (c .match .keys2)
+returns-2 c = note-other (c .before .before .before .before .args .layout .now) (c .before .before .before .before .args .deps) (c .before .before .before .before .args .e) (c .before .before .before .before .args .once) (c .before .before .before .before .args .counts .now) (c .before .before .sets-count .result) (c .before .before .sets-count .ensures) (c .before .if1 .taken) _ (c .match .keys2)
 
 returns-3 : tie.Need-returns-3
-returns-3 c = note-not (c .before .before .before .args .layout .now) (c .before .before .before .args .deps) (c .before .before .before .args .e) true (c .before .before .before .args .counts .now) (c .before .sets-count .result) (c .before .sets-count .ensures) (c .if1 .left) _
+returns-3 c = note-not (c .before .before .before .args .layout .now) (c .before .before .before .args .deps) (c .before .before .before .args .e) (c .before .before .before .args .once) (c .before .before .before .args .counts .now) (c .before .sets-count .result) (c .before .sets-count .ensures) (c .if1 .left) _
 
 pub note-spec : {M : Type 1} → statement M
 note-spec =

@@ -1,7 +1,7 @@
 -- Laws of the loops over a layout's entries.
 use mathlib.Core.Path.{_≡_, refl, sym, ap, _∙_}
 use mathlib.Core.Bool.{Bool, true, false, _&&_, _||_, not, cond, and-false}
-use mathlib.Core.List.{List}
+use mathlib.Core.List.{List, [], _∷_}
 use Prim.Native.Nat.{ℕ, zero, suc, _+_, _*_, _<_, _≤_, max}
 use native.Mathlib.Omega.{arith}
 use native.Mathlib.Numerals.{add-one}
@@ -119,3 +119,8 @@ length-starts n = omega arith
 pub length-is : (l : List ℕ) (i far : ℕ) → entryCount l ≤ i → furthest (part l 0 (entryCount l)) ≡ max far (furthest (part l i (entryCount l))) → far ≡ recordLength l
 unfolding recordLength
 length-is l i far h p = sym (p ∙ furthest-end l i (entryCount l) h far)
+
+-- one entry is a layout of its own
+pub alone : (e : Entry) (masks : ℕ) → entriesOk (e .name ∷ e .offset ∷ e .width ∷ e .kind ∷ e .occurs ∷ e .depending ∷ e .span ∷ e .p ∷ e .q ∷ e .r ∷ e .s ∷ e .mask ∷ []) masks ≡ entryOk e masks
+unfolding entriesOk allBelow entryAt
+alone e masks = refl

@@ -209,7 +209,7 @@ fn place_ok(e: Entry) -> bool
 }
 
 // Whether an entry's words, but for its span, are in range, with so many mask bytes.
-pub fn entry_ok(e: Entry, masks: usize) -> bool
+fn in_range(e: Entry, masks: usize) -> bool
     ensures { λ r. ⌜ r ≡ entryOk e masks ⌝ }
 {
     if !place_ok(e) {
@@ -224,12 +224,33 @@ fn entries_ok(layout: &[u32], masks: usize) -> bool
     let n = layout.len() / 12;
     let mut i = 0;
     while i < n {
-        if !entry_ok(load_inside(layout, i), masks) {
+        if !in_range(load_inside(layout, i), masks) {
             return false;
         }
         i += 1;
     }
     true
+}
+
+// The same for one entry, as a layout of its own: so that the test of an entry is compiled into the loop over a layout's entries alone.
+pub fn entry_ok(e: Entry, masks: usize) -> bool
+    ensures { λ r. ⌜ r ≡ entryOk e masks ⌝ }
+{
+    let words = [
+        e.name,
+        e.offset,
+        e.width,
+        e.kind,
+        e.occurs,
+        e.depending,
+        e.span,
+        e.p,
+        e.q,
+        e.r,
+        e.s,
+        e.mask,
+    ];
+    entries_ok(&words, masks)
 }
 
 // Whether an entry's span counts it and the n entries below it, which only a group may have.

@@ -22,11 +22,11 @@ loop-holds c = (omega arith, refl)
 load-inside-requires : tie.Need-load-inside-requires Inv-loop μ-loop
 load-inside-requires c κs = search needs
 
-entry-ok-requires : tie.Need-entry-ok-requires Inv-loop μ-loop
-entry-ok-requires c κs = search needs
+in-range-requires : tie.Need-in-range-requires Inv-loop μ-loop
+in-range-requires c κs = search needs
 
 returns : tie.Need-returns Inv-loop μ-loop
-returns c = entries-not (c .before .before .before .before .before .before .args .layout .now) _ _ (c .before .before .load-inside .result) _ (c .before .before .load-inside .ensures) (c .before .entry-ok .ensures) (c .before .before .before .loop-test .taken) (not-true _ (c .if1 .taken))
+returns c = entries-not (c .before .before .before .before .before .before .args .layout .now) _ _ (c .before .before .load-inside .result) _ (c .before .before .load-inside .ensures) (c .before .in-range .ensures) (c .before .before .before .loop-test .taken) (not-true _ (c .if1 .taken))
 
 add-i : tie.Need-add-i Inv-loop μ-loop
 add-i c = search needs
@@ -35,7 +35,7 @@ loop-less : tie.Need-loop-less Inv-loop μ-loop
 loop-less c = search needs
 
 loop-again : tie.Need-loop-again Inv-loop μ-loop
-loop-again c = (omega arith, entries-next (c .before .before .before .before .before .before .args .layout .now) _ _ (c .before .before .load-inside .result) _ (c .before .before .load-inside .ensures) (c .before .entry-ok .ensures) (c .before .before .before .before .loop .inv .1) (not-false _ (c .if1 .left)))
+loop-again c = (omega arith, entries-next (c .before .before .before .before .before .before .args .layout .now) _ _ (c .before .before .load-inside .result) _ (c .before .before .load-inside .ensures) (c .before .in-range .ensures) (c .before .before .before .before .loop .inv .1) (not-false _ (c .if1 .left)))
 
 returns-2 : tie.Need-returns-2 Inv-loop μ-loop
 returns-2 c = entries-all (c .before .before .before .args .layout .now) _ _ (c .loop-test .left) (c .before .loop .inv .0) (c .before .loop .inv .1)
@@ -48,7 +48,7 @@ entries-ok-spec =
     μ-loop
     loop-holds
     load-inside-requires
-    entry-ok-requires
+    in-range-requires
     returns
     add-i
     loop-less

@@ -1,8 +1,8 @@
 -- The laws by which a turn of a loop goes on in the definition.
 use mathlib.Core.Path.{_≡_, refl, sym, ap, ap₂, _∙_, subst}
-use mathlib.Core.Bool.{Bool, true, false, _||_, _&&_, not, cond, false≢true}
+use mathlib.Core.Bool.{Bool, true, false, _||_, _&&_, not, cond}
 use mathlib.Core.List.{List, [], _∷_, _++_, append-nil, append-assoc}
-use Prim.Native.Nat.{ℕ, zero, suc, _+_, _-_, _*_, _/_, _≤_, _<_, max}
+use Prim.Native.Nat.{ℕ, zero, suc, _+_, _-_, _/_, _≤_, _<_, max}
 use native.Mathlib.Omega.{arith}
 use lib.Dec.{eqb, leb}
 use lib.ListN.{length, take, drop}
@@ -321,14 +321,3 @@ module _ {S : Type 0} where
   pub leaf-takes : (k : Codec S) (r : List ℕ) (e : Entry) (name : ℕ) (once : Bool) (at room : ℕ) (s : S) (ws : List ℕ) (m t : ℕ) (s′ : S)
       → cond (isPad e) (pad r e at room s) (scalar k r e name once at room s) ≡ read ws m t s′ → t ≡ e .width
   leaf-takes k r e name once at room s ws m t s′ q = subst (Took (e .width)) q (leaf-took k r e name once at room s)
-
--- a single entry reserves its width
-pub single-reserves : (e : Entry) → single e ≡ true → reservedWidth e ≡ e .width
-unfolding single reservedWidth
-single-reserves e q = go (eqb (e .occurs) 4294967295) (eqb (e .depending) 4294967295) refl refl q
-  where
-    go : (a b : Bool) → eqb (e .occurs) 4294967295 ≡ a → eqb (e .depending) 4294967295 ≡ b → (not (not a) && not (not b)) ≡ true
-        → cond {A = ℕ} (not (eqb (e .depending) 4294967295)) 0 (e .width * cond (eqb (e .occurs) 4294967295) 1 (e .occurs)) ≡ e .width
-    go true true p q z = rw (p, q) (omega arith)
-    go true false p q z = absurd (false≢true z)
-    go false b p q z = absurd (false≢true z)

@@ -14,11 +14,12 @@ use Rattle.layout.specs.Layout.{entryAt, part, reservedWidth}
 use Rattle.spans.specs.Tree.{endOf}
 use Rattle.walks.specs.Walk.{single, Codec, Many, never, times, howMany}
 use Rattle.walks.specs.Reading.{Outcome, refused, read, Reader, wrap, inside, one, follow}
+use Rattle.walks.proofs.Single.{single-reserves}
 use Rattle.decode_leaf.specs.declared.Out.{Out}
 use Rattle.decode_leaf.specs.Capped.{sat, behind, field, seq}
 use Rattle.decode_leaf.specs.Machine.{Held, out, state, leafAt, headOf, headed, Listed, Fine, Met}
 use Rattle.decode_leaf.proofs.Meets.{refuse, fine}
-use Rattle.decode.proofs.Steps.{follow-none, follow-end, follow-follow, behind-none, behind-end, behind-behind, seq-end, seq-refused, seq-read, turns, turns-end, turns-refused, turns-empty, turns-read, leaf-takes, single-reserves}
+use Rattle.decode.proofs.Steps.{follow-none, follow-end, follow-follow, behind-none, behind-end, behind-behind, seq-end, seq-refused, seq-read, turns, turns-end, turns-refused, turns-empty, turns-read, leaf-takes}
 use Rattle.decode.proofs.Tail.{lent, back, back-length, back-take}
 
 -- ---- a tail lent and come back

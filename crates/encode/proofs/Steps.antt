@@ -10,11 +10,12 @@ use borrow.Author.Tests.{eq-eqb, ne-eqb, eqb-true, leb-true}
 use Rattle.spans.specs.Tree.{Tree, none, node, endOf}
 use Rattle.spans.proofs.Tree.{tree-none, tree-at}
 use Rattle.layout.specs.declared.Entry.{Entry}
-use Rattle.layout.specs.Layout.{absent, entryAt, spanOf, isGroup, part, reservedWidth}
+use Rattle.layout.specs.Layout.{entryAt, spanOf, isGroup, part, reservedWidth}
 use Rattle.items.specs.declared.Item.{Item}
 use Rattle.items.specs.Items.{Values, headOf, membersOf, lookup}
 use Rattle.walks.specs.Walk.{single, isPad, Coded, unfit, bytes, Codec}
 use Rattle.walks.specs.Writing.{lay}
+use Rattle.walks.proofs.Single.{single-reserves}
 use Rattle.encode_leaf.specs.Laying.{sat, Laid, refused, laid, Layer, next, coded, leaf, inside, one, settled, elements, table, field, seq, start}
 use Rattle.encode_leaf.specs.Machine.{codec, spread}
 use Rattle.encode_leaf.proofs.Leaves.{leaf-pad}
@@ -87,20 +88,11 @@ module _ (e : Entry) (z : Bool) (y : z ≡ lone e) (f : z ≡ true) where
   pub lone-field : {S : Type 0} (k : Codec S) (room : ℕ) (inner : Layer) (vs : Values) (at : ℕ) (b : List ℕ) (it : Item) → it ≡ headOf vs → field k room e inner vs at b ≡ leaf k room e it at b
   lone-field k room inner vs at b it p = field-leaf k room e inner vs at b (parts .0) (parts .1 .0) it p
 
-  reserved : reservedWidth e ≡ e .width
-  unfolding single reservedWidth
-  reserved = go (eqb (e .occurs) absent) (eqb (e .depending) absent) (parts .1 .0)
-    where
-      go : (o d : Bool) → (not (not o) && not (not d)) ≡ true → cond (not d) 0 (e .width * cond o 1 (e .occurs)) ≡ e .width
-      go true true h = omega arith
-      go true false h = absurd (false≢true h)
-      go false d h = absurd (false≢true h)
-
   -- it takes what is reserved for it
   pub lone-shift : {S : Type 0} (k : Codec S) (room : ℕ) (it : Item) (at : ℕ) (b b′ : List ℕ) (past t shift : ℕ) → leaf k room e it at b ≡ laid b′ past t → shift ≤ 9223372036854775808
       → shift ≡ sat (shift + (t - reservedWidth e))
   unfolding leaf
-  lone-shift k room it at b b′ past t shift h s = omega (arith, taken-is room (e .width) at b (k .enc e it) b′ past t h, reserved)
+  lone-shift k room it at b b′ past t shift h s = omega (arith, taken-is room (e .width) at b (k .enc e it) b′ past t h, single-reserves e (parts .1 .0))
 
 -- ---- the value of a Pad does not matter
 

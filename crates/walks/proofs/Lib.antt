@@ -1,3 +1,4 @@
+pub mod Single
 pub mod Puts
 pub mod Goes
 pub mod Plainly

@@ -9,12 +9,12 @@ use lib.Pow.{pow-add}
 use lib.Dec.{leb, ltb}
 use lib.ListN.{length}
 use borrow.Author.Tests.{lt-ltb, le-leb, lt-leb}
-use Rattle.value.specs.declared.Number.the-variants.{Of, Bad, Big}
+use Rattle.value.specs.declared.Number.the-variants.{Of}
 use Rattle.value.specs.Word.{wordOf}
-use Rattle.binary.specs.Bytes.{wordIn, bytesOf}
+use Rattle.binary.specs.Bytes.{wordIn}
 use Rattle.binary.specs.Binary.{widthOk, integerOf, integerBytes}
 use Rattle.binary.proofs.Words.{word-back, bytes-length}
-use Rattle.binary.proofs.Integers.{width-low, width-high, half-is, half-twice, halfAt}
+use Rattle.binary.proofs.Integers.{width-low, width-high, half-is, half-twice}
 
 module _ (order n : ℕ) (ok : widthOk n ≡ true) where
   -- the number modulo 256^n is what stands in the field

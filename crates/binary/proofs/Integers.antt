@@ -1,13 +1,12 @@
 -- Two's complement by the width.
 use mathlib.Core.Path.{_≡_, refl, sym, ap, _∙_, subst}
 use mathlib.Core.List.{List, [], _∷_}
-use mathlib.Core.Bool.{Bool, true, false, _&&_, cond, true≢false, false≢true}
+use mathlib.Core.Bool.{Bool, true, false, _&&_, false≢true}
 use Prim.Native.Nat.{ℕ, zero, suc, _+_, _-_, _*_, _/_, _%_, _^_, _≤_, _<_}
 use native.Mathlib.Nat.{mod-eq-of-lt, lt-of-lt-of-le, pow-le-pow-right}
 use native.Mathlib.Numerals.{add-one}
 use native.Mathlib.Omega.{arith}
-use native.Mathlib.Decide.{decLe}
-use lib.Dec.{T, eqb, leb, ltb, eqb→eq, lit<, lit≤}
+use lib.Dec.{eqb, leb, ltb, eqb→eq, lit<}
 use lib.ListN.{length, getD}
 use borrow.Author.Tests.{le-leb, lt-leb, leb-true, lt-ltb, le-ltb}
 use Rattle.lists.proofs.Table.{at}

@@ -1,16 +1,15 @@
 -- Bytes read and written by the loops, and read back.
 use mathlib.Core.Path.{_≡_, refl, sym, ap, _∙_, subst}
 use mathlib.Core.Bool.{Bool, true, false, cond}
-use mathlib.Core.List.{List, [], _∷_, _++_, append-assoc, append-nil}
+use mathlib.Core.List.{List, [], _∷_, _++_, append-assoc}
 use Prim.Native.Nat.{ℕ, zero, suc, _+_, _-_, _*_, _/_, _%_, _^_, _≤_, _<_, suc-le-suc}
-use native.Mathlib.Nat.{not-suc-le-zero, le-of-suc-le-suc, mod-lt, mod-one, mod-eq-of-lt, pow-zero, pow-suc, pow-succ', add-mul, mul-assoc, add-assoc, zero-mul, zero-add, mul-comm, div-div-eq-div-mul, div-one, zero-lt-suc, div-lt-iff-lt-mul}
+use native.Mathlib.Nat.{not-suc-le-zero, le-of-suc-le-suc, mod-lt, mod-one, pow-zero, pow-suc, pow-succ', add-mul, mul-assoc, add-assoc, zero-mul, zero-add, div-div-eq-div-mul, div-one, zero-lt-suc}
 use native.Mathlib.Numerals.{add-one}
 use native.Mathlib.Omega.{arith}
 use lib.Arith.{mod-mul, digits-lt}
 use lib.Dec.{eqb, lit<}
-use lib.ListN.{length, getD, take, drop, set, drop-of-length-le}
+use lib.ListN.{length, getD, take, drop, set}
 use lib.Seq.{drop-cons, take-suc, take-suc-set, drop-length}
-use borrow.Author.Tests.{eq-eqb, ne-eqb}
 use Rattle.lists.proofs.Lists.{drop-set}
 use Rattle.binary.specs.Bytes.{bigFrom, littleOf, wordIn, bigBytes, littleBytes, bytesOf}
 

@@ -1,7 +1,7 @@
 -- A List around its elements, a Struct around its members, and the ways of one element.
 use mathlib.Core.Path.{_≡_, refl, sym, ap, ap₂, _∙_}
 use mathlib.Core.Bool.{Bool, true, false, _||_, _&&_, not, cond, false≢true}
-use mathlib.Core.List.{List, [], _∷_, _++_}
+use mathlib.Core.List.{List, _∷_}
 use Prim.Native.Nat.{ℕ, _+_, _-_, _/_, _<_, _≤_}
 use native.Mathlib.Omega.{arith}
 use lib.Dec.{eqb}
@@ -11,16 +11,15 @@ use lib.Seq.{length-take-le, drop-at}
 use borrow.Author.Tests.{eq-eqb, ne-eqb}
 use Rattle.layout.specs.declared.Entry.{Entry}
 use Rattle.spans.specs.Tree.{Tree}
-use Rattle.walks.specs.Walk.{single, Codec, Many, never, times, howMany}
+use Rattle.walks.specs.Walk.{single, Codec, Many, times, howMany}
 use Rattle.walks.specs.Reading.{Outcome, refused, read, Reader, wrap, inside, one}
 use Rattle.decode_leaf.specs.declared.Out.{Out}
-use Rattle.decode_leaf.specs.declared.Count.{Count}
 use Rattle.decode_leaf.specs.Counts.{heldIn}
 use Rattle.decode_leaf.specs.Capped.{table, field, seq}
-use Rattle.decode_leaf.specs.Machine.{Held, out, state, kept, leafAt, bare, headOf, headed, Listed, Counted, Fine, Met}
+use Rattle.decode_leaf.specs.Machine.{Held, out, state, kept, leafAt, bare, headOf, Listed, Fine, Met}
 use Rattle.decode_leaf.proofs.Meets.{refuse, fine}
 use Rattle.decode.proofs.Steps.{inside-room, turns, counts-to, field-is, field-refused, Capped, seq-most, one-most}
-use Rattle.decode.proofs.Tail.{lent, back}
+use Rattle.decode.proofs.Tail.{back}
 use Rattle.decode.proofs.Turns.{Written, tail, returned, returned-same, room-left, TurnsInv, turns-done, wrap-is, wrap-drop}
 
 -- ---- an entry's elements

@@ -1,13 +1,12 @@
 -- The questions before the walk, by the ways of the code that asks them.
-use mathlib.Core.Path.{_≡_, refl, sym, ap, _∙_}
-use mathlib.Core.Bool.{Bool, true, false, cond}
+use mathlib.Core.Path.{_≡_, refl}
+use mathlib.Core.Bool.{Bool, true, false}
 use mathlib.Core.List.{List}
 use Prim.Native.Nat.{ℕ, _*_, _/_, _≤_, _<_}
-use native.Mathlib.Omega.{arith}
 use lib.Dec.{eqb, leb}
 use lib.ListN.{length}
 use borrow.Author.Tests.{eq-eqb, ne-eqb, le-leb, lt-leb}
-use Rattle.layout.specs.Layout.{checkedOf, recordLength, entryCount}
+use Rattle.layout.specs.Layout.{checkedOf, recordLength}
 use Rattle.decode.specs.Asked.{askedOf}
 
 module _ (l masks : List ℕ) (page bytes work : ℕ) (deps : Bool) (c : ℕ) (p : c ≡ checkedOf l masks page) where

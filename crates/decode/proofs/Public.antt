@@ -1,22 +1,22 @@
 -- The whole call: what its answers and its buffers come to.
 use mathlib.Core.Path.{_≡_, refl, sym, ap, ap₂, _∙_}
 use mathlib.Core.Bool.{Bool, true, false, _&&_, _||_, cond}
-use mathlib.Core.List.{List, [], _∷_, _++_}
-use Prim.Native.Nat.{ℕ, _+_, _-_, _*_, _/_, _≤_, _<_}
+use mathlib.Core.List.{List, [], _++_}
+use Prim.Native.Nat.{ℕ, _+_, _-_, _≤_}
 use native.Mathlib.Omega.{arith}
 use lib.Dec.{eqb, leb}
 use lib.IntN.{ℤ, pos}
-use lib.ListN.{length, take, drop, replicate}
+use lib.ListN.{length, take, replicate}
 use lib.Seq.{length-take-le}
 use borrow.Author.Tests.{eq-eqb, ne-eqb, leb-true, eqb-true}
-use Rattle.layout.specs.Layout.{entryCount, entries, checkedOf, recordLength, dependsIn}
+use Rattle.layout.specs.Layout.{entries, checkedOf, recordLength, dependsIn}
 use Rattle.walks.specs.Kinds.{State, start, kinds}
 use Rattle.walks.specs.Reading as R
-use Rattle.walks.specs.Records.{Decoded, refused, decoded, most, workFor, longEnough, outcome, decodeRecord, numberOf, itemsOf, textsOf, filled}
+use Rattle.walks.specs.Records.{Decoded, refused, decoded, most, workFor, outcome, decodeRecord, numberOf, itemsOf, textsOf, filled}
 use Rattle.decode_leaf.specs.declared.Out.{Out}
-use Rattle.decode_leaf.specs.Machine.{Held, kept, state, Fine, Met}
+use Rattle.decode_leaf.specs.Machine.{Held, kept}
 use Rattle.decode_leaf.specs.Capped as C
-use Rattle.decode_walk.proofs.Stands.{Stands, stands-none}
+use Rattle.decode_walk.proofs.Stands.{stands-none}
 use Rattle.decode_walk.proofs.Alike.{Alike, both-refused, both-read, level}
 use Rattle.decode_walk.proofs.Joined.{Rel, joined}
 use Rattle.decode.specs.declared.Reading.{Reading}

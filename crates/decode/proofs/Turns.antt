@@ -1,23 +1,22 @@
 -- The invariants of the two loops, and what a turn makes of them; the items of Lists and Structs around what was read.
 use mathlib.Core.Path.{_≡_, refl, sym, ap, ap₂, _∙_}
 use mathlib.Core.Bool.{Bool, true, false, _&&_, not}
-use mathlib.Core.List.{List, [], _∷_, _++_, append-nil}
-use Prim.Native.Nat.{ℕ, zero, suc, _+_, _-_, _*_, _/_, _<_, _≤_, max}
+use mathlib.Core.List.{List, [], _∷_, _++_}
+use Prim.Native.Nat.{ℕ, zero, suc, _+_, _-_, _/_, _<_, _≤_, max}
 use native.Mathlib.Omega.{arith}
-use native.Mathlib.Numerals.{add-four}
 use lib.Dec.{eqb}
 use lib.IntN.{ℤ}
-use lib.ListN.{length, take, drop, length-drop, length-append, length-take, drop-of-length-le}
-use lib.Seq.{length-take-le, drop-append-le, drop-at}
+use lib.ListN.{length, take, drop, length-drop, length-take, drop-of-length-le}
+use lib.Seq.{length-take-le, drop-append-le}
 use Rattle.layout.specs.declared.Entry.{Entry}
 use Rattle.layout.specs.Layout.{entryAt, part, reservedWidth}
 use Rattle.spans.specs.Tree.{endOf}
-use Rattle.walks.specs.Walk.{single, Codec, Many, never, times, howMany}
-use Rattle.walks.specs.Reading.{Outcome, refused, read, Reader, wrap, inside, one, follow}
+use Rattle.walks.specs.Walk.{single, Codec}
+use Rattle.walks.specs.Reading.{Outcome, refused, read, Reader, wrap, one, follow}
 use Rattle.walks.proofs.Single.{single-reserves}
 use Rattle.decode_leaf.specs.declared.Out.{Out}
 use Rattle.decode_leaf.specs.Capped.{sat, behind, field, seq}
-use Rattle.decode_leaf.specs.Machine.{Held, out, state, leafAt, headOf, headed, Listed, Fine, Met}
+use Rattle.decode_leaf.specs.Machine.{Held, out, state, leafAt, Fine, Met}
 use Rattle.decode_leaf.proofs.Meets.{refuse, fine}
 use Rattle.decode.proofs.Steps.{follow-none, follow-end, follow-follow, behind-none, behind-end, behind-behind, seq-end, seq-refused, seq-read, turns, turns-end, turns-refused, turns-empty, turns-read, leaf-takes}
 use Rattle.decode.proofs.Tail.{lent, back, back-length, back-take}

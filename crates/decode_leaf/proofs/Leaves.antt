@@ -1,23 +1,22 @@
 -- How the reader's leaves come to what they promise.
 use mathlib.Core.Path.{_≡_, refl, sym, ap, ap₂, _∙_}
-use mathlib.Core.Bool.{Bool, true, false, _&&_, _||_, not, cond}
+use mathlib.Core.Bool.{Bool, true, false, _&&_, not, cond}
 use mathlib.Core.List.{List, [], _∷_, _++_, append-nil}
-use Prim.Native.Nat.{ℕ, suc, _+_, _-_, _/_, _≤_, _<_}
+use Prim.Native.Nat.{ℕ, _+_, _-_, _/_, _≤_}
 use native.Mathlib.Omega.{arith}
 use lib.Dec.{eqb, leb, ltb}
 use lib.ListN.{length, set, take, drop, length-drop, drop-of-length-le}
-use lib.Seq.{take-all, length-take-le}
-use borrow.Author.Tests.{lt-ltb, le-ltb, le-leb, lt-leb, eq-eqb, ne-eqb, eqb-true, eqb-false, leb-true, leb-false}
+use lib.Seq.{take-all}
+use borrow.Author.Tests.{lt-ltb, le-leb, lt-leb, eq-eqb, ne-eqb, leb-true, leb-false}
 use Rattle.layout.specs.declared.Entry.{Entry}
 use Rattle.decode_scalar.specs.declared.Decoded.{Decoded}
 use Rattle.decode_scalar.specs.Decode.{says, answerOf, textAfter}
-use Rattle.walks.specs.Walk.{single, Many, never, times}
-use Rattle.decode_leaf.specs.declared.Out.{Out}
+use Rattle.walks.specs.Walk.{single, Many, times}
 use Rattle.decode_leaf.specs.declared.Count.{Count}
 use Rattle.value.specs.declared.Scalar.{Scalar}
 use Rattle.value.specs.Scalar.{tagOf, firstOf, secondOf}
 use Rattle.value.specs.declared.Scalar.the-variants.{Null, Text, Int, Decimal, Float as FloatV, FloatBits, Bool as BoolV}
-use Rattle.decode_leaf.specs.Machine.{bare, headOf, headed, Listed, Counted, movedIn, toldIn}
+use Rattle.decode_leaf.specs.Machine.{bare, headOf, Listed, Counted, movedIn, toldIn}
 
 pub put4 : (xs : List ℕ) (a b c d : ℕ) → 4 ≤ length xs → set (set (set (set xs 0 a) 1 b) 2 c) 3 d ≡ a ∷ b ∷ c ∷ d ∷ drop 4 xs
 put4 [] a b c d h = absurd (omega arith)

@@ -1,18 +1,18 @@
 -- How a function comes to its promise, `Met`: by a refusal, by what was read, by an item.
 use mathlib.Core.Path.{_≡_, refl, sym, ap, _∙_, subst⁻¹}
-use mathlib.Core.Bool.{Bool, true, false, _||_, not, cond}
-use mathlib.Core.List.{List, [], _∷_, _++_}
-use Prim.Native.Nat.{ℕ, _+_, _-_, _≤_, _<_}
+use mathlib.Core.Bool.{true, false, not, cond}
+use mathlib.Core.List.{List, [], _∷_}
+use Prim.Native.Nat.{ℕ, _-_, _≤_, _<_}
 use native.Mathlib.Omega.{arith}
 use lib.Dec.{leb}
 use lib.IntN.{ℤ}
-use lib.ListN.{length, take, drop, length-append, length-drop}
-use borrow.Author.Tests.{le-leb, lt-leb, leb-true, leb-false}
+use lib.ListN.{length, take, drop, length-drop}
+use borrow.Author.Tests.{le-leb, lt-leb}
 use Rattle.value.specs.declared.Scalar.{Scalar}
 use Rattle.value.specs.Scalar.{tagOf, firstOf, secondOf}
-use Rattle.walks.specs.Reading.{Outcome, refused, read, placed}
+use Rattle.walks.specs.Reading.{Outcome, refused, placed}
 use Rattle.decode_leaf.specs.declared.Out.{Out}
-use Rattle.decode_leaf.specs.Machine.{Held, out, state, leafIn, Fine, Met, Item, Placed}
+use Rattle.decode_leaf.specs.Machine.{Held, out, state, leafIn, Fine, Met, Placed}
 
 pub refuse : {o : Outcome Held} {r : Out} {items buffer : List ℕ} {run : List ℤ} (n : ℕ) → r .refused ≡ n → (n ≡ 0 → ⊥) → o ≡ refused n → Met o r items buffer run
 refuse n p f q = record { fine = λ z. absurd (f (sym p ∙ z)); refuses = λ _. q ∙ ap refused (sym p) }

@@ -1,19 +1,19 @@
 -- What the bytes of a field say, against what the code makes of it: a value that is said as a value is no text, and a refusal is never 0.
 use mathlib.Core.Path.{_≡_, refl, sym, ap, _∙_}
 use mathlib.Core.Bool.{Bool, true, false, _&&_, _||_, cond}
-use mathlib.Core.List.{List, [], _∷_, _++_, map}
+use mathlib.Core.List.{List, _++_, map}
 use Prim.Native.Nat.{ℕ, _+_, _-_, _%_, _≤_}
 use native.Mathlib.Omega.{arith}
 use lib.Dec.{eqb, leb}
 use lib.IntN.{ℤ}
 use lib.ListN.{length, take, drop, length-append, length-drop, take-append-drop}
 use lib.Seq.{length-take-le, take-append-add, take-append-seam}
-use borrow.Author.Tests.{eqb-true, le-leb, lt-leb, leb-true, leb-false}
+use borrow.Author.Tests.{le-leb, lt-leb, leb-true, leb-false}
 use Rattle.layout.specs.declared.Entry.{Entry}
 use Rattle.value.specs.declared.Number.{Number}
 use Rattle.value.specs.declared.Number.the-variants.{Of, Bad, Big}
 use Rattle.value.specs.declared.Scalar.{Scalar}
-use Rattle.value.specs.declared.Scalar.the-variants.{Null, Text, Int, Decimal, Float as FloatV, FloatBits, Bool as BoolV}
+use Rattle.value.specs.declared.Scalar.the-variants.{Null, Text, Float as FloatV, FloatBits, Bool as BoolV}
 use Rattle.ebcdic.specs.Ebcdic.{fromPage}
 use Rattle.text.specs.Text.{readText, front}
 use Rattle.display.specs.Display as Display

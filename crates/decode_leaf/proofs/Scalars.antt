@@ -1,13 +1,13 @@
 -- A scalar that is inside the record, and every entry but a group.
 use mathlib.Core.Path.{_≡_, refl, sym, ap, _∙_}
 use mathlib.Core.Bool.{Bool, true, false, not, cond}
-use mathlib.Core.List.{List, [], _++_}
-use Prim.Native.Nat.{ℕ, _+_, _-_, _≤_, _<_}
+use mathlib.Core.List.{List, _++_}
+use Prim.Native.Nat.{ℕ, _+_, _-_, _≤_}
 use native.Mathlib.Omega.{arith}
 use lib.Dec.{eqb, leb}
 use lib.IntN.{ℤ}
 use lib.ListN.{length, take, drop}
-use borrow.Author.Tests.{le-leb, lt-leb, leb-true, leb-false, eq-eqb, ne-eqb}
+use borrow.Author.Tests.{le-leb, leb-true, eq-eqb, ne-eqb}
 use Rattle.layout.specs.declared.Entry.{Entry}
 use Rattle.value.specs.declared.Scalar.{Scalar}
 use Rattle.decode_scalar.specs.declared.Decoded.{Decoded}
@@ -17,7 +17,7 @@ use Rattle.walks.specs.Walk.{isPad}
 use Rattle.walks.specs.Reading.{Outcome, refused, read, placed, scalar, pad}
 use Rattle.decode_leaf.specs.declared.Out.{Out}
 use Rattle.decode_leaf.specs.Counts.{noteIn}
-use Rattle.decode_leaf.specs.Machine.{Held, out, state, leafIn, leafOf, leafAt, dec, kept, movedIn, toldIn, Fine, Met, Element, Placed}
+use Rattle.decode_leaf.specs.Machine.{Held, out, state, leafIn, leafOf, leafAt, dec, kept, movedIn, toldIn, Met, Placed}
 use Rattle.decode_leaf.proofs.Meets.{refuse, fine, same-as, value-met}
 use Rattle.decode_leaf.proofs.Said.{Read, matches, refused-leaf, read-leaf}
 

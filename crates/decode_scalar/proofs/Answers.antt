@@ -1,22 +1,21 @@
 -- The answers for each kind are those of `says`.
-use mathlib.Core.Path.{_≡_, refl, sym, ap, _∙_}
-use mathlib.Core.List.{List, [], _∷_, _++_, map}
+use mathlib.Core.Path.{_≡_, refl, sym, _∙_}
+use mathlib.Core.List.{List}
 use mathlib.Core.Bool.{Bool, true, false, cond}
-use Prim.Native.Nat.{ℕ, _*_, _≤_, _<_}
-use lib.Dec.{eqb, leb}
-use lib.ListN.{length, drop}
+use Prim.Native.Nat.{ℕ}
+use lib.Dec.{leb}
+use lib.ListN.{length}
 use Rattle.value.specs.declared.Number.{Number}
 use Rattle.value.specs.declared.Number.the-variants.{Of, Bad, Big}
-use Rattle.value.specs.declared.Scalar.{Scalar}
 use Rattle.value.specs.declared.Scalar.the-variants.{Text}
 use Rattle.float.specs.declared.Parsed.{Parsed}
 use Rattle.float.specs.declared.Parsed.the-variants.{Value as Read, Bad as Unread}
 use Rattle.text.specs.declared.Put.{Put}
 use Rattle.text.specs.declared.Put.the-variants.{Length, Full}
-use Rattle.text.specs.Text.{putOf, putIn, front}
+use Rattle.text.specs.Text.{putOf}
 use Rattle.decode_scalar.specs.declared.Decoded.{Decoded}
 use Rattle.decode_scalar.specs.declared.Decoded.the-variants.{Value, Refused}
-use Rattle.decode_scalar.specs.Decode.{Says, refused, value, text, intSays, decimalSays, floatSays, answerOf, textAfter}
+use Rattle.decode_scalar.specs.Decode.{Says, text, intSays, decimalSays, floatSays, answerOf, textAfter}
 
 -- what is no text does not depend on the buffer, and leaves it
 pub record Plain (s : Says) : Type 0 where

@@ -1,15 +1,15 @@
 -- The walk with sums that stop and a state of its own, and the plain walk, come to the same: positions are the same or both past every
 -- record, the states stand for each other, and all else is equal. Each level of nesting costs 2^32 of the 2^63 at which sums stop,
 -- since reserved bytes are below 2^32.
-use mathlib.Core.Path.{_≡_, refl, sym, ap, ap₂, _∙_, subst}
+use mathlib.Core.Path.{_≡_, refl, sym, ap, _∙_}
 use mathlib.Core.Bool.{Bool, true, false, _&&_, _||_, cond, false≢true}
 use mathlib.Core.Logic.{_⊎_, inl, inr}
 use mathlib.Core.List.{List, [], _∷_, _++_}
-use Prim.Native.Nat.{ℕ, zero, suc, _+_, _-_, _*_, _/_, _<_, _≤_, min, max}
+use Prim.Native.Nat.{ℕ, zero, suc, _+_, _-_, _*_, _/_, _≤_, max}
 use native.Mathlib.Omega.{arith}
 use lib.Dec.{eqb, leb}
 use lib.ListN.{length, take, drop}
-use borrow.Author.Tests.{le-leb, lt-leb, leb-true, leb-false, ne-eqb}
+use borrow.Author.Tests.{lt-leb, leb-true, leb-false, ne-eqb}
 use Rattle.layout.specs.declared.Entry.{Entry}
 use Rattle.layout.specs.Layout.{isGroup, reservedWidth, spanOf}
 use Rattle.spans.specs.Tree.{Tree, none, node, size, spanOk, nested}

@@ -1,19 +1,19 @@
 -- The walk as the code goes is the plain walk of all kinds: counts in a run, noted only where some table depends on one.
-use mathlib.Core.Path.{_≡_, refl, sym, ap, _∙_}
+use mathlib.Core.Path.{_≡_, refl, ap, _∙_}
 use mathlib.Core.Bool.{Bool, true, false, _&&_, _||_, not, cond, false≢true}
-use mathlib.Core.Logic.{_⊎_, inl, inr}
+use mathlib.Core.Logic.{inl}
 use mathlib.Core.List.{List, [], _∷_, _++_, map}
-use Prim.Native.Nat.{ℕ, zero, suc, _+_, _-_, _*_, _<_, _≤_}
+use Prim.Native.Nat.{ℕ, zero, suc, _+_, _-_, _<_, _≤_}
 use native.Mathlib.Omega.{arith}
 use lib.Dec.{eqb, leb, ltb}
 use lib.IntN.{ℤ}
 use lib.ListN.{length}
 use borrow.Author.Tests.{eqb-true, ltb-true}
 use Rattle.layout.specs.declared.Entry.{Entry}
-use Rattle.layout.specs.Layout.{present, entryAt, entryCount, spanOf, isGroup, part, entries, reservedWidth, checkedOf, dependsIn, someBelow}
+use Rattle.layout.specs.Layout.{present, entryAt, entryCount, spanOf, part, entries, checkedOf, dependsIn}
 use Rattle.layout.proofs.Laws.{some-at}
 use Rattle.layout.proofs.Lawful.{entry-lawful, spans-lawful, reserved-lawful}
-use Rattle.spans.specs.Tree.{Tree, none, node, treeIn, tree, endOf}
+use Rattle.spans.specs.Tree.{none, node, treeIn, tree, endOf}
 use Rattle.value.specs.declared.Number.{Number}
 use Rattle.value.specs.declared.Number.the-variants.{Of, Bad, Big}
 use Rattle.value.specs.declared.Scalar.{Scalar}
@@ -23,11 +23,11 @@ use Rattle.ebcdic.specs.Ebcdic.{fromPage}
 use Rattle.display.specs.Display as Display
 use Rattle.binary.specs.Binary.{integerOf}
 use Rattle.decode_scalar.specs.Decode.{Says, refused, value, text, says, flag, intSays}
-use Rattle.walks.specs.Walk.{Many, times, atMost, Leaf, bad, leaf, howMany}
+use Rattle.walks.specs.Walk.{Many, times, atMost, bad, leaf, howMany}
 use Rattle.walks.specs.Kinds as W
 use Rattle.walks.specs.Kinds.{Count, State, start, countOf, noted, kinds}
 use Rattle.walks.specs.Reading as R
-use Rattle.decode_leaf.specs.Counts.{first, setIn, noteOf, noteIn}
+use Rattle.decode_leaf.specs.Counts.{first, setIn, noteIn}
 use Rattle.decode_leaf.specs.Machine as M
 use Rattle.decode_leaf.specs.Machine.{Held, kept}
 use Rattle.decode_leaf.specs.Capped as C

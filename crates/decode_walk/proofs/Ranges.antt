@@ -1,18 +1,17 @@
 -- The numbers that Int and Binary fields say: one that is not negative is below 2^63.
-use mathlib.Core.Path.{_≡_, refl, sym, ap, _∙_}
-use mathlib.Core.Bool.{Bool, true, false, _&&_, _||_, cond, true≢false}
+use mathlib.Core.Path.{_≡_, refl, ap}
+use mathlib.Core.Bool.{Bool, true, false, _&&_, cond, true≢false}
 use mathlib.Core.List.{List, map}
 use Prim.Native.Nat.{ℕ, zero, suc, _+_, _-_, _/_, _^_, _<_, _≤_}
 use native.Mathlib.Omega.{arith}
 use lib.Dec.{eqb, ltb, leb}
 use lib.ListN.{length, getD, drop}
-use borrow.Author.Tests.{ltb-true, ltb-false, leb-true, leb-false, eqb-true}
+use borrow.Author.Tests.{ltb-true, ltb-false, leb-false}
 use Rattle.value.specs.declared.Number.{Number}
 use Rattle.value.specs.declared.Number.the-variants.{Of, Bad, Big}
 use Rattle.value.specs.Number.{numberIn}
 use Rattle.value.specs.Digits.{valueOf, isDigit, digitIn}
 use Rattle.lists.specs.Scan.{everyBy}
-use Rattle.ebcdic.specs.Ebcdic.{fromPage}
 use Rattle.display.specs.Display.{digitsIn, wholeOf, intIn, intOf, isSign, signAt, trimmed, restOf}
 use Rattle.binary.specs.Binary.{widthOk, signedWord, unsignedWord, integerOf}
 use Rattle.binary.specs.Bytes.{wordIn}

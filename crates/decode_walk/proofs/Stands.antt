@@ -1,5 +1,5 @@
 -- The run of counts stands for the list of the counts set: a name's two words stand at its first entry.
-use mathlib.Core.Path.{_≡_, refl, sym, ap, ap₂, _∙_}
+use mathlib.Core.Path.{_≡_, refl, sym, ap, _∙_}
 use mathlib.Core.Bool.{Bool, true, false, _&&_, cond}
 use mathlib.Core.List.{List, [], _∷_}
 use Prim.Native.Nat.{ℕ, zero, suc, _+_, _*_, _<_, _≤_, min}
@@ -8,9 +8,9 @@ use lib.Dec.{eqb, ltb}
 use lib.IntN.{ℤ, pos}
 use lib.ListN.{length, getD, set, replicate, length-set, length-replicate}
 use lib.Seq.{getD-set-same, getD-set-other}
-use borrow.Author.Tests.{eqb-true, eqb-false, eq-eqb}
+use borrow.Author.Tests.{eqb-true, eqb-false}
 use Rattle.layout.specs.Layout.{entryCount}
-use Rattle.walks.specs.Walk.{Many, never, times}
+use Rattle.walks.specs.Walk.{never, times}
 use Rattle.walks.specs.Kinds.{Count, look}
 use Rattle.decode_leaf.specs.Counts.{natOf, firstIn, first, statusOf, setIn, manyOf, heldIn}
 

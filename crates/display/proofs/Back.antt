@@ -1,29 +1,28 @@
 -- What is written into an Int or a Display field is read back, over any width and on either page.
 use mathlib.Core.Path.{_≡_, refl, sym, _∙_, ap}
 use mathlib.Core.List.{List, [], _∷_, _++_, map}
-use mathlib.Core.Bool.{Bool, true, false, _&&_, _||_, not, cond, and-false, false≢true}
-use Prim.Native.Nat.{ℕ, zero, suc, _+_, _-_, _*_, _^_, _<_, _≤_}
+use mathlib.Core.Bool.{Bool, true, false, _&&_, not, cond, and-false, false≢true}
+use Prim.Native.Nat.{ℕ, zero, suc, _+_, _-_, _^_, _<_, _≤_}
 use native.Mathlib.Nat.{not-suc-le-zero, le-of-suc-le-suc, zero-lt-suc}
 use native.Mathlib.Omega.{arith}
-use lib.Dec.{ltb, leb, eqb, lit<}
-use lib.ListN.{length, getD, take, drop, length-map, length-append}
-use borrow.Author.Tests.{lt-ltb, le-ltb, lt-leb, le-leb, eq-eqb, ne-eqb, eqb-true, eqb-false}
-use Rattle.value.specs.declared.Number.{Number}
-use Rattle.value.specs.declared.Number.the-variants.{Of, Bad, Big}
-use Rattle.value.specs.Digits.{valueOf, digitAt, digitsOf, limit, isDigit, digitIn}
+use lib.Dec.{ltb, leb, eqb}
+use lib.ListN.{length, getD, take, length-map, length-append}
+use borrow.Author.Tests.{lt-ltb, lt-leb, le-leb, ne-eqb}
+use Rattle.value.specs.declared.Number.the-variants.{Of}
+use Rattle.value.specs.Digits.{digitAt, digitsOf, limit, isDigit, digitIn}
 use Rattle.value.specs.Number.{numberIn}
 use Rattle.value.specs.Field.{lastOf}
 use Rattle.value.proofs.Digits.{digit-below, length-digits, value-of-digits}
 use Rattle.value.proofs.Answers.{numberIn-fits}
-use Rattle.lists.specs.Scan.{leftBy, rightBy, keepBy, everyBy}
+use Rattle.lists.specs.Scan.{rightBy, everyBy}
 use Rattle.lists.proofs.Scan.{left-kept, right-kept, keep-every}
 use Rattle.lists.proofs.Lists.{getD-map}
 use Rattle.ebcdic.specs.Ebcdic.{fromPage, ontoPage}
 use Rattle.ebcdic.proofs.Laws.{bytes-back, onto-byte}
-use Rattle.display.specs.Display.{isBlank, trimmed, isAscii, keptOf, withSign, isSeparate, isSign, signAt, restOf, digitsIn, wholeOf, intIn, intOf, decimalOf}
+use Rattle.display.specs.Display.{isBlank, trimmed, isAscii, keptOf, isSeparate, isSign, signAt, restOf, digitsIn, wholeOf, intIn, intOf, decimalOf}
 use Rattle.value.specs.Digits.{asciiOf, digitText}
 use Rattle.display.specs.Display.{roomFor, signByte, intFits, intBytes, hasSign, decimalFits}
-use Rattle.display.proofs.Writing.{room-some, room-below, separate-width}
+use Rattle.display.proofs.Writing.{room-some, room-below}
 
 -- ---- bytes that are no blanks: from + to 9
 

@@ -1,8 +1,8 @@
 -- How a reader from the left finds out what a text of digits spells: one turn of each loop, and its end.
 use mathlib.Core.Path.{_≡_, refl, sym, _∙_, ap}
-use mathlib.Core.List.{List, [], _∷_, _++_, map}
-use mathlib.Core.Bool.{Bool, true, false, _&&_, _||_, cond}
-use Prim.Native.Nat.{ℕ, zero, suc, _+_, _-_, _*_, _<_, _≤_, min}
+use mathlib.Core.List.{List, [], _∷_, map}
+use mathlib.Core.Bool.{Bool, true, false, cond}
+use Prim.Native.Nat.{ℕ, suc, _+_, _-_, _*_, _<_, _≤_, min}
 use native.Mathlib.Omega.{arith}
 use native.Mathlib.Numerals.{add-one}
 use lib.Dec.{ltb}
@@ -10,8 +10,8 @@ use lib.ListN.{length, getD, take, drop, drop-of-length-le, length-map}
 use lib.Seq.{drop-cons}
 use borrow.Author.Tests.{lt-ltb, le-ltb}
 use Rattle.value.specs.declared.Number.{Number}
-use Rattle.value.specs.declared.Number.the-variants.{Of, Bad, Big}
-use Rattle.value.specs.Digits.{valueFrom, valueOf, limit, capped, isDigit, digitIn}
+use Rattle.value.specs.declared.Number.the-variants.{Of, Bad}
+use Rattle.value.specs.Digits.{valueFrom, limit, capped, isDigit, digitIn}
 use Rattle.value.specs.Number.{numberIn, numberOf}
 use Rattle.value.proofs.Answers.{numberIn-capped}
 use Rattle.lists.specs.Scan.{leftBy, rightBy, keepBy, everyBy}

@@ -1,15 +1,14 @@
 -- What a reader finds out of a sign, separate or leading; and how an Int and a Display field are read by their parts.
 use mathlib.Core.Path.{_≡_, refl, sym, _∙_, ap}
-use mathlib.Core.List.{List, [], _∷_, _++_, map}
-use mathlib.Core.Bool.{Bool, true, false, _&&_, _||_, cond, false≢true}
-use Prim.Native.Nat.{ℕ, zero, suc, _+_, _-_, _*_, _^_, _<_, _≤_}
-use native.Mathlib.Nat.{zero-lt-suc, sub-zero}
+use mathlib.Core.List.{List, [], _∷_, map}
+use mathlib.Core.Bool.{Bool, true, false, cond, false≢true}
+use Prim.Native.Nat.{ℕ, zero, _+_, _-_, _^_, _<_, _≤_}
+use native.Mathlib.Nat.{sub-zero}
 use native.Mathlib.Omega.{arith}
-use lib.Dec.{ltb, eqb}
+use lib.Dec.{eqb}
 use lib.ListN.{length, getD, take, drop, length-map}
 use borrow.Author.Tests.{eq-eqb, ne-eqb}
-use Rattle.value.specs.declared.Number.{Number}
-use Rattle.value.specs.declared.Number.the-variants.{Of, Bad, Big}
+use Rattle.value.specs.declared.Number.the-variants.{Of, Bad}
 use Rattle.lists.proofs.Lists.{getD-map, map-take, map-drop, map-same}
 use Rattle.lists.proofs.Scan.{tail-part}
 use Rattle.ebcdic.specs.Ebcdic.{fromPage}

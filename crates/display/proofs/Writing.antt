@@ -1,16 +1,16 @@
 -- How a writer from the right makes a text of digits; and whether a size has room.
 use mathlib.Core.Path.{_≡_, refl, sym, _∙_, ap}
 use mathlib.Core.List.{List, [], _∷_, _++_, map}
-use mathlib.Core.Bool.{Bool, true, false, _&&_, _||_, not, cond, false≢true}
-use Prim.Native.Nat.{ℕ, zero, suc, _+_, _-_, _*_, _/_, _%_, _^_, _<_, _≤_}
+use mathlib.Core.Bool.{Bool, true, false, not, false≢true}
+use Prim.Native.Nat.{ℕ, zero, suc, _+_, _-_, _/_, _%_, _^_, _<_, _≤_}
 use native.Mathlib.Nat.{div-one, sub-zero, pow-zero, pow-le-pow-right, lt-of-lt-of-le}
 use native.Mathlib.Omega.{arith}
 use lib.Dec.{ltb, eqb, lit<, lit≤}
-use lib.ListN.{length, getD, take, drop, set, drop-of-length-le, length-map, length-drop, length-append}
+use lib.ListN.{length, take, drop, set, drop-of-length-le, length-map, length-drop, length-append}
 use lib.Seq.{length-take-le}
 use native.Mathlib.Decide.{decLt}
 use borrow.Author.Tests.{lt-ltb, le-ltb, lt-leb, le-leb, eq-eqb, ne-eqb, ltb-true}
-use Rattle.value.specs.Digits.{digitAt, digitsOf}
+use Rattle.value.specs.Digits.{digitsOf}
 use Rattle.value.specs.Word.{powerTen}
 use Rattle.value.proofs.Digits.{next-place, length-digits}
 use Rattle.value.proofs.Word.{power-is}

@@ -6,14 +6,12 @@ use lib.Dec.{T, eqb, ltb, eqb→eq, ltb→lt, lit<}
 use lib.ListN.{getD}
 use Rattle.ebcdic.specs.Ebcdic.{asciiTable, ebcdicTable, toAscii, toEbcdic, fromPage, ontoPage}
 use Rattle.ebcdic.specs.Words.{eight, byteAt}
-use Rattle.lists.proofs.Table.{at, both}
-use Rattle.lists.proofs.Lists.{getD-map}
-use mathlib.Core.Path.{refl, sym, ap, _∙_, subst}
+use Rattle.lists.proofs.Table.{at}
+use mathlib.Core.Path.{refl, sym, ap, _∙_}
 use mathlib.Core.Bool.{true, false, cond}
-use mathlib.Core.List.{List, [], _∷_, _++_, map}
+use mathlib.Core.List.{List, [], _∷_, map}
 use Prim.Native.Nat.{zero, suc, suc-le-suc}
 use native.Mathlib.Nat.{zero-lt-suc}
-use native.Mathlib.Omega.{arith}
 use borrow.Author.Tests.{eq-eqb, ne-eqb, eqb-true, eqb-false}
 use lib.ListN.{length}
 

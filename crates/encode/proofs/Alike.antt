@@ -1,16 +1,16 @@
 -- Missing elements that go alike: one that puts nothing does so at every position, with the same bytes taken.
 use mathlib.Core.Path.{_≡_, refl, sym, ap, ap₂, _∙_}
-use mathlib.Core.Bool.{Bool, true, false, _&&_, _||_, cond, false≢true}
+use mathlib.Core.Bool.{Bool, true, false, cond, false≢true}
 use mathlib.Core.List.{List, [], _∷_, _++_}
-use Prim.Native.Nat.{ℕ, zero, suc, _+_, _-_, _*_, _≤_, _<_, max}
+use Prim.Native.Nat.{ℕ, zero, suc, _+_, _-_, _*_}
 use native.Mathlib.Omega.{arith}
 use native.Mathlib.Nat.{zero-mul, suc-mul, add-comm}
-use lib.Dec.{eqb, leb}
+use lib.Dec.{leb}
 use lib.ListN.{length}
 use Rattle.layout.specs.declared.Entry.{Entry}
-use Rattle.layout.specs.Layout.{isGroup, present, reservedWidth}
+use Rattle.layout.specs.Layout.{isGroup, reservedWidth}
 use Rattle.spans.specs.Tree.{Tree, none, node}
-use Rattle.items.specs.Items.{Values, count, headOf, membersOf, restOf, lookup}
+use Rattle.items.specs.Items.{headOf, lookup}
 use Rattle.walks.specs.Walk.{single, Coded, unfit, bytes, Codec}
 use Rattle.walks.specs.Writing.{Put, Wrote, refused, wrote, Writer, next, behind, follow, coded, one, elements, tableLength, table, field, seq}
 

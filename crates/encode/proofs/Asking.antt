@@ -1,22 +1,22 @@
 -- The questions before the walk.
 use mathlib.Core.Path.{_≡_, refl, sym, ap, ap₂, _∙_}
-use mathlib.Core.Bool.{Bool, true, false, _&&_, _||_, cond, false≢true}
+use mathlib.Core.Bool.{Bool, true, false, _||_, cond, false≢true}
 use mathlib.Core.List.{List}
-use Prim.Native.Nat.{ℕ, _+_, _-_, _*_, _/_, _<_, _≤_, min}
+use Prim.Native.Nat.{ℕ, _-_, _*_, _/_, _<_, _≤_, min}
 use native.Mathlib.Omega.{arith}
 use native.Mathlib.Decide.{decLt}
 use lib.Dec.{eqb, leb, ltb}
 use lib.ListN.{length}
 use borrow.Author.Tests.{ne-eqb, eq-eqb, lt-leb, le-leb, lt-ltb, le-ltb}
-use Rattle.spans.specs.Tree.{Tree, none, node, endOf}
+use Rattle.spans.specs.Tree.{none, node, endOf}
 use Rattle.spans.proofs.Tree.{tree-none, tree-at}
 use Rattle.layout.specs.declared.Entry.{Entry}
-use Rattle.layout.specs.Layout.{entryAt, spanOf, part, entries, entryCount, checkedOf, recordLength}
+use Rattle.layout.specs.Layout.{entryAt, spanOf, part, entries, checkedOf, recordLength}
 use Rattle.items.specs.Items as Items
 use Rattle.items.specs.Items.{Values, values, headOf, restOf, lookup, wellFormed}
 use Rattle.items.proofs.Items.{values-none, values-node, rest-is}
 use Rattle.walks.specs.Walk.{isPad}
-use Rattle.walks.specs.Records.{found, supplied, most, workFor}
+use Rattle.walks.specs.Records.{found, supplied, most}
 use Rattle.encode.specs.Asked.{askedOf, sought, passed}
 use Rattle.encode.specs.Order.{heads}
 use Rattle.encode.proofs.Order.{lookup-heads}

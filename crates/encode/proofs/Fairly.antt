@@ -1,21 +1,21 @@
 -- What the laws of the walk take of a layout that passed its questions.
 use mathlib.Core.Path.{_≡_, refl, sym, ap, _∙_}
-use mathlib.Core.Bool.{Bool, true, false, _&&_, _||_, cond, false≢true}
+use mathlib.Core.Bool.{Bool, true, false, cond, false≢true}
 use mathlib.Core.List.{List, []}
-use Prim.Native.Nat.{ℕ, zero, suc, _+_, _-_, _≤_, _<_, min, max}
+use Prim.Native.Nat.{ℕ, zero, suc, _-_, _≤_, _<_}
 use native.Mathlib.Omega.{arith}
 use lib.Dec.{eqb, leb, ltb}
 use lib.ListN.{length}
 use borrow.Author.Tests.{leb-true, eqb-true, ltb-true}
-use Rattle.spans.specs.Tree.{Tree, none, node, endOf, treeIn, tree}
+use Rattle.spans.specs.Tree.{none, node, endOf, treeIn, tree}
 use Rattle.spans.proofs.Tree.{and-right}
 use Rattle.layout.specs.declared.Entry.{Entry}
-use Rattle.layout.specs.Layout.{entryAt, entryCount, spanOf, part, entries, plainOk, boolOk, kindOk, entryOk, checkedOf}
+use Rattle.layout.specs.Layout.{entryAt, entryCount, spanOf, part, plainOk, boolOk, kindOk, entryOk, checkedOf}
 use Rattle.layout.proofs.Lawful.{entry-lawful, kind-lawful, width-lawful, reserved-lawful}
 use Rattle.items.specs.declared.Item.{Item}
 use Rattle.walks.specs.Walk.{Coded, unfit, bytes}
-use Rattle.walks.specs.Kinds.{enc, codedOf}
-use Rattle.encode_leaf.specs.Machine.{codec, putting, putWidth, judged, bytesIn}
+use Rattle.walks.specs.Kinds.{enc}
+use Rattle.encode_leaf.specs.Machine.{codec, putWidth, judged, bytesIn}
 use Rattle.encode_leaf.proofs.Leaves.{bytes-long}
 use Rattle.encode.proofs.Spread.{Fair, AllFair}
 

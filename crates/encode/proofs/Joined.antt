@@ -1,9 +1,9 @@
 -- The writer of the loops does the puts of the plain one: what stops at 2^63 is past 65,536, where every byte is refused, and what is settled at once goes alike.
 use mathlib.Core.Path.{_≡_, refl, sym, ap, ap₂, _∙_, subst⁻¹}
-use mathlib.Core.Bool.{Bool, true, false, _&&_, _||_, cond, false≢true}
+use mathlib.Core.Bool.{Bool, true, false, _||_, cond}
 use mathlib.Core.List.{List, [], _∷_, _++_}
 use mathlib.Core.Logic.{_⊎_, inl, inr}
-use Prim.Native.Nat.{ℕ, zero, suc, _+_, _-_, _*_, _<_, _≤_, min, max}
+use Prim.Native.Nat.{ℕ, zero, suc, _+_, _-_, _*_, _<_, _≤_, max}
 use native.Mathlib.Omega.{arith}
 use native.Mathlib.Decide.{decLt}
 use native.Mathlib.Nat.{zero-mul, suc-mul, add-comm, mul-zero}
@@ -18,7 +18,7 @@ use Rattle.walks.specs.Walk.{single, Coded, unfit, bytes, Codec}
 use Rattle.walks.specs.Writing as W
 use Rattle.walks.specs.Writing.{Put, reach, lay, apply, Wrote, wrote, Writer, tableLength}
 use Rattle.encode_leaf.specs.Laying as L
-use Rattle.encode_leaf.specs.Laying.{sat, Laid, laid, Layer, missing, settled}
+use Rattle.encode_leaf.specs.Laying.{sat, Laid, laid, Layer, settled}
 use Rattle.encode.proofs.Spread.{Fair, AllFair, Lies, In, Keeps, one-in, seq-in}
 use Rattle.encode.proofs.Alike.{Even, one-even, seq-even, repeated, bare, still}
 

@@ -1,15 +1,15 @@
 -- Writing a field changes only the bytes of its stretch.
 use mathlib.Core.Path.{_≡_, refl, sym, ap, _∙_, subst}
 use mathlib.Core.List.{List, [], _∷_, _++_}
-use Prim.Native.Nat.{ℕ, zero, suc, _+_, _-_, _≤_, _<_}
+use Prim.Native.Nat.{ℕ, _+_, _-_, _≤_}
 use native.Mathlib.Omega.{arith}
 use lib.ListN.{length, take, drop, length-take}
 use lib.Seq.{take-at, drop-at, drop-drop, take-take, length-take-le}
 use Rattle.layout.specs.Layout.{entryAt, part}
-use Rattle.walks.specs.Writing.{Put, lay, apply, Wrote, wrote, seq}
+use Rattle.walks.specs.Writing.{Put, lay, apply, seq}
 use Rattle.walks.proofs.Puts.{apply-length}
 use Rattle.encode_leaf.specs.Machine.{codec}
-use Rattle.encode.specs.Local.{Outside, Local}
+use Rattle.encode.specs.Local.{Local}
 use Rattle.encode.proofs.Spread.{Lies, In, field-in, seq-in}
 use Rattle.encode.proofs.Fairly.{fair-at, fair-part}
 

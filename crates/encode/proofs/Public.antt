@@ -1,27 +1,25 @@
 -- From the walk to the public function.
 use mathlib.Core.Path.{_≡_, refl, sym, ap, ap₂, _∙_, subst}
-use mathlib.Core.Bool.{Bool, true, false, _&&_, _||_, cond, false≢true}
-use mathlib.Core.List.{List, [], _∷_, _++_, append-nil}
-use Prim.Native.Nat.{ℕ, zero, suc, _+_, _-_, _*_, _/_, _≤_, _<_, min, max}
+use mathlib.Core.Bool.{Bool, true, false, cond, false≢true}
+use mathlib.Core.List.{List, [], _∷_, _++_}
+use Prim.Native.Nat.{ℕ, zero, suc, _+_, _-_, _/_, _≤_, min, max}
 use native.Mathlib.Omega.{arith}
 use native.Mathlib.Nat.{le-refl}
 use lib.Dec.{eqb, leb}
-use lib.IntN.{ℤ}
-use lib.ListN.{length, take, drop, replicate, length-append, length-replicate}
+use lib.ListN.{length, take, drop, replicate, length-replicate}
 use lib.Seq.{take-append-le}
 use borrow.Author.Tests.{leb-true, eqb-true}
 use Rattle.layout.specs.Layout.{part, entries, entryCount, checkedOf, recordLength}
 use Rattle.items.specs.Items.{values, wellFormed}
-use Rattle.walks.specs.Records.{most, workFor, filled, supplied, Encoded, refused, encoded, finish, encodeRecord, refusalOf, bytesOf}
+use Rattle.walks.specs.Records.{most, workFor, filled, supplied, Encoded, refused, finish, encodeRecord, refusalOf, bytesOf}
 use Rattle.walks.specs.Writing as W
 use Rattle.walks.specs.Writing.{Put, reach, lay, apply, Wrote, wrote}
 use Rattle.walks.proofs.Puts.{apply-length}
-use Rattle.encode_leaf.specs.declared.Out.{Out}
 use Rattle.encode_leaf.specs.Laying as L
 use Rattle.encode_leaf.specs.Laying.{Laid, laid, start}
 use Rattle.encode_leaf.specs.Machine.{codec, roomIn}
 use Rattle.encode.specs.Asked.{askedOf}
-use Rattle.encode.proofs.Spread.{Lies, In, lies-reach, seq-in}
+use Rattle.encode.proofs.Spread.{In, lies-reach, seq-in}
 use Rattle.encode.proofs.Joined.{stretch, stretch-reach, done, start-does}
 use Rattle.encode.proofs.Fairly.{fair-part}
 

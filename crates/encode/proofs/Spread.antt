@@ -1,17 +1,17 @@
 -- Where the puts of a part of the walk lie: from its position on, within the bytes it takes, and inside the room.
-use mathlib.Core.Path.{_≡_, refl, sym, ap, _∙_}
-use mathlib.Core.Bool.{Bool, true, false, _&&_, _||_, cond, false≢true}
+use mathlib.Core.Path.{_≡_, refl, ap}
+use mathlib.Core.Bool.{Bool, true, false, cond}
 use mathlib.Core.List.{List, [], _∷_, _++_}
-use Prim.Native.Nat.{ℕ, zero, suc, _+_, _-_, _≤_, _<_, max}
+use Prim.Native.Nat.{ℕ, zero, suc, _+_, _-_, _≤_, max}
 use native.Mathlib.Omega.{arith}
 use lib.Dec.{eqb, leb}
 use lib.ListN.{length}
 use borrow.Author.Tests.{leb-true}
 use Rattle.layout.specs.declared.Entry.{Entry}
-use Rattle.layout.specs.Layout.{isGroup, present, reservedWidth}
+use Rattle.layout.specs.Layout.{isGroup, reservedWidth}
 use Rattle.spans.specs.Tree.{Tree, none, node}
 use Rattle.items.specs.declared.Item.{Item}
-use Rattle.items.specs.Items.{Values, count, headOf, membersOf, restOf, lookup}
+use Rattle.items.specs.Items.{Values, headOf, membersOf, restOf, lookup}
 use Rattle.walks.specs.Walk.{single, Coded, unfit, bytes, Codec}
 use Rattle.walks.specs.Writing.{Put, reach, Wrote, refused, wrote, Writer, next, behind, follow, coded, one, elements, tableLength, table, field, seq}
 

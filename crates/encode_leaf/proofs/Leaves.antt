@@ -1,8 +1,8 @@
 -- One scalar or Pad, judged and put into its stretch of the record.
 use mathlib.Core.Path.{_≡_, refl, sym, ap, ap₂, _∙_}
-use mathlib.Core.Bool.{Bool, true, false, _&&_, not, cond}
-use mathlib.Core.List.{List, [], _∷_, _++_}
-use Prim.Native.Nat.{ℕ, zero, suc, _+_, _-_, _*_, _/_, _<_, _≤_, min}
+use mathlib.Core.Bool.{Bool, true, false, not, cond}
+use mathlib.Core.List.{List, [], _++_}
+use Prim.Native.Nat.{ℕ, suc, _+_, _-_, _*_, _/_, _<_, _≤_, min}
 use native.Mathlib.Omega.{arith}
 use native.Mathlib.Numerals.{add-one}
 use native.Mathlib.Decide.{decLt}
@@ -17,11 +17,11 @@ use Rattle.items.specs.declared.Item.{Item}
 use Rattle.value.specs.declared.Scalar.{Scalar}
 use Rattle.encode_scalar.specs.Encode.{judgedOf, bytesOf, numberJudged, numberBytes, partAfter}
 use Rattle.encode_scalar.proofs.Parts.{whole}
-use Rattle.walks.specs.Walk.{single, Coded, unfit, bytes}
+use Rattle.walks.specs.Walk.{single, unfit, bytes}
 use Rattle.walks.specs.Writing.{lay}
-use Rattle.walks.specs.Kinds.{maskOf, textOf, scalarIn, codedOf, enc}
-use Rattle.encode_leaf.specs.Laying.{sat, Laid, refused, laid, coded, leaf}
-use Rattle.encode_leaf.specs.Machine.{codec, roomIn, putting, putWidth, masking, maskFor, judged, outside, bytesIn}
+use Rattle.walks.specs.Kinds.{maskOf, textOf, scalarIn, enc}
+use Rattle.encode_leaf.specs.Laying.{sat, refused, laid, coded, leaf}
+use Rattle.encode_leaf.specs.Machine.{codec, putting, putWidth, masking, maskFor, judged, outside, bytesIn}
 use Rattle.encode_leaf.proofs.Widths.{by-kind, wide}
 
 -- ---- products that stop

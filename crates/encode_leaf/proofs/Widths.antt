@@ -1,8 +1,8 @@
 -- The bytes of a scalar or Pad that is not refused: one of a Bool, and of all others as many as the field is wide.
 use mathlib.Core.Path.{_≡_, refl, sym, ap, _∙_}
-use mathlib.Core.Bool.{Bool, true, false, _&&_, cond, false≢true}
-use mathlib.Core.List.{List, [], _∷_, map}
-use Prim.Native.Nat.{ℕ, zero, suc, _+_, _%_, _≤_, _<_}
+use mathlib.Core.Bool.{Bool, true, false, cond, false≢true}
+use mathlib.Core.List.{List}
+use Prim.Native.Nat.{ℕ, zero, suc, _%_, _<_}
 use native.Mathlib.Omega.{arith}
 use lib.Dec.{eqb, leb}
 use lib.ListN.{length}
@@ -13,16 +13,14 @@ use Rattle.value.specs.declared.Number.the-variants.{Of, Bad, Big}
 use Rattle.text.specs.Shown.{Shows, shows, none, textIn, refusalAt}
 use Rattle.text.proofs.Back.{written-length, padded-length}
 use Rattle.display.specs.Display.{wholeIn, intFits}
-use Rattle.binary.specs.Binary.{widthOk}
 use Rattle.float.specs.declared.Floated.{Floated}
 use Rattle.float.specs.declared.Floated.the-variants.{Word, Refused as Unfloated}
 use Rattle.float.specs.Convert.{floatedOf, decimalFor}
-use Rattle.float.specs.Field.{fieldOk}
 use Rattle.hex.proofs.Back as HexBack
 use Rattle.edited.specs.Edited as Edited
 use Rattle.edited.proofs.Round as EditedRound
 use Rattle.decode_scalar.specs.Decode.{flag}
-use Rattle.encode_scalar.specs.Encode.{textBytes, intJudged, intWritten, binaryJudged, binaryWritten, floatJudged, floatWritten, hexText, hexJudged, hexWritten, boolIn, decimalFit, decimalJudged, decimalWritten, editedWritten, numberJudged, numberBytes, judgedOf, bytesOf}
+use Rattle.encode_scalar.specs.Encode.{textBytes, intJudged, intWritten, binaryJudged, binaryWritten, floatJudged, floatWritten, hexText, hexJudged, hexWritten, decimalFit, decimalJudged, decimalWritten, editedWritten, numberJudged, numberBytes, judgedOf, bytesOf}
 use Rattle.encode_scalar.proofs.Parts.{int-length, binary-length, float-length, decimal-length}
 use Rattle.encode_leaf.specs.Machine.{putting}
 

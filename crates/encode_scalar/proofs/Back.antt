@@ -1,23 +1,19 @@
 -- A value that fits a scalar field is accepted, and reading its bytes gives it back: every kind, any width, both pages. Demand 3 cites this.
 use mathlib.Core.Path.{_≡_, refl, sym, ap, _∙_}
-use mathlib.Core.List.{List, [], _∷_, map}
-use mathlib.Core.Bool.{Bool, true, false, not, _&&_, cond, and-false, false≢true}
-use Prim.Native.Nat.{ℕ, zero, suc, _-_, _*_, _/_, _%_, _^_, _<_, _≤_}
+use mathlib.Core.List.{List}
+use mathlib.Core.Bool.{Bool, true, false, _&&_, cond, and-false, false≢true}
+use Prim.Native.Nat.{ℕ, _-_, _*_, _/_, _%_, _^_, _<_, _≤_}
 use native.Mathlib.Nat.{mod-lt}
-use native.Mathlib.Omega.{arith}
-use lib.Dec.{eqb, leb, ltb, lit<}
+use lib.Dec.{eqb, ltb, lit<}
 use lib.Ieee.{binary64, nanBits, ofBits}
 use lib.ListN.{length}
-use borrow.Author.Tests.{lt-ltb, le-leb, eq-eqb, ne-eqb}
+use borrow.Author.Tests.{lt-ltb, eq-eqb}
 use Rattle.lists.specs.Scan.{everyBy}
-use Rattle.ebcdic.specs.Ebcdic.{fromPage, ontoPage}
 use Rattle.value.specs.declared.Number.{Number}
-use Rattle.value.specs.declared.Number.the-variants.{Of, Bad, Big}
+use Rattle.value.specs.declared.Number.the-variants.{Of}
 use Rattle.value.specs.declared.Scalar.{Scalar}
-use Rattle.value.specs.declared.Scalar.the-variants.{Null, Text, Int, Decimal, Float as FloatV, FloatBits, Bool as BoolV}
+use Rattle.value.specs.declared.Scalar.the-variants.{Text, Int, Decimal, Float as FloatV, FloatBits, Bool as BoolV}
 use Rattle.value.specs.Digits.{limit}
-use Rattle.value.specs.Number.{numberOf}
-use Rattle.value.specs.Rounding.{rescaled}
 use Rattle.value.specs.Scalar.{tagOf, firstOf, floatOf}
 use Rattle.value.proofs.Items.{float-first, float-tag}
 use Rattle.value.proofs.Rounding.{scale-same}
@@ -27,10 +23,9 @@ use Rattle.display.specs.Display as Display
 use Rattle.display.proofs.Back as DisplayBack
 use Rattle.binary.specs.Binary.{widthOk, integerOf, integerBytes, boolOf}
 use Rattle.binary.proofs.Back as BinaryBack
-use Rattle.float.specs.declared.Floated.{Floated}
 use Rattle.float.specs.declared.Floated.the-variants.{Word}
 use Rattle.float.specs.Convert.{floatedOf, decimalFor}
-use Rattle.float.specs.Field.{Exact, exact64, exact32, exact16, fieldOk, floatIn, floatBytes}
+use Rattle.float.specs.Field.{Exact, exact64, exact32, exact16, fieldOk}
 use Rattle.float.proofs.Back as FloatBack
 use Rattle.hex.specs.Hex as Hex
 use Rattle.hex.proofs.Back as HexBack
@@ -41,7 +36,7 @@ use Rattle.zoned.proofs.Back as ZonedBack
 use Rattle.edited.specs.Edited as Edited
 use Rattle.edited.specs.Fits as EditedFits
 use Rattle.edited.proofs.Round as EditedRound
-use Rattle.decode_scalar.specs.Decode.{Says, value, text, says, flag, intSays, decimalSays, floatSays}
+use Rattle.decode_scalar.specs.Decode.{Says, value, text, says, flag, intSays, decimalSays}
 use Rattle.encode_scalar.specs.Encode.{numberJudged, numberBytes, judgedOf, bytesOf}
 use Rattle.encode_scalar.specs.Fits.{Minus, Digits, plain, separate, InRange, unsigned, plus, minus, Fits, text-fits, int-fits, binary-fits, float-fits, hex-fits, bool-fits, display-fits, packed-fits, zoned-fits, edited-fits, saidOf}
 

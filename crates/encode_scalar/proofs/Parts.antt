@@ -1,26 +1,25 @@
 -- What each kind's writer leaves is the bytes of `bytesOf` at the front of the part, or the part as it was.
 use mathlib.Core.Path.{_≡_, refl, sym, ap, _∙_}
-use mathlib.Core.List.{List, [], _∷_, _++_, map, append-nil}
-use mathlib.Core.Bool.{Bool, true, false, _&&_, cond, false≢true}
-use Prim.Native.Nat.{ℕ, zero, suc, _+_, _-_, _*_, _/_, _≤_, _<_}
+use mathlib.Core.List.{List, [], _∷_, map, append-nil}
+use mathlib.Core.Bool.{Bool, true, false, cond, false≢true}
+use Prim.Native.Nat.{ℕ, _-_, _≤_, _<_}
 use native.Mathlib.Nat.{le-refl}
 use native.Mathlib.Omega.{arith}
-use lib.Dec.{eqb, leb, ltb}
-use lib.ListN.{length, drop, set, length-map, length-replicate, replicate}
+use lib.Dec.{eqb, leb}
+use lib.ListN.{length, drop, set, length-map}
 use lib.Seq.{drop-length}
-use borrow.Author.Tests.{le-leb, lt-leb, leb-true, eq-eqb, ne-eqb, eqb-true}
+use borrow.Author.Tests.{le-leb, lt-leb, leb-true, eqb-true}
 use Rattle.value.specs.declared.Number.{Number}
 use Rattle.value.specs.declared.Number.the-variants.{Of, Bad, Big}
 use Rattle.ebcdic.specs.Ebcdic.{ontoPage}
-use Rattle.text.specs.Text.{written, writtenIn, padded, front}
+use Rattle.text.specs.Text.{written}
 use Rattle.text.specs.Shown.{Shows, shows, none, refusalAt, encodedIn}
-use Rattle.text.proofs.Back.{written-length, padded-length}
-use Rattle.display.specs.Display.{intFits, intBytes, decimalFits, roomFor, hasSign}
+use Rattle.text.proofs.Back.{written-length}
+use Rattle.display.specs.Display.{intFits, intBytes, decimalFits, hasSign}
 use Rattle.display.proofs.Back.{length-bytes, decimal-fits}
-use Rattle.binary.specs.Binary.{widthOk, integerBytes}
-use Rattle.binary.specs.Bytes.{bytesOf}
+use Rattle.binary.specs.Binary.{integerBytes}
 use Rattle.binary.proofs.Words.{bytes-length}
-use Rattle.float.specs.Field.{fieldOk, floatBytes}
+use Rattle.float.specs.Field.{floatBytes}
 use Rattle.hex.specs.Hex as Hex
 use Rattle.hex.proofs.Back as HexBack
 use Rattle.packed.specs.Packed as Packed

@@ -1,19 +1,19 @@
 -- A value that fits a field has the tag of the field's kind, and the words of its item give it back.
-use mathlib.Core.Path.{_≡_, refl, sym, ap, _∙_, subst}
+use mathlib.Core.Path.{_≡_, refl, _∙_, subst}
 use mathlib.Core.List.{List}
-use mathlib.Core.Bool.{Bool, true, false, _&&_, cond, false≢true}
-use Prim.Native.Nat.{ℕ, zero, suc, _-_, _*_, _^_, _<_, _≤_}
+use mathlib.Core.Bool.{Bool, true, false, cond, false≢true}
+use Prim.Native.Nat.{ℕ, _-_, _^_, _<_, _≤_}
 use native.Mathlib.Nat.{pow-le-pow-right}
 use native.Mathlib.Omega.{arith}
-use lib.Dec.{eqb, leb, ltb, lit<}
+use lib.Dec.{ltb, lit<}
 use borrow.Author.Tests.{ltb-true, ltb-false}
 use Rattle.value.specs.declared.Scalar.{Scalar}
-use Rattle.value.specs.declared.Scalar.the-variants.{Null, Text, Int, Decimal, Float as FloatV, FloatBits, Bool as BoolV}
+use Rattle.value.specs.declared.Scalar.the-variants.{Int, Decimal}
 use Rattle.value.specs.Digits.{limit}
 use Rattle.value.specs.Word.{wordOf, minusIn, sizeIn}
 use Rattle.value.specs.Scalar.{tagOf, firstOf, secondOf, floatOf, scalarOf}
 use Rattle.value.proofs.Word.{minus-back, size-back}
-use Rattle.value.proofs.Items.{float-tag, float-first, float-second}
+use Rattle.value.proofs.Items.{float-tag, float-first}
 use Rattle.binary.specs.Binary.{widthOk}
 use Rattle.binary.proofs.Integers.{width-high}
 use Rattle.float.proofs.Back.{exact-lt}

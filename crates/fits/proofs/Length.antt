@@ -1,15 +1,13 @@
 -- The bytes that are written for a value that fits fill the field.
-use mathlib.Core.Path.{_≡_, refl, sym, ap, _∙_}
-use mathlib.Core.List.{List, [], _∷_, map}
-use mathlib.Core.Bool.{Bool, true, false, _&&_, cond}
-use Prim.Native.Nat.{ℕ, _-_, _*_, _%_, _^_, _<_, _≤_}
-use lib.Dec.{eqb, leb, ltb}
+use mathlib.Core.Path.{_≡_, sym, _∙_}
+use mathlib.Core.List.{List}
+use mathlib.Core.Bool.{true, _&&_}
+use Prim.Native.Nat.{ℕ, _-_, _*_, _%_, _^_}
+use lib.Dec.{ltb}
 use lib.ListN.{length}
 use borrow.Author.Tests.{lt-ltb}
 use Rattle.value.specs.declared.Scalar.{Scalar}
-use Rattle.value.specs.declared.Scalar.the-variants.{Null, Text, Int, Decimal, Float as FloatV, FloatBits, Bool as BoolV}
 use Rattle.value.specs.declared.Number.the-variants.{Of}
-use Rattle.value.specs.Digits.{limit}
 use Rattle.text.proofs.Back.{written-length}
 use Rattle.display.specs.Display as Display
 use Rattle.display.proofs.Back.{fits-decimal}

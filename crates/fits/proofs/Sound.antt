@@ -1,8 +1,8 @@
 -- The test passes exactly the values that fit: both directions, every kind.
 use mathlib.Core.Path.{_≡_, refl, sym, ap, _∙_, subst}
-use mathlib.Core.List.{List, [], _∷_}
-use mathlib.Core.Bool.{Bool, true, false, not, _&&_, _||_, cond, false≢true}
-use Prim.Native.Nat.{ℕ, _-_, _*_, _/_, _%_, _^_, _<_, _≤_}
+use mathlib.Core.List.{List}
+use mathlib.Core.Bool.{Bool, true, false, not, _&&_, cond, false≢true}
+use Prim.Native.Nat.{ℕ, _-_, _*_, _/_, _%_, _^_, _<_}
 use lib.Dec.{eqb, leb, ltb}
 use lib.ListN.{length}
 use lib.Ieee.{Float, binary64, fits, isNan, ofBits, toBits, nanBits}

@@ -1,8 +1,8 @@
 -- The code's tests, one at a time, give the tests of the definition.
 use mathlib.Core.Path.{_≡_, refl, sym, ap, _∙_, subst}
 use mathlib.Core.List.{List, [], _∷_}
-use mathlib.Core.Bool.{Bool, true, false, not, _&&_, _||_, cond, and-false, false≢true, true≢false}
-use Prim.Native.Nat.{ℕ, zero, suc, _+_, _-_, _*_, _/_, _%_, _^_, _<_, _≤_}
+use mathlib.Core.Bool.{Bool, true, false, not, _&&_, cond, and-false, false≢true, true≢false}
+use Prim.Native.Nat.{ℕ, _+_, _-_, _*_, _/_, _%_, _^_, _<_, _≤_}
 use native.Mathlib.Omega.{arith}
 use lib.Dec.{eqb, leb, ltb, T}
 use lib.ListN.{length, getD}
@@ -16,7 +16,7 @@ use Rattle.display.specs.Display as Display
 use Rattle.binary.specs.Binary.{widthOk}
 use Rattle.binary.proofs.Integers.{width-low, width-high, half-twice, halfAt}
 use Rattle.hex.specs.Hex.{isLower}
-use Rattle.edited.specs.Edited.{judged, fitsIn, isLawful, isFloating, countOf, positions}
+use Rattle.edited.specs.Edited.{judged, isLawful, isFloating, countOf, positions}
 use Rattle.fits.specs.Decide.{isTextByte, minusOk, digitsFit, inRange, lastTwo, tells, maskFits, wordFits}
 use Rattle.fits.proofs.Tests.{and}
 

@@ -2,26 +2,24 @@
 use mathlib.Core.Path.{_≡_, refl, sym, ap, _∙_, subst}
 use mathlib.Core.List.{List, [], _∷_, _++_}
 use mathlib.Core.Bool.{Bool, true, false, not, _&&_, _||_, cond, false≢true}
-use Prim.Native.Nat.{ℕ, zero, suc, _+_, _-_, _*_, _/_, _^_, _<_, _≤_, suc-le-suc}
+use Prim.Native.Nat.{ℕ, zero, suc, _+_, _-_, _*_, _^_, _<_, _≤_, suc-le-suc}
 use native.Mathlib.Nat.{zero-lt-suc, le-of-suc-le-suc, le-of-eq}
 use native.Mathlib.Omega.{arith}
 use lib.Dec.{eqb, leb, ltb, T}
 use lib.ListN.{length, getD, length-append}
 use lib.Seq.{getD-at, getD-append-add}
 use lib.Ieee.{Float, binary64, fits, isNan, ofBits, toBits, nanBits}
-use lib.Ieee.Bits.{ofBits-toBits, ofBits-fits, nanBits-is, is-true, is-false}
-use borrow.Author.Tests.{lt-ltb, le-leb, eq-eqb, ne-eqb, eqb-true, eqb-false, ltb-true, leb-true, not-true}
+use lib.Ieee.Bits.{ofBits-toBits, ofBits-fits, nanBits-is, is-true}
+use borrow.Author.Tests.{lt-ltb, le-leb, eq-eqb, ne-eqb, eqb-true, ltb-true, leb-true, not-true}
 use Rattle.lists.specs.Scan.{everyBy}
 use Rattle.lists.proofs.Scan.{every-true, every-head, every-tail}
-use Rattle.value.specs.declared.Scalar.{Scalar}
-use Rattle.value.specs.declared.Scalar.the-variants.{Float as FloatV, FloatBits}
+use Rattle.value.specs.declared.Scalar.the-variants.{Float as FloatV}
 use Rattle.value.specs.Digits.{limit}
 use Rattle.value.specs.Field.{lastOf}
 use Rattle.value.specs.Scalar.{floatOf}
 use Rattle.text.specs.Text as Text
 use Rattle.display.specs.Display.{isSeparate, isSign}
 use Rattle.display.proofs.Back.{last-snoc}
-use Rattle.binary.specs.Binary.{widthOk}
 use Rattle.hex.specs.Hex as Hex
 use Rattle.edited.specs.Edited.{isLawful, isFloating, countOf, positions}
 use Rattle.edited.specs.Fits as Edited

@@ -1,17 +1,15 @@
 -- A text of lower-case digits that was written into a Hex field is read back.
-use mathlib.Core.Path.{_≡_, refl, sym, ap, _∙_, subst}
-use mathlib.Core.Bool.{Bool, true, false, not, _&&_, _||_, cond, false≢true}
-use mathlib.Core.List.{List, [], _∷_, _++_, append-nil}
-use Prim.Native.Nat.{ℕ, zero, suc, _+_, _-_, _*_, _/_, _%_, _≤_, _<_}
+use mathlib.Core.Path.{_≡_, refl, ap, _∙_}
+use mathlib.Core.Bool.{Bool, true, false, _&&_, cond, false≢true}
+use mathlib.Core.List.{List, [], _∷_, append-nil}
+use Prim.Native.Nat.{ℕ, _+_, _-_, _*_, _/_, _%_, _<_}
 use native.Mathlib.Omega.{arith}
 use lib.Dec.{eqb, leb, ltb}
 use native.Mathlib.Decide.{decLt}
 use lib.ListN.{length, replicate, length-append, length-replicate}
 use borrow.Author.Tests.{eqb-true, ltb-true, lt-ltb, eq-eqb, ne-eqb, le-leb, lt-leb}
-use Rattle.lists.specs.Scan.{keepBy, everyBy}
+use Rattle.lists.specs.Scan.{everyBy}
 use Rattle.lists.proofs.Scan.{keep-every, every-weaker, every-head, every-tail}
-use Rattle.value.specs.Digits.{spread}
-use Rattle.display.specs.Display.{isBlank}
 use Rattle.hex.specs.Hex.{hexDigit, hexPair, hexOf, nibbleIn, isHex, isInk, digitsIn, pairOf, pairUp, judgedOf, bytesOf, isLower, Fits}
 use Rattle.hex.proofs.Laws.{fine}
 

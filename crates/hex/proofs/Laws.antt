@@ -1,12 +1,12 @@
 -- One turn of each loop over hex digits, and its ends.
-use mathlib.Core.Path.{_≡_, refl, sym, ap, _∙_, subst}
+use mathlib.Core.Path.{_≡_, refl, sym, ap, _∙_}
 use mathlib.Core.Bool.{Bool, true, false, not, _&&_, cond, false≢true}
 use mathlib.Core.List.{List, [], _∷_, _++_, append-nil, append-assoc}
 use Prim.Native.Nat.{ℕ, zero, suc, _+_, _-_, _*_, _/_, _%_, _≤_, _<_}
 use native.Mathlib.Nat.{sub-zero, not-suc-le-zero}
 use native.Mathlib.Numerals.{add-one}
 use native.Mathlib.Omega.{arith}
-use lib.Dec.{eqb, leb, ltb}
+use lib.Dec.{eqb, leb}
 use lib.ListN.{length, getD, set, take, drop, replicate, drop-of-length-le, take-append-drop, length-append, length-replicate, length-drop, length-set}
 use lib.Seq.{drop-cons, take-suc-set, drop-drop, take-length, length-take-le}
 use borrow.Author.Tests.{eq-eqb, ne-eqb, le-leb, lt-leb, eqb-true, leb-true}
@@ -15,7 +15,7 @@ use Rattle.lists.proofs.Lists.{drop-replicate, behind}
 use Rattle.value.specs.Digits.{spread}
 use Rattle.value.proofs.Digits.{spread-more}
 use Rattle.display.specs.Display.{isBlank}
-use Rattle.hex.specs.Hex.{hexDigit, hexPair, hexOf, nibbleIn, isHex, isInk, digitsIn, pairOf, pairUp, judgedOf, bytesOf}
+use Rattle.hex.specs.Hex.{hexDigit, hexPair, hexOf, isHex, digitsIn, pairOf, pairUp, judgedOf, bytesOf}
 
 -- ---- digits from bytes
 

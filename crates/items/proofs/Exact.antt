@@ -2,13 +2,13 @@
 use mathlib.Core.Path.{_≡_, refl, sym, ap, _∙_}
 use mathlib.Core.Bool.{Bool, true, false, _&&_, _||_, cond, false≢true}
 use mathlib.Core.List.{List}
-use Prim.Native.Nat.{ℕ, zero, suc, _+_, _-_, _/_, _%_, _<_, _≤_, min, max}
+use Prim.Native.Nat.{ℕ, zero, suc, _+_, _-_, _/_, _%_, _<_, _≤_}
 use native.Mathlib.Omega.{arith}
 use lib.Dec.{eqb}
 use lib.ListN.{length}
-use borrow.Author.Tests.{eqb-true, eqb-false}
+use borrow.Author.Tests.{eqb-true}
 use Rattle.items.specs.declared.Item.{Item}
-use Rattle.spans.specs.Tree.{Tree, none, node, endOf, size}
+use Rattle.spans.specs.Tree.{none, node, endOf, size}
 use Rattle.items.specs.Items.{holds, spanOf, Values, values, scalarOk, nameOk, holderOk, itemOk, count, listOk, depth, wellFormed, headOf, membersOf, restOf, lookup}
 use Rattle.items.proofs.Lawful.{ok-deep, ok-turn}
 

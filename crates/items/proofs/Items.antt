@@ -1,17 +1,17 @@
 -- Laws of a value list's sequences by places in the list, of lookup by name, and of what a well formed list is.
-use mathlib.Core.Path.{_≡_, refl, sym, ap, ap₂, _∙_}
-use mathlib.Core.Bool.{Bool, true, false, _&&_, _||_, cond, false≢true}
+use mathlib.Core.Path.{_≡_, refl, sym, ap, _∙_}
+use mathlib.Core.Bool.{false, cond}
 use mathlib.Core.List.{List}
-use Prim.Native.Nat.{ℕ, zero, suc, _+_, _-_, _*_, _/_, _%_, _<_, _≤_, min, max}
+use Prim.Native.Nat.{ℕ, _+_, _-_, _*_, _<_, _≤_, min}
 use native.Mathlib.Omega.{arith}
 use native.Mathlib.Decide.{decLt}
-use lib.Dec.{eqb, leb, ltb}
-use lib.ListN.{length, getD}
-use borrow.Author.Tests.{eq-eqb, ne-eqb, eqb-true, eqb-false}
+use lib.Dec.{eqb}
+use lib.ListN.{getD}
+use borrow.Author.Tests.{eq-eqb, ne-eqb}
 use Rattle.items.specs.declared.Item.{Item}
-use Rattle.spans.specs.Tree.{Tree, none, node, endOf, tree, size}
+use Rattle.spans.specs.Tree.{none, node, endOf, tree, size}
 use Rattle.spans.proofs.Tree.{tree-none, tree-at, size-tree}
-use Rattle.items.specs.Items.{itemAt, holds, spanOf, Values, values, nullOk, textOk, decimalOk, boolOk, scalarOk, nameOk, holderOk, itemOk, count, listOk, depth, wellFormed, headOf, membersOf, restOf, lookup}
+use Rattle.items.specs.Items.{itemAt, holds, spanOf, values, headOf, membersOf, restOf, lookup}
 
 pub item-words : (v : List ℕ) (i n t a b : ℕ) → n ≡ getD v (i * 4 + 0) 0 → t ≡ getD v (i * 4 + 1) 0 → a ≡ getD v (i * 4 + 2) 0 → b ≡ getD v (i * 4 + 3) 0 → record { name = n; tag = t; a = a; b = b } ≡ itemAt v i
 item-words v i n t a b p q r s =

@@ -1,16 +1,16 @@
 -- Laws of the value list's check, one turn at a time, and of what a lawful sequence is.
-use mathlib.Core.Path.{_≡_, refl, sym, ap, ap₂, _∙_}
-use mathlib.Core.Bool.{Bool, true, false, _&&_, _||_, cond, false≢true}
+use mathlib.Core.Path.{_≡_, refl, sym, ap, _∙_}
+use mathlib.Core.Bool.{Bool, true, false, _&&_, cond}
 use mathlib.Core.List.{List}
-use Prim.Native.Nat.{ℕ, zero, suc, _+_, _-_, _*_, _/_, _%_, _<_, _≤_, min, max}
+use Prim.Native.Nat.{ℕ, zero, suc, _+_, _-_, _/_, _%_, _<_, _≤_}
 use native.Mathlib.Omega.{arith}
 use native.Mathlib.Decide.{decLe}
-use lib.Dec.{eqb, leb, ltb}
-use lib.ListN.{length, getD}
+use lib.Dec.{eqb, leb}
+use lib.ListN.{length}
 use borrow.Author.Tests.{eq-eqb, ne-eqb, eqb-true, eqb-false, le-leb, lt-leb}
 use Rattle.items.specs.declared.Item.{Item}
-use Rattle.spans.specs.Tree.{Tree, none, node, endOf, size}
-use Rattle.items.specs.Items.{holds, spanOf, Values, values, textOk, scalarOk, nameOk, holderOk, itemOk, count, listOk, depth, wellFormed, headOf}
+use Rattle.spans.specs.Tree.{none, node, endOf, size}
+use Rattle.items.specs.Items.{holds, spanOf, values, textOk, scalarOk, nameOk, holderOk, itemOk, count, listOk, depth, wellFormed, headOf}
 use Rattle.items.proofs.Items.{values-none, values-node, size-values}
 
 pub text-in : (text a b : ℕ) → a ≤ text → leb b (text - a) ≡ textOk text a b

@@ -1,14 +1,13 @@
 -- A lawful scalar item's tag and words are those of the scalar that it stands for.
-use mathlib.Core.Path.{_≡_, refl, sym, ap, _∙_, subst}
+use mathlib.Core.Path.{_≡_, refl, ap}
 use mathlib.Core.Bool.{Bool, true, false, _&&_, cond, false≢true}
-use mathlib.Core.List.{List, [], _∷_}
-use Prim.Native.Nat.{ℕ, zero, suc, _+_, _≤_, _<_, _^_}
+use mathlib.Core.List.{List}
+use Prim.Native.Nat.{ℕ, zero, suc, _≤_, _<_, _^_}
 use native.Mathlib.Omega.{arith}
-use lib.Dec.{eqb, leb, ltb}
+use lib.Dec.{eqb, leb}
 use lib.ListN.{getD}
 use borrow.Author.Tests.{eqb-true, leb-true}
-use Rattle.value.specs.declared.Scalar.{Scalar}
-use Rattle.value.specs.Scalar.{tagOf, firstOf, secondOf, itemOf, scalarOf}
+use Rattle.value.specs.Scalar.{tagOf, firstOf, secondOf, scalarOf}
 use Rattle.value.proofs.Items.{ItemWords, null, text, int, decimal, float, bool, words-back as item-words-back}
 use Rattle.items.specs.declared.Item.{Item}
 use Rattle.items.specs.Items.{nullOk, textOk, intOk, decimalOk, floatOk, boolOk, scalarOk}

@@ -1,10 +1,9 @@
 -- What was found in a pass gives the answer that the text's definition has.
-use mathlib.Core.Path.{_≡_, refl, sym, ap, _∙_, subst}
-use mathlib.Core.Bool.{Bool, true, false, _&&_, _||_, not, cond, false≢true}
-use mathlib.Core.List.{List, [], _++_}
-use Prim.Native.Nat.{ℕ, zero, suc, _+_, _-_, _*_, _/_, _%_, _≤_, _<_, min}
+use mathlib.Core.Path.{_≡_, refl, sym, ap, _∙_}
+use mathlib.Core.Bool.{Bool, true, false, _&&_, cond}
+use mathlib.Core.List.{List, _++_}
+use Prim.Native.Nat.{ℕ, zero, _+_, _-_, _*_, _/_, _%_, _≤_, _<_, min}
 use native.Mathlib.Omega.{arith}
-use native.Mathlib.Nat.{le-trans}
 use lib.Dec.{eqb, leb}
 use lib.ListN.{length, getD, take, drop, replicate, length-replicate}
 use lib.Seq.{take-append-seam}
@@ -12,9 +11,7 @@ use Rattle.lists.proofs.Lists.{drop-replicate}
 use borrow.Author.Tests.{le-leb, eq-eqb, ne-eqb, leb-true, eqb-true}
 use Rattle.spans.specs.Tree.{nested}
 use Rattle.spans.proofs.Tree.{and-left, and-right, nested-as}
-use Rattle.layout.specs.declared.Entry.{Entry}
-use Rattle.layout.specs.Layout.{entryAt, entryCount, allBelow, spanOf, isGroup, wordsOk, entryOk, entriesOk, spansOk, checkedOf}
-use Rattle.layout.proofs.Laws.{all-at}
+use Rattle.layout.specs.Layout.{entryAt, allBelow, spanOf, isGroup, wordsOk, entriesOk, spansOk, checkedOf}
 use Rattle.layout_text.specs.declared.Judged.{Judged}
 use Rattle.layout_text.specs.declared.LayoutRead.{LayoutRead}
 use Rattle.layout_text.specs.Form.{linesOf, lineIn, countOf, kindSaid, entryLawful, lawful, spanWord}

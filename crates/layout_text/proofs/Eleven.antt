@@ -1,18 +1,18 @@
 -- The eleven lines of an entry: what reading them one after the other tells.
 use mathlib.Core.Path.{_≡_, refl, sym, ap, _∙_, subst}
-use mathlib.Core.Bool.{Bool, true, false, _&&_, _||_, cond, false≢true}
+use mathlib.Core.Bool.{Bool, true, false, cond, false≢true}
 use mathlib.Core.List.{List, [], _∷_}
-use Prim.Native.Nat.{ℕ, zero, suc, _+_, _-_, _*_, _≤_, _<_}
+use Prim.Native.Nat.{ℕ, suc, _+_, _-_, _*_, _≤_, _<_}
 use native.Mathlib.Omega.{arith}
 use lib.Dec.{eqb}
-use lib.ListN.{length, take, drop, getD}
+use lib.ListN.{length, drop}
 use borrow.Author.Tests.{eq-eqb, ne-eqb}
 use Rattle.lines.specs.Lines.{lineFrom, nameOk, maskOk}
 use Rattle.layout_text.specs.declared.Part.{Part}
 use Rattle.layout_text.specs.declared.Number.{Number}
 use Rattle.layout_text.specs.declared.Said.{Said}
-use Rattle.layout_text.specs.Form.{linesOf, ended, isNone, isNumber, optional, maskFor, lineIn, kindSaid, all, tests, entryLawful, nameWord, offsetWord, widthWord, kindWord, occursWord, dependingWord, spanWord, pWord, qWord, rWord, maskWord}
-use Rattle.layout_text.specs.Reading.{nameSaid, dependingSaid, maskSaid}
+use Rattle.layout_text.specs.Form.{linesOf, isNone, isNumber, optional, maskFor, kindSaid, all, tests, entryLawful, nameWord, offsetWord, widthWord, kindWord, occursWord, dependingWord, spanWord, pWord, qWord, rWord, maskWord}
+use Rattle.layout_text.specs.Reading.{dependingSaid, maskSaid}
 use Rattle.layout_text.specs.Walk.{Here, lineAt, bytesOf, numberIn, optionIn, nameIn, dependingIn, maskIn, Told, Tells}
 use Rattle.layout_text.proofs.Place.{Lined}
 use Rattle.layout_text.proofs.Step.{Track, Goes, lined-long}

@@ -1,16 +1,15 @@
 -- The pass that judges a text: what is known before an entry, and how it ends.
 use mathlib.Core.Path.{_≡_, refl, sym, ap, _∙_, subst}
 use mathlib.Core.Bool.{Bool, true, false, _&&_, _||_, not, cond, false≢true, and-false}
-use mathlib.Core.List.{List, [], _∷_, _++_}
-use Prim.Native.Nat.{ℕ, zero, suc, _+_, _-_, _*_, _/_, _%_, _≤_, _<_}
+use mathlib.Core.List.{List, []}
+use Prim.Native.Nat.{ℕ, zero, suc, _+_, _-_, _*_, _%_, _≤_, _<_}
 use native.Mathlib.Nat.{not-suc-le-zero}
 use native.Mathlib.Omega.{arith}
 use native.Mathlib.Numerals.{add-one}
-use lib.Dec.{eqb, ltb}
+use lib.Dec.{eqb}
 use lib.ListN.{length, getD, set, length-set, length-append}
 use lib.Seq.{getD-set-same, getD-set-other}
 use borrow.Author.Tests.{eq-eqb, eqb-true, eqb-false}
-use Rattle.layout.specs.declared.Entry.{Entry}
 use Rattle.layout.specs.Layout.{allBelow, entryOk}
 use Rattle.layout.proofs.Laws.{all-not}
 use Rattle.layout.proofs.Lawful.{width-lawful}
@@ -19,7 +18,7 @@ use Rattle.layout_text.specs.declared.Said.{Said}
 use Rattle.layout_text.specs.declared.Number.{Number}
 use Rattle.layout_text.specs.declared.Judged.{Judged}
 use Rattle.layout_text.specs.Form.{linesOf, ended, isNumber, says, lineIn, countOf, kindSaid, all, entryLawful, lawful, pageWord, spanWord}
-use Rattle.layout_text.specs.Reading.{numberSaid, maskSaid, widthSaid, scaleOf, precisionOf, masksBelow}
+use Rattle.layout_text.specs.Reading.{numberSaid, scaleOf, precisionOf, masksBelow}
 use Rattle.layout_text.specs.Walk.{Here, PageTold, Told, Tells, entryWith, fineAlone, bareSaid, fineIn, notLawful, Finds}
 use Rattle.layout_text.proofs.Place.{here-end, here-more}
 

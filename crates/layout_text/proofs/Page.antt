@@ -1,19 +1,18 @@
 -- The page's line.
 use mathlib.Core.Path.{_≡_, refl, sym, ap, _∙_, subst}
-use mathlib.Core.Bool.{Bool, true, false, _&&_, cond, false≢true, and-false}
+use mathlib.Core.Bool.{Bool, true, false, _&&_, false≢true, and-false}
 use mathlib.Core.Logic.{_⊎_, inl, inr}
 use mathlib.Core.List.{List, [], _∷_}
-use Prim.Native.Nat.{ℕ, _+_, _≤_, _%_}
+use Prim.Native.Nat.{ℕ, _≤_, _%_}
 use native.Mathlib.Nat.{suc-ne-zero}
 use native.Mathlib.Omega.{arith}
 use lib.Dec.{eqb}
 use lib.ListN.{length, drop, getD}
-use Rattle.lines.specs.Lines.{numberOf, startsWith, valueAt}
+use Rattle.lines.specs.Lines.{startsWith, valueAt}
 use Rattle.layout.specs.Layout.{allBelow}
 use Rattle.layout_text.specs.declared.Part.{Part}
 use Rattle.layout_text.specs.declared.Number.{Number}
 use Rattle.layout_text.specs.Form.{linesOf, ended, isNumber, says, all, countOf, entryLawful, lawful, pageWord}
-use Rattle.layout_text.specs.Reading.{numberSaid}
 use Rattle.layout_text.specs.Walk.{Here, failed, partOf, bytesOf, numberIn, PageTold}
 use Rattle.layout_text.proofs.Place.{Lined, here-start}
 use Rattle.layout_text.proofs.Step.{part-step, lined-next}

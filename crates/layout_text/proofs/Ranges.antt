@@ -1,19 +1,18 @@
 -- Question 2 of the words, from the entries asked one by one.
-use mathlib.Core.Path.{_≡_, refl, sym, ap, _∙_, subst}
-use mathlib.Core.Bool.{Bool, true, false, _&&_, _||_, not, cond, false≢true, and-false}
-use mathlib.Core.List.{List, [], _∷_, _++_}
-use Prim.Native.Nat.{ℕ, zero, suc, _+_, _-_, _*_, _/_, _≤_, _<_}
-use native.Mathlib.Nat.{le-trans, not-suc-le-zero}
+use mathlib.Core.Path.{_≡_, refl, sym, ap, _∙_}
+use mathlib.Core.Bool.{Bool, true, false, _&&_, _||_, not, and-false}
+use mathlib.Core.List.{List, [], _∷_}
+use Prim.Native.Nat.{ℕ, zero, suc, _+_, _-_, _≤_, _<_}
 use native.Mathlib.Omega.{arith}
 use lib.Dec.{eqb, leb}
 use lib.ListN.{length}
-use borrow.Author.Tests.{le-leb, eqb-true, eq-eqb}
+use borrow.Author.Tests.{le-leb, eqb-true}
 use Rattle.layout.specs.declared.Entry.{Entry}
-use Rattle.layout.specs.Layout.{absent, entryAt, entryCount, allBelow, upTo, plainOk, floatOk, boolOk, editedOk, kindOk, optionOk, placeOk, entryOk, entriesOk}
-use Rattle.lines.specs.Names.{distinct, numberIn, placeIn}
+use Rattle.layout.specs.Layout.{absent, entryAt, allBelow, upTo, plainOk, floatOk, boolOk, editedOk, kindOk, optionOk, placeOk, entryOk, entriesOk}
+use Rattle.lines.specs.Names.{distinct, numberIn}
 use Rattle.lines.proofs.Sight.{place-most, distinct-few}
-use Rattle.layout_text.specs.Form.{isNone, countOf, kindSaid}
-use Rattle.layout_text.specs.Reading.{nameSaid, dependingSaid, widthSaid, maskSaid, namesBelow, namesOf, masksBelow, masksOf, orAbsent, maskWordOf, maskLong, entrySaid, wordsOf}
+use Rattle.layout_text.specs.Form.{countOf, kindSaid}
+use Rattle.layout_text.specs.Reading.{nameSaid, dependingSaid, widthSaid, maskSaid, namesOf, masksBelow, masksOf, orAbsent, maskLong, entrySaid, wordsOf}
 use Rattle.layout_text.specs.Walk.{bareSaid, fineIn}
 use Rattle.layout_text.proofs.Words.{words-count, entry-words, names-few, masks-before}
 

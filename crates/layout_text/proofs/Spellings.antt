@@ -1,24 +1,23 @@
 -- The first spelling of a name, by the table of starts.
-use mathlib.Core.Path.{_≡_, refl, sym, ap, _∙_, subst}
-use mathlib.Core.Bool.{Bool, true, false, _&&_, _||_, not, cond, false≢true}
-use mathlib.Core.List.{List, [], _∷_, _++_}
-use Prim.Native.Nat.{ℕ, zero, suc, _+_, _-_, _*_, _/_, _≤_, _<_, min}
+use mathlib.Core.Path.{_≡_, refl, sym, ap, _∙_}
+use mathlib.Core.Bool.{Bool, true, false, _||_, not, cond, false≢true}
+use mathlib.Core.List.{List, [], _∷_}
+use Prim.Native.Nat.{ℕ, zero, suc, _-_, _*_, _/_, _≤_, _<_, min}
 use native.Mathlib.Omega.{arith}
-use lib.Dec.{eqb, leb}
-use lib.ListN.{length, getD, take, drop, length-append, length-take, List·getD-eq-default}
+use lib.Dec.{eqb}
+use lib.ListN.{length, getD, take, length-append, length-take, List·getD-eq-default}
 use lib.Seq.{getD-take}
-use borrow.Author.Tests.{eq-eqb, ne-eqb, eqb-true, eqb-false, le-leb}
+use borrow.Author.Tests.{ne-eqb, eqb-true, eqb-false}
 use Rattle.spans.proofs.Tree.{and-left, and-right}
-use Rattle.layout.specs.declared.Entry.{Entry}
-use Rattle.layout.specs.Layout.{allBelow, entryOk}
+use Rattle.layout.specs.Layout.{entryOk}
 use Rattle.layout.proofs.Laws.{all-at}
 use Rattle.layout.proofs.Lawful.{width-lawful}
 use Rattle.lines.specs.Lines.{lineFrom, startsWith, maskOk}
 use Rattle.lines.specs.Names.{distinct, namesAt}
 use Rattle.lines.proofs.Sight.{getD-map-at, names-long}
 use Rattle.layout_text.specs.declared.LayoutRead.{LayoutRead}
-use Rattle.layout_text.specs.Form.{linesOf, isNone, maskFor, says, countOf, lineIn, kindSaid, all, tests, entryLawful, lawful, maskWord}
-use Rattle.layout_text.specs.Reading.{widthSaid, maskSaid, namesOf, masksBelow, masksOf, maskLong, wordsOf, textChecked, refusal, readOf, spelling, Spells}
+use Rattle.layout_text.specs.Form.{linesOf, isNone, maskFor, countOf, lineIn, kindSaid, all, tests, entryLawful, lawful, maskWord}
+use Rattle.layout_text.specs.Reading.{widthSaid, maskSaid, namesOf, masksBelow, masksOf, maskLong, textChecked, refusal, readOf, spelling, Spells}
 use Rattle.layout_text.specs.Walk.{bareSaid, fineIn, Lasts}
 use Rattle.layout_text.proofs.Words.{words-long}
 use Rattle.layout_text.proofs.Answers.{Passed, passed, number-read, refusal-place, refusal-other, lasts}

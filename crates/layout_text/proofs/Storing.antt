@@ -2,13 +2,13 @@
 use mathlib.Core.Path.{_≡_, refl, sym, ap, _∙_, subst}
 use mathlib.Core.Bool.{Bool, true, false, _&&_, cond, false≢true}
 use mathlib.Core.List.{List, [], _∷_, _++_, append-nil, append-assoc}
-use Prim.Native.Nat.{ℕ, zero, suc, _+_, _-_, _*_, _%_, _≤_, _<_}
+use Prim.Native.Nat.{ℕ, suc, _+_, _-_, _*_, _%_, _≤_, _<_}
 use native.Mathlib.Omega.{arith}
 use native.Mathlib.Numerals.{add-one}
 use native.Mathlib.Nat.{le-of-eq}
 use lib.Dec.{eqb}
 use lib.ListN.{length, getD, take, drop, length-append, length-drop, drop-of-length-le}
-use lib.Seq.{drop-drop, take-append-seam, drop-append-seam, drop-append-add}
+use lib.Seq.{drop-drop, take-append-seam, drop-append-add}
 use borrow.Author.Tests.{eqb-false}
 use Rattle.spans.proofs.Tree.{and-left}
 use Rattle.layout.specs.declared.Entry.{Entry}
@@ -20,8 +20,8 @@ use Rattle.lines.proofs.Sight.{number-sight, distinct-append}
 use Rattle.lists.proofs.Part.{in-whole, mid-length}
 use Rattle.layout_text.specs.declared.Said.{Said}
 use Rattle.layout_text.specs.declared.Number.{Number}
-use Rattle.layout_text.specs.Form.{linesOf, ended, isNone, isNumber, says, countOf, lineIn, kindSaid, all, entryLawful, lawful, pageWord}
-use Rattle.layout_text.specs.Reading.{numberSaid, orAbsent, nameSaid, dependingSaid, maskSaid, namesIn, namesBelow, namesOf, masksBelow, masksOf, scaleOf, precisionOf, maskWordOf, entrySaid, twelve, wordsBelow, wordsOf}
+use Rattle.layout_text.specs.Form.{linesOf, ended, isNone, isNumber, says, countOf, all, entryLawful, lawful, pageWord}
+use Rattle.layout_text.specs.Reading.{orAbsent, nameSaid, dependingSaid, maskSaid, namesIn, namesBelow, namesOf, masksBelow, masksOf, scaleOf, precisionOf, maskWordOf, entrySaid, twelve, wordsBelow, wordsOf}
 use Rattle.layout_text.specs.Walk.{Here, PageTold, Told, Tells, entryWith, Lasts}
 use Rattle.layout_text.proofs.Words.{words-long, names-from, masks-before}
 

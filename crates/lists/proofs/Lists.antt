@@ -1,5 +1,5 @@
 -- Laws of lists that copying, filling and storing loops ask for.
-use mathlib.Core.Path.{_≡_, refl, sym, ap, _∙_, subst}
+use mathlib.Core.Path.{_≡_, refl, sym, ap, _∙_}
 use mathlib.Core.List.{List, [], _∷_, _++_, map, append-nil}
 use Prim.Native.Nat.{ℕ, zero, suc, _+_, _-_, _≤_, _<_, suc-le-suc, min}
 use native.Mathlib.Nat.{not-suc-le-zero, le-of-suc-le-suc, le-of-eq, suc-sub-suc, sub-zero, zero-sub, zero-lt-suc, le-refl}

@@ -1,9 +1,9 @@
 -- Scans by any test f: one turn of a loop and its ends; a scan of a list that is g of each element; what a scan keeps.
-use mathlib.Core.Path.{_≡_, refl, sym, ap, _∙_, subst}
+use mathlib.Core.Path.{_≡_, refl, sym, ap, _∙_}
 use mathlib.Core.Bool.{Bool, true, false, _&&_, cond, false≢true}
 use mathlib.Core.List.{List, [], _∷_, _++_, map, append-nil, append-assoc}
 use Prim.Native.Nat.{ℕ, zero, suc, _+_, _-_, _≤_, _<_, suc-le-suc}
-use native.Mathlib.Nat.{not-suc-le-zero, le-of-eq, sub-zero, zero-lt-suc, le-refl, le-of-suc-le-suc}
+use native.Mathlib.Nat.{not-suc-le-zero, le-of-eq, sub-zero, zero-lt-suc, le-refl}
 use native.Mathlib.Numerals.{add-one}
 use native.Mathlib.Omega.{arith}
 use lib.ListN.{length, getD, take, drop, replicate, drop-of-length-le, length-drop}

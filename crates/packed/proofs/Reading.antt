@@ -1,14 +1,14 @@
 -- How a reader from the left finds out what a packed field says: the laws of a field, at packed bytes.
 use mathlib.Core.Path.{_≡_, refl}
 use mathlib.Core.List.{List, [], _∷_}
-use mathlib.Core.Bool.{Bool, true, false, and-false}
+use mathlib.Core.Bool.{Bool, false, and-false}
 use Prim.Native.Nat.{ℕ, _+_, _-_, _*_, _/_, _%_, _<_, _≤_}
 use native.Mathlib.Omega.{arith}
 use lib.Dec.{ltb}
 use lib.ListN.{length, getD}
 use borrow.Author.Tests.{le-ltb, le-leb, lt-leb}
 use Rattle.value.specs.declared.Number.the-variants.{Of, Bad}
-use Rattle.value.specs.Digits.{digitsOk, capped, limit}
+use Rattle.value.specs.Digits.{capped, limit}
 use Rattle.value.specs.declared.Number.{Number}
 use Rattle.value.specs.Number.{numberOf}
 use Rattle.value.proofs.Answers.{numberOf-capped, numberIn-small}

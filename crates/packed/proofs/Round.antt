@@ -1,19 +1,18 @@
 -- What is written is read back, over any width; and each byte of a written field by its place.
-use mathlib.Core.Path.{_≡_, refl, sym, _∙_, ap}
+use mathlib.Core.Path.{_≡_, refl, _∙_, ap}
 use mathlib.Core.List.{List, [], _∷_, _++_}
-use mathlib.Core.Bool.{Bool, true, false, _&&_, cond, false≢true}
-use Prim.Native.Nat.{ℕ, zero, suc, _+_, _-_, _*_, _/_, _%_, _^_, _<_, _≤_}
+use mathlib.Core.Bool.{Bool, true, false, _&&_, false≢true}
+use Prim.Native.Nat.{ℕ, zero, suc, _+_, _-_, _*_, _/_, _%_, _^_, _<_}
 use native.Mathlib.Nat.{not-suc-le-zero, le-of-suc-le-suc, suc-sub-suc}
 use native.Mathlib.Omega.{arith}
 use native.Mathlib.Decide.{decLt}
-use lib.Dec.{ltb, leb, lit<, lit≤}
+use lib.Dec.{ltb, lit<}
 use lib.ListN.{length, getD, take}
-use borrow.Author.Tests.{lt-ltb, le-leb, ltb-true}
+use borrow.Author.Tests.{lt-ltb, ltb-true}
 use Rattle.value.specs.declared.Number.{Number}
 use Rattle.value.specs.declared.Number.the-variants.{Of, Bad, Big}
 use lib.IntN.{ℤ, pos}
-use Rattle.value.specs.Digits.{valueOf, digitsOk, digitAt, digitsOf, spread, limit, signedOf}
-use Rattle.value.specs.Number.{numberOf}
+use Rattle.value.specs.Digits.{digitAt, digitsOf, spread, limit, signedOf}
 use Rattle.value.proofs.Digits.{ok-digits, value-of-digits, digit-below}
 use Rattle.value.specs.Field.{fieldOf, lastOf, digitsBy}
 use Rattle.packed.specs.Packed.{nibbles, highOf, isNegative, isSign, decodeOf, pairs, signOf, encodedOf, fitsOf}

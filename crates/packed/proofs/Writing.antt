@@ -1,20 +1,20 @@
 -- How a writer from the right makes a packed field.
-use mathlib.Core.Path.{_≡_, refl, sym, _∙_, ap}
+use mathlib.Core.Path.{_≡_, sym, _∙_}
 use mathlib.Core.List.{List, [], _∷_, _++_}
-use mathlib.Core.Bool.{Bool, true, false, _&&_, cond, true≢false}
-use Prim.Native.Nat.{ℕ, zero, suc, _+_, _-_, _*_, _/_, _%_, _^_, _<_, _≤_}
-use native.Mathlib.Nat.{not-suc-le-zero, le-of-suc-le-suc, div-one, pow-le-pow-right, lt-of-lt-of-le}
+use mathlib.Core.Bool.{Bool, true, false, true≢false}
+use Prim.Native.Nat.{ℕ, suc, _+_, _-_, _*_, _/_, _%_, _^_, _<_, _≤_}
+use native.Mathlib.Nat.{div-one, pow-le-pow-right, lt-of-lt-of-le}
 use native.Mathlib.Omega.{arith}
-use lib.Dec.{ltb, leb, eqb, lit<, lit≤}
+use lib.Dec.{ltb, lit<, lit≤}
 use native.Mathlib.Decide.{decLt}
 use borrow.Author.Tests.{lt-ltb}
-use lib.ListN.{length, getD, take, drop, set, drop-of-length-le}
+use lib.ListN.{length, drop, set, drop-of-length-le}
 use Rattle.lists.proofs.Lists.{drop-set}
-use Rattle.value.specs.Digits.{digitAt, digitsOf}
+use Rattle.value.specs.Digits.{digitsOf}
 use Rattle.value.specs.Word.{powerTen}
 use Rattle.value.proofs.Word.{power-is}
 use Rattle.value.proofs.Digits.{next-place}
-use Rattle.packed.specs.Packed.{pairs, signOf, encodedOf, fitsOf, writtenOf}
+use Rattle.packed.specs.Packed.{pairs, encodedOf, fitsOf, writtenOf}
 
 -- the digits that stand from place i of w on
 abbrev pub places : ℕ → ℕ → ℕ

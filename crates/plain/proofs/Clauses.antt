@@ -1,7 +1,7 @@
 -- The clauses of one entry, as the code asks them.
 use mathlib.Core.Path.{_≡_, refl, sym, ap, _∙_}
-use mathlib.Core.Bool.{Bool, true, false, _&&_, _||_, not, cond, and-false}
-use mathlib.Core.List.{List, [], _∷_}
+use mathlib.Core.Bool.{Bool, true, false, _&&_, _||_, not, and-false}
+use mathlib.Core.List.{List}
 use Prim.Native.Nat.{ℕ, _+_, _≤_, _<_}
 use native.Mathlib.Omega.{arith}
 use native.Mathlib.Numerals.{add-one}
@@ -11,7 +11,7 @@ use lib.ListN.{length, drop, getD, drop-of-length-le}
 use lib.Seq.{drop-cons}
 use Rattle.layout.specs.declared.Entry.{Entry}
 use Rattle.layout.specs.Layout.{absent, entryAt, spanOf, isGroup, present, part}
-use Rattle.spans.specs.Tree.{Tree, none, node, endOf}
+use Rattle.spans.specs.Tree.{none, endOf}
 use Rattle.spans.proofs.Tree.{tree-none, tree-at}
 use Rattle.walks.specs.Walk.{single, isPad}
 use Rattle.walks.specs.Plain.{isIn, padOk, widthOk, some, sure, groupOk, controls}

@@ -1,13 +1,13 @@
 -- The questions of the whole function, in order.
-use mathlib.Core.Path.{_≡_, refl, sym, ap, _∙_}
-use mathlib.Core.Bool.{Bool, true, false, _&&_}
-use mathlib.Core.List.{List, []}
+use mathlib.Core.Path.{_≡_, refl, sym, _∙_}
+use mathlib.Core.Bool.{Bool, true, false}
+use mathlib.Core.List.{List}
 use Prim.Native.Nat.{ℕ, _+_, _-_, _≤_}
 use native.Mathlib.Omega.{arith}
 use borrow.Author.Tests.{eq-eqb, ne-eqb}
 use Rattle.layout.specs.Layout.{entryCount, entries, checkedOf}
 use Rattle.layout.proofs.Lawful.{few-entries}
-use Rattle.walks.specs.Plain.{namesOf, distinct, eachOk, inOrder, controlled, plain}
+use Rattle.walks.specs.Plain.{namesOf, distinct, plain}
 use Rattle.plain.specs.declared.Step.{Step}
 use Rattle.plain.specs.Ways.{treeOk, Walked}
 

@@ -1,13 +1,13 @@
 -- What the buffers hold after writing and reading back; demand 3 for it.
-use mathlib.Core.Path.{_≡_, refl, sym, ap, ap₂, _∙_, subst}
-use mathlib.Core.Bool.{Bool, true, false, cond}
-use mathlib.Core.List.{List, [], _∷_, _++_}
-use Prim.Native.Nat.{ℕ, zero, suc, _+_, _-_, _≤_, _<_, min}
+use mathlib.Core.Path.{_≡_, refl, sym, ap, ap₂, _∙_}
+use mathlib.Core.Bool.{true, false}
+use mathlib.Core.List.{List, [], _++_}
+use Prim.Native.Nat.{ℕ, zero, _+_, _-_, _≤_, min}
 use native.Mathlib.Omega.{arith}
 use borrow.Author.Tests.{eq-eqb, ne-eqb}
 use lib.Dec.{eqb}
 use lib.IntN.{ℤ, pos}
-use lib.ListN.{length, take, drop, replicate, length-append, length-take, length-replicate}
+use lib.ListN.{length, take, replicate, length-take, length-replicate}
 use Rattle.walks.specs.Records.{most, workFor, filled, Decoded, decoded, decodeRecord, numberOf, itemsOf, textsOf, Encoded, refused, encoded, encodeRecord, refusalOf, bytesOf}
 use Rattle.walks.specs.Plain.{plain}
 use Rattle.walks.specs.Decide.{fitting}

@@ -1,13 +1,13 @@
 -- What reading both files gives.
-use mathlib.Core.Path.{_≡_, refl, sym, ap, _∙_, subst}
-use mathlib.Core.Bool.{Bool, true, false, _||_, cond}
-use mathlib.Core.List.{List, [], _∷_, _++_}
-use Prim.Native.Nat.{ℕ, zero, suc, _+_, _-_, _≤_, _<_}
+use mathlib.Core.Path.{_≡_, refl, sym, ap, _∙_}
+use mathlib.Core.Bool.{Bool, true, false}
+use mathlib.Core.List.{List}
+use Prim.Native.Nat.{ℕ, zero, _+_, _-_, _≤_}
 use native.Mathlib.Omega.{arith}
 use native.Mathlib.Nat.{sub-zero}
 use borrow.Author.Tests.{ne-eqb, eq-eqb}
-use lib.Dec.{eqb, leb, ltb}
-use lib.ListN.{length, take, drop, replicate, length-append}
+use lib.Dec.{eqb}
+use lib.ListN.{length, take, replicate, length-append}
 use lib.Seq.{take-append-seam}
 use Rattle.decode.specs.declared.Reading.{Reading}
 use Rattle.layout_text.specs.declared.LayoutRead.{LayoutRead}

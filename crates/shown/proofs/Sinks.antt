@@ -1,19 +1,16 @@
 -- Bytes handed over one after the other, and what the buffer then holds.
 use mathlib.Core.Path.{_≡_, refl, sym, ap, _∙_}
-use mathlib.Core.Bool.{Bool, true, false, cond}
-use mathlib.Core.List.{List, [], _∷_, _++_, append-nil, append-assoc}
+use mathlib.Core.List.{List, [], _∷_, _++_}
 use Prim.Native.Nat.{ℕ, zero, suc, _+_, _-_, _≤_, _<_}
 use native.Mathlib.Omega.{arith}
 use native.Mathlib.Nat.{not-suc-le-zero, le-of-suc-le-suc}
 use native.Mathlib.Numerals.{add-one}
 use borrow.Author.Tests.{lt-ltb, le-ltb, ne-eqb, eq-eqb}
 use lib.Dec.{eqb, ltb}
-use lib.ListN.{length, take, drop, getD, set, length-append}
-use lib.Seq.{drop-length}
+use lib.ListN.{length, take, drop, getD, set}
 use Rattle.value.specs.Digits.{spread}
-use Rattle.text.specs.Text.{front}
 use Rattle.shown.specs.declared.Sink.{Sink}
-use Rattle.shown.specs.Sink.{State, state, sinkAt, stored, one, all, Took}
+use Rattle.shown.specs.Sink.{State, state, sinkAt, one, all, Took}
 
 -- ---- one run after another
 

@@ -1,12 +1,12 @@
 -- The texts of values.
 use mathlib.Core.Path.{_≡_, refl, sym, ap, _∙_, subst}
-use mathlib.Core.Bool.{Bool, true, false, _&&_, not, cond}
+use mathlib.Core.Bool.{true, false, not, cond}
 use mathlib.Core.List.{List, [], _∷_, _++_}
 use Prim.Native.Nat.{ℕ, zero, suc, _+_, _-_, _*_, _≤_, _<_}
 use native.Mathlib.Omega.{arith}
-use borrow.Author.Tests.{lt-ltb, le-ltb, le-leb, lt-leb, ne-eqb, eq-eqb}
+use borrow.Author.Tests.{lt-ltb, le-ltb, le-leb, lt-leb}
 use lib.Dec.{eqb, leb, ltb}
-use lib.ListN.{length, take, drop, length-drop, drop-of-length-le}
+use lib.ListN.{length, take, drop, drop-of-length-le}
 use lib.Seq.{take-all, take-append-seam}
 use Rattle.lists.proofs.Scan.{tail-part}
 use native.Mathlib.Nat.{sub-zero}
@@ -16,7 +16,7 @@ use Rattle.value.specs.declared.Scalar.the-variants.{Int}
 use Rattle.binary.specs.Bytes.{bytesOf}
 use Rattle.hex.specs.Hex.{hexOf}
 use Rattle.hex.proofs.Laws.{hex-length}
-use Rattle.text.specs.Shown.{Shows, shows, none, shownOf}
+use Rattle.text.specs.Shown.{shows, none, shownOf}
 use Rattle.layout_text.specs.Reading.{spelling}
 use Rattle.shown.specs.Shown.{isPlain, escape, escaped, floatText, numberText, nameOf, refusedWord, refusedText, ended}
 

@@ -8,7 +8,7 @@ use lib.Dec.{eqb, leb}
 use lib.ListN.{length, take, replicate, length-map, length-append, length-replicate}
 use borrow.Author.Tests.{eq-eqb, le-leb, eqb-false}
 use Rattle.ebcdic.specs.Ebcdic.{fromPage}
-use Rattle.text.specs.Text.{cut, readText}
+use Rattle.text.specs.Text.{readText}
 use Rattle.layout.specs.declared.Entry.{Entry}
 use Rattle.decode_scalar.specs.Decode.{flag, text, says}
 use Rattle.text_field.specs.Single.{entryOf, fieldOf, roomOf, askedOf, translateAsks, textAsks, scratchOf, sourceOf, fieldText, sayOf, ReadAlike, ReadPlain}

@@ -1,13 +1,13 @@
 -- The laws of a number's answer.
-use mathlib.Core.Path.{_≡_, refl, sym, _∙_, ap}
-use mathlib.Core.Bool.{Bool, true, false, _&&_, cond}
+use mathlib.Core.Path.{_≡_, ap}
+use mathlib.Core.Bool.{Bool, _&&_}
 use Prim.Native.Nat.{ℕ, _<_, _≤_, min}
 use native.Mathlib.Omega.{arith}
 use native.Mathlib.Decide.{decLt}
 use lib.Dec.{ltb}
 use borrow.Author.Tests.{lt-ltb, le-ltb}
 use Rattle.value.specs.declared.Number.{Number}
-use Rattle.value.specs.declared.Number.the-variants.{Of, Bad, Big}
+use Rattle.value.specs.declared.Number.the-variants.{Of, Big}
 use Rattle.value.specs.Digits.{limit, capped}
 use Rattle.value.specs.Number.{numberIn, numberOf}
 

@@ -2,19 +2,17 @@
 use mathlib.Core.Path.{_≡_, refl, sym, _∙_, ap}
 use mathlib.Core.List.{List, [], _∷_, _++_, append-assoc, append-nil}
 use mathlib.Core.Bool.{Bool, true, false, _&&_}
-use Prim.Native.Nat.{ℕ, zero, suc, _+_, _*_, _/_, _%_, _^_, _<_, _≤_, min}
-use native.Mathlib.Nat.{mod-lt, mod-eq-of-lt, pow-zero, pow-suc, pow-succ', add-mul, mul-assoc, add-assoc, mul-one, mod-one, div-div-eq-div-mul, zero-mul, zero-add}
+use Prim.Native.Nat.{ℕ, zero, suc, _+_, _*_, _/_, _%_, _^_, _<_}
+use native.Mathlib.Nat.{mod-lt, mod-eq-of-lt, pow-zero, pow-suc, pow-succ', add-mul, mul-assoc, add-assoc, div-div-eq-div-mul, zero-mul, zero-add}
 use native.Mathlib.Nat.{not-suc-le-zero, le-of-suc-le-suc}
 use native.Mathlib.Numerals.{add-one}
 use native.Mathlib.Omega.{arith}
 use lib.Arith.{mod-mul}
-use lib.Dec.{ltb, eqb, lit<}
-use native.Mathlib.Decide.{decLt}
-use native.Mathlib.Nat.{div-eq-of-lt, le-div-iff-mul-le}
+use lib.Dec.{ltb, lit<}
 use lib.ListN.{length, getD, take}
 use lib.Seq.{take-suc}
-use borrow.Author.Tests.{lt-ltb, le-ltb, ne-eqb}
-use Rattle.value.specs.Digits.{valueFrom, valueOf, digitsOk, digitAt, digitsOf, capped, limit, spread}
+use borrow.Author.Tests.{lt-ltb}
+use Rattle.value.specs.Digits.{valueFrom, valueOf, digitsOk, digitAt, digitsOf, capped, spread}
 
 pub value-append : (acc : ℕ) (xs ys : List ℕ) → valueFrom acc (xs ++ ys) ≡ valueFrom (valueFrom acc xs) ys
 value-append acc [] ys = refl

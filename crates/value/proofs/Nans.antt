@@ -1,9 +1,9 @@
 -- Which patterns are a NaN's, by the one comparison that the code makes; and what such a pattern is read as.
-use mathlib.Core.Path.{_≡_, refl, sym, ap, _∙_, subst}
+use mathlib.Core.Path.{_≡_, refl, sym, _∙_, subst}
 use mathlib.Core.Bool.{Bool, true, false, not, _&&_, true≢false}
 use Prim.Native.Nat.{ℕ, _*_, _%_, _<_, _≤_}
 use lib.Dec.{T}
-use lib.Ieee.{Float, nan, inf, fin, Format, binary32, binary64, isNan, fits, hid, ones, top, ofBits, toBits, nanBits}
+use lib.Ieee.{Float, nan, inf, fin, Format, binary32, binary64, isNan, fits, hid, ones, top, ofBits, nanBits}
 use lib.Ieee.Bits.{nanBits-above, nanBits-is, ofBits-fits}
 use lib.Ieee.Fits.{fits-widens, and-i}
 use borrow.Author.Tests.{lt-ltb, le-ltb}

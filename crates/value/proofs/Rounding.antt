@@ -1,17 +1,13 @@
 -- How a size is brought to another scale.
-use mathlib.Core.Path.{_≡_, refl, sym, _∙_, ap, subst}
-use mathlib.Core.Bool.{Bool, true, false, _&&_, cond}
+use mathlib.Core.Path.{_≡_, sym, _∙_, ap, subst}
 use Prim.Native.Nat.{ℕ, zero, suc, _+_, _-_, _*_, _/_, _^_, _<_, _≤_}
 use lib.Pow.{pow-add}
-use native.Mathlib.Nat.{div-eq-of-lt, pow-le-pow-right, lt-of-lt-of-le, mul-le-mul-right, mul-lt-mul-of-pos-right, le-trans, mul-one}
+use native.Mathlib.Nat.{div-eq-of-lt, pow-le-pow-right, lt-of-lt-of-le, mul-le-mul-right, mul-lt-mul-of-pos-right, le-trans}
 use native.Mathlib.Omega.{arith}
 use lib.Dec.{ltb, lit<, lit≤}
 use borrow.Author.Tests.{lt-ltb, le-ltb}
-use Rattle.value.specs.declared.Number.{Number}
-use Rattle.value.specs.declared.Number.the-variants.{Of, Bad, Big}
 use Rattle.value.specs.Digits.{limit}
-use Rattle.value.specs.Number.{numberOf}
-use Rattle.value.specs.Rounding.{rounded, scaleRule, rescaled}
+use Rattle.value.specs.Rounding.{rounded, rescaled}
 use Rattle.value.proofs.Digits.{pow-pos10}
 
 pub scale-same : (k size : ℕ) → rescaled k k size ≡ size

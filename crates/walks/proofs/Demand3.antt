@@ -1,34 +1,34 @@
 -- Demand 3.
 use mathlib.Core.Path.{_≡_, refl, sym, ap, _∙_}
 use mathlib.Core.Bool.{Bool, true, false, _&&_, _||_, cond, false≢true}
-use mathlib.Core.List.{List, [], _∷_, _++_, append-nil}
-use Prim.Native.Nat.{ℕ, zero, suc, _+_, _-_, _*_, _/_, _%_, _≤_, min, max}
+use mathlib.Core.List.{List, [], _++_, append-nil}
+use Prim.Native.Nat.{ℕ, zero, _+_, _-_, _/_, _≤_, min, max}
 use native.Mathlib.Omega.{arith}
-use lib.ListN.{length, take, drop, replicate, length-append, length-replicate}
+use lib.ListN.{length, take, replicate, length-append, length-replicate}
 use lib.Seq.{take-at}
 use lib.Dec.{leb, eqb}
-use borrow.Author.Tests.{le-leb, eq-eqb, eqb-true, leb-true, ne-eqb}
+use borrow.Author.Tests.{le-leb}
 use Rattle.layout.specs.declared.Entry.{Entry}
-use Rattle.layout.specs.Layout.{entries, recordLength, dependsIn, checkedOf}
+use Rattle.layout.specs.Layout.{entries, recordLength, dependsIn}
 use Rattle.spans.specs.Tree.{Tree, none, node}
 use Rattle.items.specs.declared.Item.{Item}
 use Rattle.items.specs.Items.{Values, values, count, wellFormed, lookup}
 use Rattle.items.proofs.Exact.{whole-count}
-use Rattle.walks.specs.Walk.{isPad, howMany, Codec}
+use Rattle.walks.specs.Walk.{isPad, Codec}
 use Rattle.walks.specs.Kinds.{State, start, held, kinds}
 use Rattle.walks.specs.Reading as R
 use Rattle.walks.specs.Writing as W
 use Rattle.walks.specs.Writing.{reach, apply}
-use Rattle.walks.specs.Records.{most, workFor, longEnough, outcome, decodeRecord, decoded, found, supplied, finish, encodeRecord, encoded}
+use Rattle.walks.specs.Records.{most, workFor, decodeRecord, decoded, found, supplied, encodeRecord, encoded}
 use Rattle.walks.specs.Plain.{plain}
 use Rattle.walks.specs.Fitting.{holder, sequence, Fits, done, pads, scalar, group, table, Fitting}
 use Rattle.walks.specs.Needs as N
 use Rattle.walks.specs.Needs.{needed}
 use Rattle.walks.specs.Demand.{Kept, Demand3}
 use Rattle.walks.proofs.Puts.{Held, apply-length, apply-held, held-front}
-use Rattle.walks.proofs.Plainly.{least, Plain, plain-lawful, plain-tree}
+use Rattle.walks.proofs.Plainly.{least, plain-lawful, plain-tree}
 use Rattle.walks.proofs.Goes.{flat, Goes}
-use Rattle.walks.proofs.Trip.{trip, looks-self, self-found, other-found}
+use Rattle.walks.proofs.Trip.{trip, looks-self, self-found}
 use Rattle.walks.proofs.Flat.{flat-values}
 use Rattle.walks.proofs.Scalars.{scalar-law, pad-law}
 

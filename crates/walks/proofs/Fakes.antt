@@ -1,7 +1,7 @@
 -- What a reader or writer that meets these definitions can't be: "the fixed list"; "the constant refuser"; "the writer that leaves its buffer alone".
-use mathlib.Core.Path.{_≡_, refl, sym, ap, _∙_}
+use mathlib.Core.Path.{_≡_, sym, ap, _∙_}
 use mathlib.Core.List.{List, [], _∷_}
-use Prim.Native.Nat.{ℕ, suc, zero}
+use Prim.Native.Nat.{ℕ, suc}
 use native.Mathlib.Omega.{arith}
 use lib.ListN.{length}
 use Rattle.walks.specs.Records.{Decoded, decodeRecord, itemsOf, Encoded, encodeRecord, refusalOf, bytesOf}

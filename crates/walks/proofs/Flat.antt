@@ -1,14 +1,13 @@
 -- The words of a value list are those of its items.
 use mathlib.Core.Path.{_≡_, refl, sym, ap, _∙_}
 use mathlib.Core.List.{List, [], _∷_, _++_, append-nil, append-assoc}
-use Prim.Native.Nat.{ℕ, zero, suc, _+_, _-_, _*_, _/_, _%_, _≤_, _<_, min, max}
+use Prim.Native.Nat.{ℕ, zero, suc, _+_, _-_, _*_, _/_, _%_, _≤_}
 use native.Mathlib.Omega.{arith}
 use native.Mathlib.Decide.{decLe}
 use lib.ListN.{length, drop, getD}
 use lib.Seq.{drop-cons, drop-length}
-use Rattle.items.specs.declared.Item.{Item}
-use Rattle.items.specs.Items.{itemAt, spanOf, Values, values}
-use Rattle.spans.specs.Tree.{Tree, none, node, endOf}
+use Rattle.items.specs.Items.{itemAt, spanOf, values}
+use Rattle.spans.specs.Tree.{none, endOf}
 use Rattle.spans.proofs.Tree.{tree-at, tree-none}
 use Rattle.walks.proofs.Goes.{flat}
 

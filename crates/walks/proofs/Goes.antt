@@ -1,22 +1,22 @@
 -- What is written is read back: the parts of the walk.
 use mathlib.Core.Path.{_≡_, refl, sym, ap, _∙_}
-use mathlib.Core.Bool.{Bool, true, false, _&&_, _||_, not, cond}
+use mathlib.Core.Bool.{Bool, true, false, _||_, cond}
 use mathlib.Core.List.{List, [], _∷_, _++_}
-use Prim.Native.Nat.{ℕ, zero, suc, _+_, _-_, _*_, _/_, _≤_, _<_, max}
+use Prim.Native.Nat.{ℕ, suc, _+_, _-_, _*_, _/_, _≤_, max}
 use native.Mathlib.Omega.{arith}
 use lib.ListN.{length, take, drop, length-append}
 use lib.Dec.{leb, eqb}
-use borrow.Author.Tests.{le-leb, lt-leb, leb-true, leb-false, ne-eqb, eq-eqb}
+use borrow.Author.Tests.{le-leb, ne-eqb}
 use Rattle.layout.specs.declared.Entry.{Entry}
 use Rattle.layout.specs.Layout.{isGroup, present, reservedWidth}
 use Rattle.spans.specs.Tree.{Tree, none, node, size}
 use Rattle.items.specs.declared.Item.{Item}
-use Rattle.items.specs.Items.{Values, count, headOf, membersOf, restOf, lookup}
-use Rattle.walks.specs.Walk.{single, isPad, Many, never, times, atMost, howMany, Leaf, leaf, Coded, bytes, Codec}
+use Rattle.items.specs.Items.{Values, count, headOf, restOf, lookup}
+use Rattle.walks.specs.Walk.{single, isPad, Many, times, atMost, howMany, leaf, bytes, Codec}
 use Rattle.walks.specs.Reading as R
 use Rattle.walks.specs.Reading.{Outcome, read, Reader}
 use Rattle.walks.specs.Writing as W
-use Rattle.walks.specs.Writing.{Put, reach, apply, Wrote, wrote, Writer}
+use Rattle.walks.specs.Writing.{Put, reach, Wrote, wrote, Writer}
 use Rattle.walks.specs.Needs as N
 use Rattle.walks.specs.Needs.{Extent, Measure}
 use Rattle.walks.specs.Fitting.{holder}

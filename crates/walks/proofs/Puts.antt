@@ -5,7 +5,7 @@ use Prim.Native.Nat.{ℕ, zero, suc, _+_, _-_, _≤_, max}
 use native.Mathlib.Omega.{arith}
 use native.Mathlib.Nat.{suc-add, zero-add}
 use lib.ListN.{length, take, drop, length-append, length-take, length-drop}
-use lib.Seq.{length-take-le, take-nil, drop-nil, take-at, drop-at, take-append-le, take-take}
+use lib.Seq.{length-take-le, take-nil, take-at, drop-at, take-take}
 use Rattle.walks.specs.Writing.{Put, reach, lay, apply}
 
 -- ascending from a position on

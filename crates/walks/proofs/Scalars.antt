@@ -1,28 +1,28 @@
 -- A scalar item that fits an entry is written in as many bytes as the entry is wide, and read back; a Pad fills its width.
 use mathlib.Core.Path.{_≡_, refl, sym, ap, _∙_, subst}
-use mathlib.Core.Bool.{Bool, true, false, _&&_, cond, false≢true}
-use mathlib.Core.List.{List, [], _∷_, _++_}
-use Prim.Native.Nat.{ℕ, _+_, _-_, _%_, _^_, _≤_, _<_}
+use mathlib.Core.Bool.{Bool, true, false, cond, false≢true}
+use mathlib.Core.List.{List, []}
+use Prim.Native.Nat.{ℕ, _+_, _-_, _%_, _≤_}
 use native.Mathlib.Omega.{arith}
-use lib.Dec.{eqb, leb, ltb}
+use lib.Dec.{eqb, leb}
 use lib.ListN.{length, take, drop, length-drop}
 use lib.Seq.{length-take-le}
-use borrow.Author.Tests.{le-leb, eqb-true, eqb-false, eq-eqb, ne-eqb, leb-true}
+use borrow.Author.Tests.{le-leb, eqb-true, leb-true}
 use Rattle.layout.specs.declared.Entry.{Entry}
 use Rattle.items.specs.declared.Item.{Item}
-use Rattle.items.specs.Items.{textOk, scalarOk}
+use Rattle.items.specs.Items.{scalarOk}
 use Rattle.items.proofs.Words.{words-back}
 use Rattle.value.specs.declared.Scalar.{Scalar}
 use Rattle.value.specs.declared.Scalar.the-variants.{Null, Text, Int, Decimal, Float as FloatV, FloatBits, Bool as BoolV}
 use Rattle.value.specs.Scalar.{tagOf, firstOf, secondOf, scalarOf}
 use Rattle.text.specs.Text.{padded}
 use Rattle.text.proofs.Back.{padded-length}
-use Rattle.decode_scalar.specs.Decode.{Says, value, text, says}
+use Rattle.decode_scalar.specs.Decode.{value, text}
 use Rattle.encode_scalar.specs.Encode.{judgedOf, bytesOf}
-use Rattle.encode_scalar.specs.Fits.{Fits, saidOf}
+use Rattle.encode_scalar.specs.Fits.{saidOf}
 use Rattle.encode_scalar.proofs.Back.{Kept, field-kept}
 use Rattle.fits.proofs.Length.{bytes-long}
-use Rattle.walks.specs.Walk.{isPad, Coded, bytes, Leaf, leaf, Codec}
+use Rattle.walks.specs.Walk.{isPad, bytes, leaf}
 use Rattle.walks.specs.Kinds.{State, noted, said, maskOf, textOf, scalarIn, codedOf, enc, leafOf, dec, kinds}
 use Rattle.walks.specs.Fitting.{after, Good}
 use Rattle.walks.proofs.Goes.{Law, PadLaw}

@@ -1,7 +1,7 @@
 -- A single entry reserves its width.
 use mathlib.Core.Path.{_≡_}
 use mathlib.Core.Bool.{Bool, true, false, not, _&&_, cond, false≢true}
-use Prim.Native.Nat.{ℕ, _*_}
+use Prim.Native.Nat.{_*_}
 use native.Mathlib.Omega.{arith}
 use lib.Dec.{eqb}
 use Rattle.layout.specs.declared.Entry.{Entry}

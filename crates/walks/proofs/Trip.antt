@@ -1,28 +1,27 @@
 -- A fitting list under a plain layout is written, and what is written is read back: by the derivation of its fitting.
 use mathlib.Core.Path.{_≡_, refl, sym, ap, _∙_}
-use mathlib.Core.Bool.{Bool, true, false, _&&_, _||_, not, cond, false≢true}
-use mathlib.Core.List.{List, [], _∷_, _++_}
-use Prim.Native.Nat.{ℕ, zero, suc, _+_, _-_, _≤_, max}
+use mathlib.Core.Bool.{Bool, true, false, _&&_, not, cond, false≢true}
+use mathlib.Core.List.{List, [], _∷_}
+use Prim.Native.Nat.{ℕ, zero, suc, _+_, _-_, _≤_}
 use native.Mathlib.Omega.{arith}
-use lib.ListN.{length}
-use lib.Dec.{leb, eqb}
-use borrow.Author.Tests.{ne-eqb, eq-eqb, eqb-true}
+use lib.Dec.{eqb}
+use borrow.Author.Tests.{ne-eqb, eq-eqb}
 use Rattle.layout.specs.declared.Entry.{Entry}
-use Rattle.layout.specs.Layout.{isGroup, present, reservedWidth}
+use Rattle.layout.specs.Layout.{isGroup, present}
 use Rattle.spans.specs.Tree.{Tree, none, node, size}
 use Rattle.items.specs.declared.Item.{Item}
-use Rattle.items.specs.Items.{Values, count, headOf, membersOf, restOf, lookup}
-use Rattle.walks.specs.Walk.{single, isPad, Many, times, atMost, howMany, Codec}
+use Rattle.items.specs.Items.{Values, count, lookup}
+use Rattle.walks.specs.Walk.{single, isPad, Many, howMany, Codec}
 use Rattle.walks.specs.Kinds.{State, held}
 use Rattle.walks.specs.Reading as R
-use Rattle.walks.specs.Reading.{Outcome, read, Reader}
+use Rattle.walks.specs.Reading.{read, Reader}
 use Rattle.walks.specs.Writing as W
 use Rattle.walks.specs.Writing.{Writer}
 use Rattle.walks.specs.Needs as N
-use Rattle.walks.specs.Needs.{Extent, Measure}
+use Rattle.walks.specs.Needs.{Measure}
 use Rattle.walks.specs.Fitting.{after, Good, holder, Sort, sequence, elements, Fits, done, pads, scalar, group, table, last, scalars, groups}
 use Rattle.walks.proofs.Plainly.{Fresh, least, Sound, Plain}
-use Rattle.walks.proofs.Goes.{flat, Goes, along, counted, Law, PadLaw, scalar-goes, pad-goes, inside-goes, elements-none, elements-more, entry-goes, group-goes, field-one, field-table, seq-none}
+use Rattle.walks.proofs.Goes.{flat, Goes, along, counted, Law, PadLaw, scalar-goes, pad-goes, elements-none, elements-more, entry-goes, group-goes, field-one, field-table, seq-none}
 
 -- a Pad is no group
 pub pad-alone : (e : Entry) → isPad e ≡ true → isGroup e ≡ false

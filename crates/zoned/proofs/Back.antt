@@ -1,23 +1,22 @@
 -- A number that was written into a zoned field is read back, over any width and on either page.
-use mathlib.Core.Path.{_≡_, refl, sym, ap, _∙_, subst}
+use mathlib.Core.Path.{_≡_, refl, ap, _∙_}
 use mathlib.Core.List.{List, [], _∷_, _++_, map}
-use mathlib.Core.Bool.{Bool, true, false, _&&_, _||_, cond, false≢true}
-use Prim.Native.Nat.{ℕ, zero, suc, _+_, _-_, _/_, _%_, _^_, _<_, _≤_}
+use mathlib.Core.Bool.{Bool, true, false, _&&_, cond}
+use Prim.Native.Nat.{ℕ, zero, suc, _+_, _-_, _/_, _^_, _<_}
 use native.Mathlib.Nat.{not-suc-le-zero, le-of-suc-le-suc}
 use native.Mathlib.Omega.{arith}
 use native.Mathlib.Decide.{decLt}
 use lib.Dec.{eqb, leb, ltb, lit<}
-use lib.ListN.{length, getD, take, length-map, length-append, List·getD-append}
-use lib.Seq.{take-at, getD-at, getD-append-seam}
-use borrow.Author.Tests.{lt-ltb, le-ltb, ltb-true, le-leb, lt-leb, eq-eqb, ne-eqb}
+use lib.ListN.{length, getD, take, length-append, List·getD-append}
+use lib.Seq.{take-at, getD-at}
+use borrow.Author.Tests.{lt-ltb, le-ltb, ltb-true, le-leb, lt-leb, ne-eqb}
 use Rattle.ebcdic.specs.Ebcdic.{fromPage, ontoPage}
 use Rattle.ebcdic.proofs.Laws.{bytes-back}
-use Rattle.value.specs.declared.Number.the-variants.{Of, Bad, Big}
-use Rattle.value.specs.Digits.{valueOf, digitsOk, digitAt, digitsOf, spread, limit}
+use Rattle.value.specs.declared.Number.the-variants.{Of}
+use Rattle.value.specs.Digits.{digitAt, digitsOf, spread, limit}
 use Rattle.value.specs.Field.{fieldOf, lastOf, digitsBy}
-use Rattle.value.proofs.Digits.{ok-digits, value-of-digits, digit-below, length-digits, digits-snoc}
-use Rattle.value.specs.Digits.{digitText, asciiOf}
-use Rattle.display.specs.Display.{roomFor}
+use Rattle.value.proofs.Digits.{ok-digits, value-of-digits, digit-below, digits-snoc}
+use Rattle.value.specs.Digits.{digitText}
 use Rattle.zoned.specs.Zoned.{digitOf, zone, lastDigit, minus, decodeOf, overpunch, lastByte, encodedOf, fitsOf}
 use Rattle.zoned.proofs.Writing.{fits-some, text-length}
 

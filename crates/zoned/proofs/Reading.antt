@@ -1,9 +1,7 @@
 -- How a reader from the left finds out what a zoned field says: the laws of a field, at zoned bytes.
 use mathlib.Core.Path.{_≡_, refl}
-use mathlib.Core.List.{List, [], _∷_}
-use mathlib.Core.Bool.{Bool, true, false}
+use mathlib.Core.List.{List}
 use Prim.Native.Nat.{ℕ, _+_, _-_, _*_, _<_, _≤_}
-use native.Mathlib.Omega.{arith}
 use lib.ListN.{length, getD}
 use borrow.Author.Tests.{le-ltb, lt-ltb}
 use Rattle.value.specs.declared.Number.the-variants.{Bad}

@@ -2,11 +2,11 @@
 use mathlib.Core.Path.{_≡_, refl, sym, ap, _∙_}
 use mathlib.Core.List.{List, [], _∷_, _++_, map}
 use mathlib.Core.Bool.{Bool, true, false, _&&_, cond, false≢true}
-use Prim.Native.Nat.{ℕ, zero, suc, _+_, _-_, _/_, _%_, _^_, _<_, _≤_}
-use native.Mathlib.Nat.{not-suc-le-zero, div-one, sub-zero}
+use Prim.Native.Nat.{ℕ, zero, _+_, _-_, _/_, _%_, _^_, _<_}
+use native.Mathlib.Nat.{div-one, sub-zero}
 use native.Mathlib.Omega.{arith}
-use lib.Dec.{eqb, leb, ltb}
-use lib.ListN.{length, getD, take, drop, set, length-map, length-drop}
+use lib.Dec.{ltb}
+use lib.ListN.{length, take, drop, set, length-map, length-drop}
 use lib.Seq.{length-take-le}
 use borrow.Author.Tests.{ltb-true}
 use Rattle.lists.proofs.Lists.{map-append}
@@ -14,8 +14,7 @@ use Rattle.ebcdic.specs.Ebcdic.{ontoPage}
 use Rattle.value.specs.Digits.{digitAt, digitsOf}
 use Rattle.value.proofs.Digits.{length-digits}
 use Rattle.value.specs.Digits.{digitText, asciiOf}
-use Rattle.display.specs.Display.{roomFor}
-use Rattle.zoned.specs.Zoned.{overpunch, lastByte, encodedOf, fitsOf}
+use Rattle.zoned.specs.Zoned.{overpunch, encodedOf, fitsOf}
 
 pub fits-some : (w size : ℕ) → fitsOf w size ≡ true → 0 < w
 fits-some w size e = by (ltb 0 w) refl e

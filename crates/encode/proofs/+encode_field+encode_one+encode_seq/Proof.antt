@@ -1,6 +1,5 @@
-use Prim.Native.Nat.{ℕ, _<_}
 use borrow.Fn.Kinds.{In}
-use borrow.Fn.PlainCycle.{Measures, is, falls, and}
+use borrow.Fn.PlainCycle.{is}
 use Rattle.encode.proofs.encode_field.Reads as encode-field
 use Rattle.encode.proofs.encode_field.Kinds as encode-field-kinds
 use Rattle.encode.proofs.+encode_field+encode_one+encode_seq.Lts-encode_field as encode-field-lts
@@ -12,7 +11,7 @@ use Rattle.encode.proofs.encode_seq.Kinds as encode-seq-kinds
 use Rattle.encode.proofs.+encode_field+encode_one+encode_seq.Lts-encode_seq as encode-seq-lts
 use Rattle.encode.proofs.+encode_field+encode_one+encode_seq.{statement}
 use Rattle.encode.proofs.+encode_field+encode_one+encode_seq.Tie.{close}
-use Rattle.encode.proofs.+encode_field+encode_one+encode_seq.Proof.Common.{μ-encode-field, μ-encode-one, μ-encode-seq, encode-field-at, encode-field-below, encode-one-at, encode-one-below, encode-seq-at, encode-seq-below}
+use Rattle.encode.proofs.+encode_field+encode_one+encode_seq.Proof.Common.{μ-encode-field, μ-encode-one, μ-encode-seq, encode-field-at, encode-one-at, encode-seq-at}
 use Rattle.encode.proofs.+encode_field+encode_one+encode_seq.Proof.Field.{encode-field-claims, encode-field-Inv-loop, encode-field-μ-loop, encode-field-elements-of-requires, encode-field-refusal-requires, encode-field-returns, encode-field-encode-table-requires, encode-field-same-length, encode-field-returns-2, encode-field-encode-table-requires-2, encode-field-same-length-2, encode-field-returns-3, encode-field-loop-holds, encode-field-encode-one-requires, encode-field-refusal-requires-2, encode-field-same-length-3, encode-field-returns-4, encode-field-larger-requires, encode-field-settles-requires, encode-field-sat-mul-requires, encode-field-sat-add-requires, encode-field-same-length-4, encode-field-returns-5, encode-field-sat-add-requires-2, encode-field-sat-add-requires-3, encode-field-item-end-requires, encode-field-sub-left, encode-field-loop-less, encode-field-loop-again, encode-field-same-length-5, encode-field-returns-6}
 use Rattle.encode.proofs.+encode_field+encode_one+encode_seq.Proof.One.{encode-one-claims, encode-one-fetch-requires, encode-one-takes-requires, encode-one-refusal-requires, encode-one-returns, encode-one-item-end-requires, encode-one-after-requires, encode-one-encode-seq-requires, encode-one-same-length, encode-one-returns-2}
 use Rattle.encode.proofs.+encode_field+encode_one+encode_seq.Proof.Seq.{encode-seq-claims, encode-seq-Inv-loop, encode-seq-μ-loop, encode-seq-loop-holds, encode-seq-load-requires, encode-seq-cast-sat-add, encode-seq-sat-add-requires, encode-seq-sat-add-requires-2, encode-seq-place-of-requires, encode-seq-is-lone-leaf-requires, encode-seq-fetch-requires, encode-seq-encode-leaf-requires, encode-seq-refusal-requires, encode-seq-same-length, encode-seq-returns, encode-seq-sat-add-requires-3, encode-seq-larger-requires, encode-seq-larger-requires-2, encode-seq-add-i, encode-seq-loop-less, encode-seq-loop-again, encode-seq-cast-end-of, encode-seq-end-of-requires, encode-seq-add-encode-field, encode-seq-encode-field-requires, encode-seq-refusal-requires-2, encode-seq-same-length-2, encode-seq-returns-2, encode-seq-reserved-width-requires, encode-seq-less-requires, encode-seq-sat-add-requires-4, encode-seq-sat-add-requires-5, encode-seq-larger-requires-3, encode-seq-larger-requires-4, encode-seq-loop-less-2, encode-seq-loop-again-2, encode-seq-same-length-3, encode-seq-returns-3}

@@ -1,20 +1,14 @@
-use mathlib.Core.Path.{_≡_, refl, sym, ap, _∙_, subst}
-use mathlib.Core.Bool.{Bool, true, false}
-use mathlib.Core.Logic.{⊎-elim}
-use mathlib.Core.List.{List, [], _∷_, _++_, map, append-nil, append-assoc}
-use Prim.Native.Nat.{ℕ, zero, suc, _+_, _-_, _*_, _≤_, _<_}
+use mathlib.Core.Path.{_≡_, sym, _∙_}
+use mathlib.Core.Bool.{true, false}
+use Prim.Native.Nat.{_-_, _≤_, _<_}
 use native.Mathlib.Omega.{arith}
-use native.Mathlib.Numerals.{add-one}
-use borrow.Author.Tests.{lt-ltb, le-ltb, le-leb, lt-leb, eq-eqb, ne-eqb, eqb-true, eqb-false, ltb-true, ltb-false, leb-true, leb-false}
-use lib.Dec.{eqb, leb, ltb}
-use lib.ListN.{length, take, drop, getD, set, replicate, length-set, length-append, length-take, length-drop, length-replicate, length-map}
+use lib.ListN.{length, take, drop, getD}
 use borrow.Author.Needs.{needs}
 use borrow.Author.Tests.{not-true, not-false}
 use Rattle.lines.specs.Lines.{bound, numberOf}
 use Rattle.lines.proofs.Laws.{numberFrom, number-start, number-lead, number-go, number-stop, number-over, number-end, digit-least, digit-most}
 use Rattle.lines.proofs.number_of.Statement.{statement}
 use Rattle.lines.proofs.number_of.Tie as tie
-use Rattle.value.specs.Digits.{isDigit}
 
 abbrev Inv-loop : tie.InvT-loop
 Inv-loop part v₀ i₀ v i = (i ≤ length part) × ((v < bound) × (numberOf part ≡ numberFrom v (drop i part)))

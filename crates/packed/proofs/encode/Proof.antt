@@ -6,7 +6,7 @@ use Rattle.packed.proofs.encode.Lts as lts
 use Rattle.packed.proofs.fits.Reads as fits-reads
 use Rattle.packed.proofs.sign_of.Reads as sign-of-reads
 use Rattle.packed.proofs.write.Reads as write-reads
-use mathlib.Core.Path.{_≡_, refl, sym, _∙_, ap}
+use mathlib.Core.Path.{sym, _∙_}
 use Rattle.packed.proofs.Writing.{fits-pos, written-fits, written-not}
 
 -- src/lib.rt:106:8

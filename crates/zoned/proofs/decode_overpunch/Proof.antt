@@ -3,7 +3,7 @@ use Rattle.zoned.proofs.decode_overpunch.Statement.{statement}
 use Rattle.zoned.proofs.decode_overpunch.Tie as tie
 use Rattle.zoned.proofs.decode_overpunch.Reads as reads
 use Rattle.zoned.proofs.decode_overpunch.Lts as lts
-use borrow.Author.Tests.{lt-ltb, le-ltb, le-leb, lt-leb, eq-eqb, ne-eqb}
+use borrow.Author.Tests.{lt-ltb, le-ltb, eq-eqb, ne-eqb}
 use native.Mathlib.Omega.{arith}
 use Rattle.zoned.proofs.digit.Reads as digit-reads
 

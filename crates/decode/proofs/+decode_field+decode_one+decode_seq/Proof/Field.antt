@@ -1,6 +1,6 @@
-use Prim.Native.Nat.{ℕ, _<_}
+use Prim.Native.Nat.{ℕ}
 use borrow.Fn.Kinds.{In}
-use borrow.Fn.PlainCycle.{Measures, is, falls, and}
+use borrow.Fn.PlainCycle.{is}
 use Rattle.decode.proofs.decode_field.Reads as decode-field
 use Rattle.decode.proofs.decode_field.Kinds as decode-field-kinds
 use Rattle.decode.proofs.+decode_field+decode_one+decode_seq.Lts-decode_field as decode-field-lts
@@ -25,22 +25,21 @@ use Rattle.decode_leaf.proofs.took_none.Reads as took-none-reads
 use Rattle.layout.proofs.load.Reads as load-reads
 use Rattle.layout.proofs.reserved_width.Reads as reserved-width-reads
 use Rattle.spans.proofs.end_of.Reads as end-of-reads
-use Rattle.decode.proofs.+decode_field+decode_one+decode_seq.Proof.Common.{μ-decode-field, μ-decode-one, μ-decode-seq, decode-field-at, decode-field-below, decode-one-at, decode-one-below, decode-seq-at, decode-seq-below}
-use mathlib.Core.Path.{_≡_, refl, sym, ap, _∙_}
-use mathlib.Core.Bool.{true, false, cond}
-use mathlib.Core.List.{List, [], _∷_, _++_}
-use Prim.Native.Nat.{_+_, _-_, _*_, _≤_}
+use Rattle.decode.proofs.+decode_field+decode_one+decode_seq.Proof.Common.{decode-field-at, decode-one-below}
+use mathlib.Core.Path.{_∙_}
+use mathlib.Core.Bool.{cond}
+use Prim.Native.Nat.{_-_}
 use native.Mathlib.Omega.{arith}
 use borrow.Author.Needs.{needs}
-use lib.ListN.{length, take, drop}
+use lib.ListN.{length, take}
 use Rattle.layout.specs.Layout.{part}
 use Rattle.walks.specs.Reading.{one}
 use Rattle.decode_leaf.specs.Capped.{seq}
 use Rattle.decode_leaf.specs.Machine.{kept}
 use Rattle.decode_leaf.proofs.Meets.{refuse, same-as}
-use Rattle.decode.proofs.Steps.{field-never, field-small, inside-small}
-use Rattle.decode.proofs.Turns.{SeqInv, seq-starts, seq-stops, seq-goes, seq-passes, seq-done, TurnsInv, turns-starts, turns-stop, turns-nothing, turns-go, returned-same, returned-written}
-use Rattle.decode.proofs.Around.{listed-met, head-is, counted-is, entry-is, entry-refused, one-group, field-lone, lone-is, lone-kind, not-lone, scalars-table, header-same, used-fits, inside-stops, inside-done}
+use Rattle.decode.proofs.Steps.{field-never, field-small}
+use Rattle.decode.proofs.Turns.{TurnsInv, turns-starts, turns-stop, turns-nothing, turns-go, returned-same, returned-written}
+use Rattle.decode.proofs.Around.{listed-met, head-is, counted-is, entry-is, entry-refused, one-group, not-lone, scalars-table}
 
 abbrev pub decode-field-claims : ℕ → decode-field-lts.Claims
 decode-field-claims t = (decode-table-reads.Asked, decode-table-reads.Learnt, is-single-reads.Asked, is-single-reads.Learnt, element-name-reads.Asked, element-name-reads.Learnt, element-count-reads.Asked, element-count-reads.Learnt, refusal-reads.Asked, refusal-reads.Learnt, head-words-reads.Asked, head-words-reads.Learnt, decode-one-below t, decode-one.Post, took-none-reads.Asked, took-none-reads.Learnt, sat-add-reads.Asked, sat-add-reads.Learnt, listed-reads.Asked, listed-reads.Learnt)

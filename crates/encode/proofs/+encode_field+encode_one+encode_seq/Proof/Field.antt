@@ -11,9 +11,8 @@ use Rattle.encode_leaf.proofs.sat_mul.Reads as sat-mul-reads
 use Rattle.encode_leaf.proofs.settles.Reads as settles-reads
 use Rattle.items.proofs.item_end.Reads as item-end-reads
 use Rattle.encode.proofs.+encode_field+encode_one+encode_seq.Proof.Common.{encode-field-at, encode-one-below}
-use mathlib.Core.Path.{_≡_, refl, sym, ap, _∙_}
-use mathlib.Core.Bool.{Bool, true, false}
-use Prim.Native.Nat.{_+_, _-_, _*_, _≤_}
+use mathlib.Core.Path.{refl, _∙_}
+use Prim.Native.Nat.{_-_}
 use native.Mathlib.Omega.{arith}
 use borrow.Author.Needs.{needs}
 use lib.ListN.{length}

@@ -8,14 +8,14 @@ use Rattle.items.proofs.after.Reads as after-reads
 use Rattle.items.proofs.fetch.Reads as fetch-reads
 use Rattle.items.proofs.item_end.Reads as item-end-reads
 use Rattle.encode.proofs.+encode_field+encode_one+encode_seq.Proof.Common.{encode-one-at, encode-seq-below}
-use mathlib.Core.Path.{_≡_, refl, sym, ap, _∙_}
-use mathlib.Core.Bool.{Bool, true, false}
-use Prim.Native.Nat.{_+_, _-_, _*_, _≤_}
+use mathlib.Core.Path.{sym, _∙_}
+use mathlib.Core.Bool.{true, false}
+use Prim.Native.Nat.{_-_}
 use native.Mathlib.Omega.{arith}
 use borrow.Author.Needs.{needs}
 use borrow.Author.Tests.{not-true, not-false}
 use lib.ListN.{length}
-use Rattle.encode_leaf.proofs.Meets.{refuse, fine, same-as}
+use Rattle.encode_leaf.proofs.Meets.{refuse, same-as}
 use Rattle.encode_leaf.proofs.Inside.{inside-not, inside-is}
 
 abbrev pub encode-one-claims : ℕ → encode-one-lts.Claims

@@ -14,14 +14,12 @@ use Rattle.layout.proofs.load.Reads as load-reads
 use Rattle.layout.proofs.reserved_width.Reads as reserved-width-reads
 use Rattle.spans.proofs.end_of.Reads as end-of-reads
 use Rattle.encode.proofs.+encode_field+encode_one+encode_seq.Proof.Common.{encode-field-below, encode-seq-at}
-use mathlib.Core.Path.{_≡_, refl, sym, ap, _∙_}
-use mathlib.Core.Bool.{Bool, true, false}
-use Prim.Native.Nat.{_+_, _-_, _*_, _≤_}
+use mathlib.Core.Path.{refl, _∙_}
+use Prim.Native.Nat.{_-_}
 use native.Mathlib.Omega.{arith}
 use borrow.Author.Needs.{needs}
-use borrow.Author.Tests.{not-true, not-false}
 use lib.ListN.{length}
-use Rattle.encode_leaf.proofs.Meets.{refuse, fine, same-as}
+use Rattle.encode_leaf.proofs.Meets.{refuse, fine}
 use Rattle.encode.proofs.Steps.{lone-end, lone-field, lone-shift}
 use Rattle.encode.proofs.Turns.{SeqInv, seq-starts, seq-stops, seq-goes, seq-done}
 

@@ -129,7 +129,16 @@ fn value(g: &mut Random, e: &Entry, controls: bool) -> Item {
     let signed = |n: u64, minus: bool| if minus { (n as i64).wrapping_neg() as u64 } else { n };
     match k.kind {
         0 => {
-            let n = if k.q == 0 { w as u64 } else { g.below(w as u64 + 1) };
+            // untrimmed: any bytes, pads and zeros among them
+            if k.q == 0 {
+                return texts((0..w).map(|_| match g.below(5) {
+                    0 => g.next() as u8,
+                    1 => k.r as u8,
+                    2 => 0,
+                    _ => g.pick(b"AB 0z"),
+                }).collect());
+            }
+            let n = g.below(w as u64 + 1);
             let mut s: Vec<u8> = (0..n).map(|_| if g.below(4) == 0 { 1 + g.below(255) as u8 } else { g.pick(b"AB 0z") }).collect();
             let end = if k.p == 0 { s.len().wrapping_sub(1) } else { 0 };
             if !s.is_empty() && s[end] == k.r as u8 {

@@ -1,7 +1,7 @@
 -- The code's tests, one at a time, give the tests of the definition.
 use mathlib.Core.Path.{_≡_, refl, sym, ap, _∙_, subst}
 use mathlib.Core.List.{List, [], _∷_}
-use mathlib.Core.Bool.{Bool, true, false, not, _&&_, cond, and-false, false≢true, true≢false}
+use mathlib.Core.Bool.{Bool, true, false, not, _&&_, cond, and-true, and-false, false≢true, true≢false}
 use Prim.Native.Nat.{ℕ, _+_, _-_, _*_, _/_, _%_, _^_, _<_, _≤_}
 use native.Mathlib.Omega.{arith}
 use lib.Dec.{eqb, leb, ltb, T}
@@ -9,6 +9,7 @@ use lib.ListN.{length, getD}
 use lib.Ieee.{Float, nan, inf, fin, binary64, eq, ne, fits, isNan, toBits}
 use lib.Ieee.Compare.{differs-from-itself}
 use borrow.Author.Tests.{lt-ltb, le-ltb, le-leb, lt-leb, eq-eqb, ne-eqb, ltb-true, ltb-false, leb-true, leb-false}
+use Rattle.lists.proofs.Scan.{every-true}
 use Rattle.value.specs.declared.Number.the-variants.{Of}
 use Rattle.value.specs.Digits.{limit}
 use Rattle.value.specs.Field.{lastOf}
@@ -17,7 +18,7 @@ use Rattle.binary.specs.Binary.{widthOk}
 use Rattle.binary.proofs.Integers.{width-low, width-high, half-twice, halfAt}
 use Rattle.hex.specs.Hex.{isLower}
 use Rattle.edited.specs.Edited.{judged, isLawful, isFloating, countOf, positions}
-use Rattle.fits.specs.Decide.{isTextByte, minusOk, digitsFit, inRange, lastTwo, tells, maskFits, wordFits}
+use Rattle.fits.specs.Decide.{byteOk, isTextByte, untrimmedFits, minusOk, digitsFit, inRange, lastTwo, tells, maskFits, wordFits}
 use Rattle.fits.proofs.Tests.{and}
 
 -- ---- a test, and another where it passes
@@ -54,6 +55,10 @@ byte-fine x n h = and (some x n) (lt-ltb x 256 h)
 
 pub byte-none : (x : ℕ) → x ≡ 0 → isTextByte x ≡ false
 byte-none x e = rw e
+
+-- of bytes, only how many there are is asked
+pub untrimmed-long : (w : ℕ) (t : List ℕ) → ((k : ℕ) → k < length t → getD t k 0 < 256) → eqb (length t) w ≡ untrimmedFits w t
+untrimmed-long w t h = rw (every-true byteOk t (λ k b. lt-ltb (getD t k 0) 256 (h k b)), and-true)
 
 pub lower-none : (x : ℕ) → x < 48 → false ≡ isLower x
 lower-none x h = rw (lt-ltb x 48 h)

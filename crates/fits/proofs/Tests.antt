@@ -26,7 +26,7 @@ use Rattle.edited.specs.Fits as Edited
 use Rattle.edited.specs.Fits.Tells.{first-plus, first-minus, last-plus, last-minus, credit, debit}
 use Rattle.decode_scalar.specs.Decode.{flag}
 use Rattle.encode_scalar.specs.Fits.{Minus, Digits, plain, separate, InRange, unsigned, plus, minus, Signed}
-use Rattle.fits.specs.Decide.{isTextByte, cutEndOk, lengthOk, textFits, hexFits, minusOk, digitsFit, inRange, signOk, lastTwo, tells, editedMinusOk, maskFits}
+use Rattle.fits.specs.Decide.{byteOk, isTextByte, cutEndOk, textFits, hexFits, minusOk, digitsFit, inRange, signOk, lastTwo, tells, editedMinusOk, maskFits}
 
 -- ---- two tests
 
@@ -54,42 +54,45 @@ every-at f [] e k h = absurd (omega arith)
 every-at f (x ∷ t) e zero h = every-head f x t e
 every-at f (x ∷ t) e (suc k) h = every-at f t (every-tail f x t e) k (le-of-suc-le-suc h)
 
-length-sound : (trim : Bool) (w : ℕ) (t : List ℕ) → lengthOk trim w t ≡ true → (length t ≤ w) × (trim ≡ false → length t ≡ w)
-length-sound true w t e = (leb-true (length t) w e, λ f. absurd (false≢true (sym f)))
-length-sound false w t e = (le-of-eq (eqb-true (length t) w e), λ f. eqb-true (length t) w e)
-
-length-complete : (trim : Bool) (w : ℕ) (t : List ℕ) → length t ≤ w → (trim ≡ false → length t ≡ w) → lengthOk trim w t ≡ true
-length-complete true w t h f = le-leb (length t) w h
-length-complete false w t h f = eq-eqb (length t) w (f refl)
-
 pub text-sound : (right trim : Bool) (pad w : ℕ) (t : List ℕ) → textFits right trim pad w t ≡ true → Text.Fits right trim pad w t
 unfolding textFits
-text-sound right trim pad w t e =
-    let a = both (lengthOk trim w t) (everyBy isTextByte t && cutEndOk right pad t) e in
+text-sound right true pad w t e =
+    let a = both (leb (length t) w) (everyBy isTextByte t && cutEndOk right pad t) e in
     let b = both (everyBy isTextByte t) (cutEndOk right pad t) (a .1) in
-    let l = length-sound trim w t (a .0) in
-    let at : (k : ℕ) → k < length t → (ltb 0 (getD t k 0) ≡ true) × (ltb (getD t k 0) 256 ≡ true) = λ k h. both (ltb 0 (getD t k 0)) (ltb (getD t k 0) 256) (every-at isTextByte t (b .0) k h) in
+    let at : (k : ℕ) → k < length t → (ltb 0 (getD t k 0) ≡ true) × (byteOk (getD t k 0) ≡ true) = λ k h. both (ltb 0 (getD t k 0)) (byteOk (getD t k 0)) (every-at isTextByte t (b .0) k h) in
+    let end = getD t (cond right 0 (length t - 1)) 0 in
     record {
       bytes = λ k h. ltb-true (getD t k 0) 256 (at k h .1);
-      room = l .0;
-      noZero = λ k h z. let p = ltb-true 0 (getD t k 0) (at k h .0) in omega arith;
-      noPad = λ h z. absurd (false≢true (sym (ap not (eq-eqb (getD t (cond right 0 (length t - 1)) 0) pad z)) ∙ either (eqb (length t) 0) (not (eqb (getD t (cond right 0 (length t - 1)) 0) pad)) (b .1) (ne-eqb (length t) 0 (λ q. omega arith))));
-      whole = l .1;
+      room = leb-true (length t) w (a .0);
+      noZero = λ _ k h z. let p = ltb-true 0 (getD t k 0) (at k h .0) in omega arith;
+      noPad = λ _ h z. absurd (false≢true (sym (ap not (eq-eqb end pad z)) ∙ either (eqb (length t) 0) (not (eqb end pad)) (b .1) (ne-eqb (length t) 0 (λ q. omega arith))));
+      whole = λ f. absurd (false≢true (sym f));
+    }
+text-sound right false pad w t e =
+    let a = both (eqb (length t) w) (everyBy byteOk t) e in
+    let long = eqb-true (length t) w (a .0) in
+    record {
+      bytes = λ k h. ltb-true (getD t k 0) 256 (every-at byteOk t (a .1) k h);
+      room = le-of-eq long;
+      noZero = λ f. absurd (false≢true f);
+      noPad = λ f. absurd (false≢true f);
+      whole = λ _. long;
     }
 
 pub text-complete : (right trim : Bool) (pad w : ℕ) (t : List ℕ) → Text.Fits right trim pad w t → textFits right trim pad w t ≡ true
 unfolding textFits
-text-complete right trim pad w t f =
-    and (length-complete trim w t (f .room) (f .whole))
+text-complete right true pad w t f =
+    and (le-leb (length t) w (f .room))
     (and (every-true isTextByte t (λ k h. and (lt-ltb 0 (getD t k 0) (some k h)) (lt-ltb (getD t k 0) 256 (f .bytes k h))))
     (end (length t) refl))
   where
     some : (k : ℕ) → k < length t → 0 < getD t k 0
-    some k h = let n = f .noZero k h in omega arith
+    some k h = let n = f .noZero refl k h in omega arith
 
     end : (n : ℕ) → length t ≡ n → cutEndOk right pad t ≡ true
     end zero e = rw e
-    end (suc n) e = or-right (eqb (length t) 0) (not (eqb (getD t (cond right 0 (length t - 1)) 0) pad)) (ap not (ne-eqb (getD t (cond right 0 (length t - 1)) 0) pad (f .noPad (omega arith))))
+    end (suc n) e = or-right (eqb (length t) 0) (not (eqb (getD t (cond right 0 (length t - 1)) 0) pad)) (ap not (ne-eqb (getD t (cond right 0 (length t - 1)) 0) pad (f .noPad refl (omega arith))))
+text-complete right false pad w t f = and (eq-eqb (length t) w (f .whole refl)) (every-true byteOk t (λ k h. lt-ltb (getD t k 0) 256 (f .bytes k h)))
 
 pub hex-sound : (w : ℕ) (t : List ℕ) → hexFits w t ≡ true → Hex.Fits w t
 unfolding hexFits

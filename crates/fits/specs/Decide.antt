@@ -19,20 +19,28 @@ use Rattle.decode_scalar.specs.Decode.{flag}
 
 -- ---- Text and Hex
 
+-- an element of a text is a byte
+abbrev pub byteOk : ℕ → Bool
+byteOk x = ltb x 256
+
 -- "no 0 byte"
 abbrev pub isTextByte : ℕ → Bool
-isTextByte x = ltb 0 x && ltb x 256
+isTextByte x = ltb 0 x && byteOk x
 
 -- "no pad byte at its cut end": the first byte of a text that stands at the right, else the last one
 abbrev pub cutEndOk : Bool → ℕ → List ℕ → Bool
 cutEndOk right pad t = eqb (length t) 0 || not (eqb (getD t (cond right 0 (length t - 1)) 0) pad)
 
--- "length at most width"; "untrimmed, length equal to width"
-abbrev pub lengthOk : Bool → ℕ → List ℕ → Bool
-lengthOk trim w t = cond trim (leb (length t) w) (eqb (length t) w)
+-- "length at most width, no 0 byte, no pad byte at its cut end"
+abbrev pub trimmedFits : Bool → ℕ → ℕ → List ℕ → Bool
+trimmedFits right pad w t = leb (length t) w && (everyBy isTextByte t && cutEndOk right pad t)
+
+-- "untrimmed, length equal to width", and any bytes
+abbrev pub untrimmedFits : ℕ → List ℕ → Bool
+untrimmedFits w t = eqb (length t) w && everyBy byteOk t
 
 unfoldable pub textFits : Bool → Bool → ℕ → ℕ → List ℕ → Bool
-textFits right trim pad w t = lengthOk trim w t && (everyBy isTextByte t && cutEndOk right pad t)
+textFits right trim pad w t = cond trim (trimmedFits right pad w t) (untrimmedFits w t)
 
 -- "Hex: 2w lower-case digits"
 unfoldable pub hexFits : ℕ → List ℕ → Bool

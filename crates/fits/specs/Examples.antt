@@ -41,9 +41,21 @@ text-long : left (65 ∷ 65 ∷ 65 ∷ 65 ∷ []) ≡ false
 unfolding fitsOf textFits everyBy
 text-long = refl
 
-text-untrimmed : fitsOf 0 0 32 0 [] 3 0 (Text 0 0) (65 ∷ []) ≡ false
+-- the same untrimmed: as long as the field, and any bytes
+abbrev untrimmed : List ℕ → Bool
+untrimmed t = fitsOf 0 0 32 0 [] 3 0 (Text 0 0) t
+
+untrimmed-short : untrimmed (65 ∷ []) ≡ false
 unfolding fitsOf textFits everyBy
-text-untrimmed = refl
+untrimmed-short = refl
+
+untrimmed-blank-last : untrimmed (65 ∷ 66 ∷ 32 ∷ []) ≡ true
+unfolding fitsOf textFits everyBy
+untrimmed-blank-last = refl
+
+untrimmed-zero : untrimmed (65 ∷ 0 ∷ 66 ∷ []) ≡ true
+unfolding fitsOf textFits everyBy
+untrimmed-zero = refl
 
 hex-lower : fitsOf 0 0 0 0 [] 1 4 (Text 0 0) (0x61 ∷ 0x39 ∷ []) ≡ true
 unfolding fitsOf hexFits everyBy

@@ -6,7 +6,7 @@ use value::Scalar;
 ghost use mathlib.Core.Path.{_≡_};
 ghost use mathlib.Core.Bool.{true, not, _&&_, cond};
 ghost use Prim.Native.Nat.{ℕ, _%_};
-ghost use lib.Dec.{eqb, leb};
+ghost use lib.Dec.{eqb};
 ghost use lib.ListN.{length};
 ghost use lib.Ieee as Ieee;
 ghost use lib.Ieee.{binary64};
@@ -15,7 +15,7 @@ ghost use Rattle.display.specs.Display.{isSign};
 ghost use Rattle.binary.specs.Binary.{widthOk};
 ghost use Rattle.hex.specs.Hex.{isLower};
 ghost use Rattle.decode_scalar.specs.Decode as Decode;
-ghost use Rattle.fits.specs.Decide.{isTextByte, cutEndOk, textFits, hexFits, minusOk, digitsFit, intFits, inRange, binaryFits, wordFits};
+ghost use Rattle.fits.specs.Decide.{isTextByte, cutEndOk, trimmedFits, textFits, hexFits, minusOk, digitsFit, intFits, inRange, binaryFits, wordFits};
 ghost use Rattle.fits.specs.Decide.{signOk, displayFits, packedFits, zonedFits, decimalFits, lastTwo, tells, editedMinusOk, maskFits, editedFits, fitsOf};
 
 // ---- Text and Hex
@@ -46,25 +46,26 @@ fn cut_end_ok(right: bool, pad: u8, t: &[u8]) -> bool
     t[n - 1] != pad
 }
 
-fn length_ok(trim: bool, width: usize, n: usize) -> bool
-    ensures { λ r. ⌜ r ≡ cond trim (leb n width) (eqb n width) ⌝ }
+fn fits_trimmed(right: bool, pad: u8, width: usize, t: &[u8]) -> bool
+    ensures { λ r. ⌜ r ≡ trimmedFits right pad width (now (t .entry)) ⌝ }
 {
-    if trim {
-        return n <= width;
-    }
-    n == width
-}
-
-fn fits_text(right: bool, trim: bool, pad: u8, width: usize, t: &[u8]) -> bool
-    ensures { λ r. ⌜ r ≡ textFits right trim pad width (now (t .entry)) ⌝ }
-{
-    if length_ok(trim, width, t.len()) {
+    if t.len() <= width {
         if no_zero(t) {
             return cut_end_ok(right, pad, t);
         }
         return false;
     }
     false
+}
+
+// An untrimmed text comes back whatever its bytes are, if there are as many as the field has.
+fn fits_text(right: bool, trim: bool, pad: u8, width: usize, t: &[u8]) -> bool
+    ensures { λ r. ⌜ r ≡ textFits right trim pad width (now (t .entry)) ⌝ }
+{
+    if trim {
+        return fits_trimmed(right, pad, width, t);
+    }
+    t.len() == width
 }
 
 fn is_lower(x: u8) -> bool

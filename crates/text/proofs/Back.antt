@@ -35,11 +35,11 @@ module _ (pad w : ℕ) (t : List ℕ) where
   cut-back : (right trim : Bool) → Fits right trim pad w t → cut right trim pad (justified right pad w t) ≡ t
   unfolding cut
   cut-back true true f =
-      ap (beforeBy (isByte 0)) (left-pads (isByte pad) pad (w - length t) t same ∙ left-kept (isByte pad) t (λ b. ne-eqb (getD t 0 0) pad (f .noPad b)))
-      ∙ zero-kept (f .noZero)
+      ap (beforeBy (isByte 0)) (left-pads (isByte pad) pad (w - length t) t same ∙ left-kept (isByte pad) t (λ b. ne-eqb (getD t 0 0) pad (f .noPad refl b)))
+      ∙ zero-kept (f .noZero refl)
   cut-back false true f =
-      ap (beforeBy (isByte 0)) (right-pads (isByte pad) pad (w - length t) t same ∙ right-kept (isByte pad) t (λ b. ne-eqb (getD t (length t - 1) 0) pad (f .noPad b)))
-      ∙ zero-kept (f .noZero)
+      ap (beforeBy (isByte 0)) (right-pads (isByte pad) pad (w - length t) t same ∙ right-kept (isByte pad) t (λ b. ne-eqb (getD t (length t - 1) 0) pad (f .noPad refl b)))
+      ∙ zero-kept (f .noZero refl)
   cut-back true false f =
       let e : w - length t ≡ 0 = omega (arith, f .whole refl) in
       rw e

@@ -1,10 +1,14 @@
 -- Worked texts, by computation.
 use mathlib.Core.Path.{_≡_, refl}
 use mathlib.Core.List.{[], _∷_}
-use mathlib.Core.Bool.{true, false}
+use mathlib.Core.Bool.{true, false, false≢true}
+use Prim.Native.Nat.{ℕ, zero, suc, _<_}
+use native.Mathlib.Omega.{arith}
+use lib.Dec.{lit<, lit≤}
+use lib.ListN.{getD}
 use Rattle.lists.specs.Scan.{leftBy, rightBy, beforeBy}
 use Rattle.ebcdic.specs.Ebcdic.{fromPage, ontoPage, toAscii, asciiTable, toEbcdic, ebcdicTable}
-use Rattle.text.specs.Text.{cut, readText, written}
+use Rattle.text.specs.Text.{cut, readText, written, Fits}
 use Rattle.text.specs.Shown.{digitCount, wholeText, intText, decimalText, textIn, refusalAt}
 use Rattle.value.specs.declared.Scalar.the-variants.{Text, Decimal, FloatBits}
 
@@ -26,6 +30,25 @@ zero-cut = refl
 untrimmed : readText 0 false false 32 (65 ∷ 0 ∷ 32 ∷ []) ≡ 65 ∷ 0 ∷ 32 ∷ []
 unfolding cut fromPage
 untrimmed = refl
+
+-- `A` and a space fit two untrimmed bytes; trimmed, with the pad byte space, they do not
+untrimmed-fits : Fits false false 32 2 (65 ∷ 32 ∷ [])
+untrimmed-fits =
+    record {
+      bytes = byte;
+      room = lit≤ tt;
+      noZero = λ trimmed. absurd (false≢true trimmed);
+      noPad = λ trimmed. absurd (false≢true trimmed);
+      whole = λ _. refl;
+    }
+  where
+    byte : (k : ℕ) → k < 2 → getD (65 ∷ 32 ∷ []) k 0 < 256
+    byte zero h = lit< tt
+    byte (suc zero) h = lit< tt
+    byte (suc (suc k)) h = absurd (omega arith)
+
+trimmed-unfit : Fits false true 32 2 (65 ∷ 32 ∷ []) → ⊥
+trimmed-unfit f = f .noPad refl (lit< tt) refl
 
 -- `OK` on page 1, pads translated too
 ebcdic-cut : readText 1 false true 32 (0xD6 ∷ 0xD2 ∷ 0x40 ∷ []) ≡ 79 ∷ 75 ∷ []

@@ -1,7 +1,7 @@
 -- Text fields and Pads: the text of a field's bytes, a field's bytes for a text, and the texts that come back.
 use Prim.Native.Nat.{ℕ, _+_, _-_, _≤_, _<_}
 use mathlib.Core.Path.{_≡_}
-use mathlib.Core.Bool.{Bool, false, cond}
+use mathlib.Core.Bool.{Bool, true, false, cond}
 use mathlib.Core.List.{List, _++_, map}
 use lib.ListN.{length, drop, replicate, getD}
 use lib.Dec.{eqb, leb}
@@ -62,10 +62,11 @@ abbrev pub padded : ℕ → ℕ → ℕ → List ℕ
 padded page pad w = replicate w (ontoPage page pad)
 
 -- ---- the texts that come back
--- "Text: length at most width, no 0 byte, no pad byte at its cut end; untrimmed, length equal to width."
+-- "Text: length at most width, no 0 byte, no pad byte at its cut end; untrimmed, length equal to width." Nothing is cut without trim, so that only a trimmed text
+-- has a cut end, and an untrimmed one keeps its 0 bytes.
 pub record Fits (right trim : Bool) (pad w : ℕ) (t : List ℕ) : Type 0 where
   pub bytes : (k : ℕ) → k < length t → getD t k 0 < 256
   pub room : length t ≤ w
-  pub noZero : (k : ℕ) → k < length t → getD t k 0 ≡ 0 → ⊥
-  pub noPad : 0 < length t → getD t (cond right 0 (length t - 1)) 0 ≡ pad → ⊥
+  pub noZero : trim ≡ true → (k : ℕ) → k < length t → getD t k 0 ≡ 0 → ⊥
+  pub noPad : trim ≡ true → 0 < length t → getD t (cond right 0 (length t - 1)) 0 ≡ pad → ⊥
   pub whole : trim ≡ false → length t ≡ w

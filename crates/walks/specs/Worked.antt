@@ -98,14 +98,14 @@ every =
 abbrev pub everyMask : List ℕ
 everyMask = 0x5A ∷ 0x5A ∷ 0x39 ∷ 0x2E ∷ 0x39 ∷ 0x39 ∷ 0x2D ∷ []
 
--- ab, 42, -2, 1.5, 12af, 1, -1.2, 1.23, -123, -12.34, and a group of c
+-- ab, 42, -2, 1.5, 12af, 1, -1.2, 1.23, -123, -12.34, and a group of an untrimmed text, its pad byte 0
 abbrev pub everyItem : List ℕ
 everyItem =
     0 ∷ 1 ∷ 0 ∷ 2 ∷ 1 ∷ 2 ∷ 42 ∷ 0 ∷ 2 ∷ 2 ∷ 18446744073709551614 ∷ 0 ∷ 3 ∷ 4 ∷ 0x3FF8000000000000 ∷ 0 ∷ 4 ∷ 1 ∷ 2 ∷ 4 ∷ 5 ∷ 5 ∷ 1 ∷ 0 ∷
     7 ∷ 3 ∷ 18446744073709551604 ∷ 1 ∷ 8 ∷ 3 ∷ 123 ∷ 2 ∷ 9 ∷ 3 ∷ 18446744073709551493 ∷ 0 ∷ 10 ∷ 3 ∷ 18446744073709550382 ∷ 2 ∷ 11 ∷ 7 ∷ 1 ∷ 2 ∷ 12 ∷ 1 ∷ 6 ∷ 1 ∷ []
 
 abbrev pub everyText : List ℕ
-everyText = 0x61 ∷ 0x62 ∷ 0x31 ∷ 0x32 ∷ 0x61 ∷ 0x66 ∷ 0x63 ∷ []
+everyText = 0x61 ∷ 0x62 ∷ 0x31 ∷ 0x32 ∷ 0x61 ∷ 0x66 ∷ 0 ∷ []
 
 pub every-plain : plain every everyMask 1 ≡ true
 unfolding checkedOf wordsOk entriesOk allBelow entryOk placeOk optionOk kindOk plainOk boolOk floatOk editedOk upTo spansOk nested size tree treeIn entryAt recordLength furthest reservedWidth dependsIn someBelow single isPad plain namesOf distinct padOk widthOk sure groupOk eachOk inOrder controls offers controlled

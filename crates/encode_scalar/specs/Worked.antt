@@ -1,15 +1,20 @@
--- The starred records of the specification, each by computation: what the bytes of a field say, and the bytes of a value, over the definitions that the
--- contracts of `decode_scalar` and `encode_scalar` cite.
+-- "The starred records form one proved table": a row for each starred sentence of "Worked records", in its order, with what is asked and what the answer is;
+-- and one theorem, that all rows hold, by computation over the definitions that the contracts of `decode_scalar` and `encode_scalar` cite.
 use mathlib.Core.Path.{_≡_, refl}
-use mathlib.Core.List.{List, [], _∷_}
-use mathlib.Core.Bool.{Bool, true, false}
+use mathlib.Core.List.{List, [], _∷_, _++_, map}
+use mathlib.Core.Bool.{true, false, cond}
 use Prim.Native.Nat.{ℕ, _-_, _^_}
-use lib.IntN.{negsuc}
+use lib.Dec.{eqb}
+use lib.IntN.{pos, negℤ}
+use lib.ListN.{replicate}
 use lib.Ieee.{fin, ofBits, toBits, nanBits}
-use Rattle.lists.specs.Scan.{leftBy, rightBy, everyBy, keepBy}
+use Rattle.lists.specs.Scan.{leftBy, rightBy, everyBy}
 use Rattle.ebcdic.specs.Ebcdic.{fromPage, ontoPage, toAscii, asciiTable}
-use Rattle.value.specs.declared.Number.the-variants.{Of}
-use Rattle.value.specs.declared.Scalar.the-variants.{Int, Decimal, Float as FloatV}
+use Rattle.value.specs.declared.Number.{Number}
+use Rattle.value.specs.declared.Number.the-variants.{Of, Bad, Big}
+use Rattle.value.specs.declared.Scalar.{Scalar}
+use Rattle.value.specs.declared.Scalar.the-variants.{Int, Decimal, Float}
+use Rattle.value.specs.Scalar.{tagOf}
 use Rattle.value.specs.Field.{fieldOf}
 use Rattle.value.specs.Rounding.{rounded, rescaled}
 use Rattle.binary.specs.Bytes.{wordIn}
@@ -21,81 +26,125 @@ use Rattle.float.specs.Convert.{decimalFor}
 use Rattle.packed.specs.Packed as Packed
 use Rattle.zoned.specs.Zoned as Zoned
 use Rattle.edited.specs.Edited as Edited
-use Rattle.decode_scalar.specs.Decode.{Says, refused, value, says}
+use Rattle.decode_scalar.specs.Decode as Decode
+use Rattle.decode_scalar.specs.Decode.{Says, says}
 use Rattle.encode_scalar.specs.Encode.{numberJudged, numberBytes, judgedOf, bytesOf}
 
--- "12 34 5D packed: −12345."
-packed-minus : says 7 1 1 0 0 (0x12 ∷ 0x34 ∷ 0x5D ∷ []) ≡ value (Decimal true 12345 0)
-unfolding says Packed.decodeOf fieldOf
-packed-minus = refl
+-- ---- questions and answers
 
--- "1E: 1."
-packed-e : says 7 1 1 0 0 (0x1E ∷ []) ≡ value (Decimal false 1 0)
-unfolding says Packed.decodeOf fieldOf
-packed-e = refl
+-- a field by the words kind, p, q, r of its entry (s is 0)
+pub data Field : Type 0 where
+  field : (kind p q r : ℕ) → Field
 
--- "19: refused 8."
-packed-unsigned-nibble : says 7 1 1 0 0 (0x19 ∷ []) ≡ refused 8
-unfolding says Packed.decodeOf fieldOf
-packed-unsigned-nibble = refl
+-- read: what do these bytes say, on this page? write: which bytes has this value at this width, on page 0 and with this mask if the field is Edited?
+-- rescale: which Decimal is this value at this scale?
+pub data Question : Type 0 where
+  read : Field → (page : ℕ) → List ℕ → Question
+  write : Field → (mask : List ℕ) → (width : ℕ) → Scalar → Question
+  rescale : Scalar → (scale : ℕ) → Question
 
--- "09, eight 99, 9C: 10^18 − 1."
-packed-largest : says 7 1 1 0 0 (0x09 ∷ 0x99 ∷ 0x99 ∷ 0x99 ∷ 0x99 ∷ 0x99 ∷ 0x99 ∷ 0x99 ∷ 0x99 ∷ 0x9C ∷ []) ≡ value (Decimal false (10 ^ 18 - 1) 0)
-unfolding says Packed.decodeOf fieldOf
-packed-largest = refl
+-- the number that refuses, a value, or bytes
+pub data Answer : Type 0 where
+  refused : ℕ → Answer
+  value : Scalar → Answer
+  bytes : List ℕ → Answer
 
--- "10, eight 00, 0C: refused 9."
-packed-too-large : says 7 1 1 0 0 (0x10 ∷ 0x00 ∷ 0x00 ∷ 0x00 ∷ 0x00 ∷ 0x00 ∷ 0x00 ∷ 0x00 ∷ 0x00 ∷ 0x0C ∷ []) ≡ refused 9
-unfolding says Packed.decodeOf fieldOf
-packed-too-large = refl
+abbrev readAnswer : Says → Answer
+readAnswer (Decode.refused n) = refused n
+readAnswer (Decode.value v) = value v
+readAnswer (Decode.text t) = bytes t
 
--- "F1 F2 D3 zoned, page 1: −123."
-zoned-ebcdic : says 7 2 1 0 1 (0xF1 ∷ 0xF2 ∷ 0xD3 ∷ []) ≡ value (Decimal true 123 0)
-unfolding says Zoned.decodeOf fieldOf fromPage toAscii asciiTable
-zoned-ebcdic = refl
+abbrev writeAnswer : ℕ → List ℕ → Answer
+writeAnswer number b = cond (eqb number 0) (bytes b) (refused number)
 
--- "−5, unsigned packed, width 1: 5F."
-unsigned-taken : judgedOf 7 1 0 0 0 [] 1 3 (Decimal true 5 0) [] ≡ 0
-unfolding judgedOf numberJudged decimalFor rescaled rounded
-unsigned-taken = refl
+abbrev rescaleAnswer : ℕ → Number → Answer
+rescaleAnswer scale (Of negative size) = value (Decimal negative size scale)
+rescaleAnswer scale Bad = refused 13
+rescaleAnswer scale Big = refused 14
 
-unsigned-minus : bytesOf 7 1 0 0 [] 0 1 (Decimal true 5 0) [] ≡ 0x5F ∷ []
-unfolding bytesOf numberBytes decimalFor rescaled rounded
-unsigned-minus = refl
+abbrev pub answer : Question → Answer
+answer (read (field kind p q r) page part) = readAnswer (says kind p q r page part)
+answer (write (field kind p q r) mask w v) = writeAnswer (judgedOf kind p q r 0 mask w (tagOf v) v []) (bytesOf kind p q r mask 0 w v [])
+answer (rescale v scale) = rescaleAnswer scale (decimalFor v scale)
 
--- "10, packed width 1: refused 14."
-two-digits : judgedOf 7 1 1 0 0 [] 1 3 (Decimal false 10 0) [] ≡ 14
-unfolding judgedOf numberJudged decimalFor rescaled rounded
-two-digits = refl
+-- ---- the table
 
--- "FF FE signed Big: −2."
-binary-minus : says 2 0 1 0 0 (0xFF ∷ 0xFE ∷ []) ≡ value (Int true 2)
-unfolding says integerOf wordIn
-binary-minus = refl
+pub record Row : Type 0 where
+  pub asked : Question
+  pub answered : Answer
 
--- "`--5` leading: refused 8."
-two-signs : says 1 1 2 0 0 (0x2D ∷ 0x2D ∷ 0x35 ∷ []) ≡ refused 8
-unfolding says fromPage Display.intOf Display.intIn Display.restOf Display.signAt Display.digitsIn Display.wholeOf leftBy rightBy everyBy
-two-signs = refl
+infix 68 _gives_
+abbrev pub _gives_ : Question → Answer → Row
+q gives a = record { asked = q; answered = a }
 
--- "half 0x0001: 2^−24."
-half-least : says 3 0 16 0 0 (0x00 ∷ 0x01 ∷ []) ≡ value (FloatV (fin false 1 (negsuc 23)))
-unfolding says floatIn wordFor wordIn halfWord toBits ofBits nanBits
-half-least = refl
+-- Decimals of scale 0: packed and zoned with a sign, packed and unsigned
+abbrev packed : Field
+packed = field 7 1 1 0
 
--- "−123456, mask `ZZ,ZZ9.99-`: ` 1,234.56-`."
+abbrev unsignedPacked : Field
+unsignedPacked = field 7 1 0 0
+
+abbrev zoned : Field
+zoned = field 7 2 1 0
+
+-- a signed Binary, Big
+abbrev signedBig : Field
+signedBig = field 2 0 1 0
+
+-- an Int, LeadingSeparate
+abbrev leading : Field
+leading = field 1 1 2 0
+
+-- a Float of 16 bits, Big
+abbrev half : Field
+half = field 3 0 16 0
+
+-- a signed Edited of scale 2, its mask `ZZ,ZZ9.99-`, and ` 1,234.56-`
+abbrev edited : Field
+edited = field 8 1 0 2
+
 abbrev mask : List ℕ
 mask = 0x5A ∷ 0x5A ∷ 0x2C ∷ 0x5A ∷ 0x5A ∷ 0x39 ∷ 0x2E ∷ 0x39 ∷ 0x39 ∷ 0x2D ∷ []
 
-edited-taken : judgedOf 8 1 0 2 0 mask 10 3 (Decimal true 123456 2) [] ≡ 0
-unfolding judgedOf numberJudged decimalFor rescaled rounded Edited.judged Edited.countBy Edited.lawfulFrom
-edited-taken = refl
+abbrev editedText : List ℕ
+editedText = 0x20 ∷ 0x31 ∷ 0x2C ∷ 0x32 ∷ 0x33 ∷ 0x34 ∷ 0x2E ∷ 0x35 ∷ 0x36 ∷ 0x2D ∷ []
 
-edited-minus : bytesOf 8 1 0 2 mask 0 10 (Decimal true 123456 2) [] ≡ 0x20 ∷ 0x31 ∷ 0x2C ∷ 0x32 ∷ 0x33 ∷ 0x34 ∷ 0x2E ∷ 0x35 ∷ 0x36 ∷ 0x2D ∷ []
-unfolding bytesOf numberBytes decimalFor rescaled rounded ontoPage Edited.editFrom Edited.editByte Edited.supAfter Edited.countBy
-edited-minus = refl
+-- A Decimal has its sign (true for minus), size and scale, an Int its sign and size, a Float its sign, a whole number and the power of two that it is times.
+abbrev pub starred : List Row
+starred =
+    -- "12 34 5D packed: −12345."
+    read packed 0 (0x12 ∷ 0x34 ∷ 0x5D ∷ []) gives value (Decimal true 12345 0) ∷
+    -- "1E: 1."
+    read packed 0 (0x1E ∷ []) gives value (Decimal false 1 0) ∷
+    -- "19: refused 8."
+    read packed 0 (0x19 ∷ []) gives refused 8 ∷
+    -- "09, eight 99, 9C: 10^18 − 1."
+    read packed 0 (0x09 ∷ replicate 8 0x99 ++ 0x9C ∷ []) gives value (Decimal false (10 ^ 18 - 1) 0) ∷
+    -- "10, eight 00, 0C: refused 9."
+    read packed 0 (0x10 ∷ replicate 8 0x00 ++ 0x0C ∷ []) gives refused 9 ∷
+    -- "F1 F2 D3 zoned, page 1: −123."
+    read zoned 1 (0xF1 ∷ 0xF2 ∷ 0xD3 ∷ []) gives value (Decimal true 123 0) ∷
+    -- "−5, unsigned packed, width 1: 5F."
+    write unsignedPacked [] 1 (Decimal true 5 0) gives bytes (0x5F ∷ []) ∷
+    -- "10, packed width 1: refused 14."
+    write packed [] 1 (Decimal false 10 0) gives refused 14 ∷
+    -- "FF FE signed Big: −2."
+    read signedBig 0 (0xFF ∷ 0xFE ∷ []) gives value (Int true 2) ∷
+    -- "`--5` leading: refused 8."
+    read leading 0 (0x2D ∷ 0x2D ∷ 0x35 ∷ []) gives refused 8 ∷
+    -- "half 0x0001: 2^−24."
+    read half 0 (0x00 ∷ 0x01 ∷ []) gives value (Float (fin false 1 (negℤ (pos 24)))) ∷
+    -- "−123456, mask `ZZ,ZZ9.99-`: ` 1,234.56-`."
+    write edited mask 10 (Decimal true 123456 2) gives bytes editedText ∷
+    -- "125 scale 2 to 1: 12."
+    rescale (Decimal false 125 2) 1 gives value (Decimal false 12 1) ∷
+    []
 
--- "125 scale 2 to 1: 12."
-scale-cut : decimalFor (Decimal false 125 2) 1 ≡ Of false 12
-unfolding decimalFor rescaled rounded
-scale-cut = refl
+-- the answer to what each row asks is the row's own
+pub starred-holds : map (λ row. answer (row .asked)) starred ≡ map (λ row. row .answered) starred
+unfolding
+    says judgedOf bytesOf numberJudged numberBytes decimalFor rescaled rounded fieldOf fromPage ontoPage toAscii asciiTable leftBy rightBy everyBy integerOf wordIn
+    floatIn wordFor halfWord toBits ofBits nanBits Packed.decodeOf Zoned.decodeOf
+    Display.intOf Display.intIn Display.restOf Display.signAt Display.digitsIn Display.wholeOf
+    Edited.judged Edited.countBy Edited.lawfulFrom Edited.editFrom Edited.editByte Edited.supAfter
+starred-holds = refl

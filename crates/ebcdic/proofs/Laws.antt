@@ -1,61 +1,84 @@
--- The two tables of code page 037 undo each other at every byte, and hold bytes: one computed test over each, carried to every byte by `at`.
-use mathlib.Core.Path.{_≡_}
-use mathlib.Core.Bool.{Bool}
-use Prim.Native.Nat.{ℕ, _<_, _/_, _%_}
-use lib.Dec.{T, eqb, ltb, eqb→eq, ltb→lt, lit<}
-use lib.ListN.{getD}
-use Rattle.ebcdic.specs.Ebcdic.{asciiTable, ebcdicTable, toAscii, toEbcdic, fromPage, ontoPage}
-use Rattle.ebcdic.specs.Words.{eight, byteAt}
-use Rattle.lists.proofs.Table.{at}
-use mathlib.Core.Path.{refl, sym, ap, _∙_}
-use mathlib.Core.Bool.{true, false, cond}
-use mathlib.Core.List.{List, [], _∷_, map}
-use Prim.Native.Nat.{zero, suc, suc-le-suc}
+-- The two tables of code page 037 undo each other at every byte, hold bytes, and have the digits in one row: one computed test over each, carried to every byte by `at`.
+use mathlib.Core.Path.{_≡_, refl, sym, ap, _∙_}
+use mathlib.Core.Bool.{Bool, true, false, _&&_, cond}
+use mathlib.Core.List.{List, [], _∷_, _++_, map}
+use Prim.Native.Nat.{ℕ, zero, suc, _+_, _-_, _<_, _≤_, suc-le-suc}
 use native.Mathlib.Nat.{zero-lt-suc}
-use borrow.Author.Tests.{eq-eqb, ne-eqb, eqb-true, eqb-false}
-use lib.ListN.{length}
+use native.Mathlib.Omega.{arith}
+use borrow.Author.Tests.{eq-eqb, ne-eqb, eqb-true, eqb-false, le-leb, lt-ltb}
+use lib.Dec.{T, eqb, ltb, leb, eqb→eq, ltb→lt, lit<}
+use lib.ListN.{getD, length, take, drop}
+use Rattle.ebcdic.specs.Ebcdic.{asciiTable, ebcdicTable, toAscii, toEbcdic, fromPage, ontoPage, copied}
+use Rattle.lists.proofs.Lists.{map-same}
+use Rattle.lists.proofs.Table.{at, both, both-left, both-right}
 
-back-a : ℕ → ℕ → Bool
-back-a k x = eqb (getD ebcdicTable x 0) k
+-- an entry x at k is a byte, the other table has k at it, and a digit stands 192 places higher in EBCDIC
+digit-a : ℕ → ℕ → Bool
+digit-a k x = cond (leb 240 k && ltb k 250) (eqb x (k - 192)) true
 
-back-e : ℕ → ℕ → Bool
-back-e k x = eqb (getD asciiTable x 0) k
+digit-e : ℕ → ℕ → Bool
+digit-e k x = cond (leb 48 k && ltb k 58) (eqb x (k + 192)) true
 
-byte : ℕ → ℕ → Bool
-byte k x = ltb x 256
+rule-a : ℕ → ℕ → Bool
+rule-a k x = both (ltb x 256) (both (eqb (getD ebcdicTable x 0) k) (digit-a k x))
 
-word-a : ℕ → ℕ → Bool
-word-a k x = eqb (byteAt (eight asciiTable (k / 8)) (k % 8)) x
+rule-e : ℕ → ℕ → Bool
+rule-e k x = both (ltb x 256) (both (eqb (getD asciiTable x 0) k) (digit-e k x))
 
-word-e : ℕ → ℕ → Bool
-word-e k x = eqb (byteAt (eight ebcdicTable (k / 8)) (k % 8)) x
+parts : (p q r : Bool) → T (both p (both q r)) → T p × (T q × T r)
+parts p q r t = (both-left p (both q r) t, (both-left q r (both-right p (both q r) t), both-right q r (both-right p (both q r) t)))
 
-pub ebcdic-ascii : (b : ℕ) → b < 256 → toEbcdic (toAscii b) ≡ b
-unfolding back-a toAscii toEbcdic asciiTable ebcdicTable
-ebcdic-ascii b h = eqb→eq (toEbcdic (toAscii b)) b (at back-a asciiTable tt b h)
+rules-a : (b : ℕ) → b < 256 → T (ltb (toAscii b) 256) × (T (eqb (toEbcdic (toAscii b)) b) × T (digit-a b (toAscii b)))
+unfolding rule-a digit-a toAscii toEbcdic asciiTable ebcdicTable
+rules-a b h = parts (ltb (toAscii b) 256) (eqb (toEbcdic (toAscii b)) b) (digit-a b (toAscii b)) (at rule-a asciiTable tt b h)
 
-pub ascii-ebcdic : (b : ℕ) → b < 256 → toAscii (toEbcdic b) ≡ b
-unfolding back-e toAscii toEbcdic asciiTable ebcdicTable
-ascii-ebcdic b h = eqb→eq (toAscii (toEbcdic b)) b (at back-e ebcdicTable tt b h)
+rules-e : (b : ℕ) → b < 256 → T (ltb (toEbcdic b) 256) × (T (eqb (toAscii (toEbcdic b)) b) × T (digit-e b (toEbcdic b)))
+unfolding rule-e digit-e toAscii toEbcdic asciiTable ebcdicTable
+rules-e b h = parts (ltb (toEbcdic b) 256) (eqb (toAscii (toEbcdic b)) b) (digit-e b (toEbcdic b)) (at rule-e ebcdicTable tt b h)
 
 pub ascii-byte : (b : ℕ) → b < 256 → toAscii b < 256
-unfolding byte toAscii asciiTable
-ascii-byte b h = ltb→lt (toAscii b) 256 (at byte asciiTable tt b h)
+ascii-byte b h = ltb→lt (toAscii b) 256 (rules-a b h .0)
 
 pub ebcdic-byte : (b : ℕ) → b < 256 → toEbcdic b < 256
-unfolding byte toEbcdic ebcdicTable
-ebcdic-byte b h = ltb→lt (toEbcdic b) 256 (at byte ebcdicTable tt b h)
+ebcdic-byte b h = ltb→lt (toEbcdic b) 256 (rules-e b h .0)
 
--- an entry of a table kept as numbers of eight bytes
-pub ascii-word-byte : (b : ℕ) → b < 256 → byteAt (eight asciiTable (b / 8)) (b % 8) ≡ toAscii b
-unfolding word-a byteAt eight toAscii asciiTable
-ascii-word-byte b h = eqb→eq (byteAt (eight asciiTable (b / 8)) (b % 8)) (toAscii b) (at word-a asciiTable tt b h)
+pub ebcdic-ascii : (b : ℕ) → b < 256 → toEbcdic (toAscii b) ≡ b
+ebcdic-ascii b h = eqb→eq (toEbcdic (toAscii b)) b (rules-a b h .1 .0)
 
-pub ebcdic-word-byte : (b : ℕ) → b < 256 → byteAt (eight ebcdicTable (b / 8)) (b % 8) ≡ toEbcdic b
-unfolding word-e byteAt eight toEbcdic ebcdicTable
-ebcdic-word-byte b h = eqb→eq (byteAt (eight ebcdicTable (b / 8)) (b % 8)) (toEbcdic b) (at word-e ebcdicTable tt b h)
+pub ascii-ebcdic : (b : ℕ) → b < 256 → toAscii (toEbcdic b) ≡ b
+ascii-ebcdic b h = eqb→eq (toAscii (toEbcdic b)) b (rules-e b h .1 .0)
+
+pub ascii-digit : (b : ℕ) → 240 ≤ b → b < 250 → b - 192 ≡ toAscii b
+unfolding digit-a
+ascii-digit b h k = sym (eqb→eq (toAscii b) (b - 192) (rw (le-leb 240 b h, lt-ltb b 250 k) at (rules-a b (omega arith) .1 .1)))
+
+pub ebcdic-digit : (b : ℕ) → 48 ≤ b → b < 58 → b + 192 ≡ toEbcdic b
+unfolding digit-e
+ebcdic-digit b h k = sym (eqb→eq (toEbcdic b) (b + 192) (rw (le-leb 48 b h, lt-ltb b 58 k) at (rules-e b (omega arith) .1 .1)))
 
 -- ---- on either page
+
+-- page 0 has each byte as it is, any other page by the tables
+pub from-same : (page : ℕ) → page ≡ 0 → (λ b. b) ≡ fromPage page
+unfolding fromPage
+from-same page e = λ i b. cond (sym (eq-eqb page 0 e) i) b (toAscii b)
+
+pub onto-same : (page : ℕ) → page ≡ 0 → (λ b. b) ≡ ontoPage page
+unfolding ontoPage
+onto-same page e = λ i b. cond (sym (eq-eqb page 0 e) i) b (toEbcdic b)
+
+pub from-table : (page : ℕ) → (page ≡ 0 → ⊥) → toAscii ≡ fromPage page
+unfolding fromPage
+from-table page e = λ i b. cond (sym (ne-eqb page 0 e) i) b (toAscii b)
+
+pub onto-table : (page : ℕ) → (page ≡ 0 → ⊥) → toEbcdic ≡ ontoPage page
+unfolding ontoPage
+onto-table page e = λ i b. cond (sym (ne-eqb page 0 e) i) b (toEbcdic b)
+
+-- bytes that stay as they are
+pub copied-same : {f : ℕ → ℕ} → (λ b. b) ≡ f → (s out : List ℕ) → take (length out) s ++ drop (length s) out ≡ copied f s out
+copied-same e s out =
+    ap (λ (l : List ℕ). take (length out) l ++ drop (length s) out) (sym (map-same s)) ∙ ap (λ f. copied f s out) e
 
 -- a byte written to a page and read from it
 pub page-back : (page b : ℕ) → b < 256 → fromPage page (ontoPage page b) ≡ b

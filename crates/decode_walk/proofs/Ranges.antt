@@ -12,7 +12,8 @@ use Rattle.value.specs.declared.Number.the-variants.{Of, Bad, Big}
 use Rattle.value.specs.Number.{numberIn}
 use Rattle.value.specs.Digits.{valueOf, isDigit, digitIn}
 use Rattle.lists.specs.Scan.{everyBy}
-use Rattle.display.specs.Display.{digitsIn, wholeOf, intIn, intOf, isSign, signAt, trimmed, restOf}
+use Rattle.numerals.specs.Numerals.{isSign, trimmed}
+use Rattle.display.specs.Display.{digitsIn, wholeOf, intIn, intOf, signAt, restOf}
 use Rattle.binary.specs.Binary.{widthOk, signedWord, unsignedWord, integerOf}
 use Rattle.binary.specs.Bytes.{wordIn}
 use Rattle.binary.proofs.Integers.{width-high}

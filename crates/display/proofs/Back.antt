@@ -1,59 +1,26 @@
 -- What is written into an Int or a Display field is read back, over any width and on either page.
 use mathlib.Core.Path.{_≡_, refl, sym, _∙_, ap}
 use mathlib.Core.List.{List, [], _∷_, _++_, map}
-use mathlib.Core.Bool.{Bool, true, false, _&&_, not, cond, and-false, false≢true}
-use Prim.Native.Nat.{ℕ, zero, suc, _+_, _-_, _^_, _<_, _≤_}
-use native.Mathlib.Nat.{not-suc-le-zero, le-of-suc-le-suc, zero-lt-suc}
+use mathlib.Core.Bool.{Bool, true, false, _&&_, not, cond, false≢true}
+use Prim.Native.Nat.{ℕ, zero, suc, _-_, _^_, _<_, _≤_}
+use native.Mathlib.Nat.{not-suc-le-zero}
 use native.Mathlib.Omega.{arith}
 use lib.Dec.{ltb, leb, eqb}
-use lib.ListN.{length, getD, take, length-map, length-append}
-use borrow.Author.Tests.{lt-ltb, lt-leb, le-leb, ne-eqb}
-use Rattle.value.specs.declared.Number.the-variants.{Of}
-use Rattle.value.specs.Digits.{digitAt, digitsOf, limit, isDigit, digitIn}
-use Rattle.value.specs.Number.{numberIn}
-use Rattle.value.specs.Field.{lastOf}
-use Rattle.value.proofs.Digits.{digit-below, length-digits, value-of-digits}
+use lib.ListN.{length, getD, length-append}
+use borrow.Author.Tests.{lt-ltb, le-leb, ne-eqb}
+use Rattle.value.specs.declared.Number.the-variants.{Bad}
+use Rattle.value.specs.Digits.{digitText, limit, roomFor}
+use Rattle.value.specs.Number.{some, numberOf}
+use Rattle.value.proofs.Digits.{length-digitText, value-of-digits}
 use Rattle.value.proofs.Answers.{numberIn-fits}
-use Rattle.lists.specs.Scan.{rightBy, everyBy}
-use Rattle.lists.proofs.Scan.{left-kept, right-kept, keep-every}
+use Rattle.value.proofs.Field.{last-snoc, front-snoc}
+use Rattle.value.proofs.Room.{room-some, room-below}
 use Rattle.lists.proofs.Lists.{getD-map}
 use Rattle.ebcdic.specs.Ebcdic.{fromPage, ontoPage}
 use Rattle.ebcdic.proofs.Laws.{bytes-back, onto-byte}
-use Rattle.display.specs.Display.{isBlank, trimmed, isAscii, keptOf, isSeparate, isSign, signAt, restOf, digitsIn, wholeOf, intIn, intOf, decimalOf}
-use Rattle.value.specs.Digits.{asciiOf, digitText}
-use Rattle.display.specs.Display.{roomFor, signByte, intFits, intBytes, hasSign, decimalFits}
-use Rattle.display.proofs.Writing.{room-some, room-below}
-
--- ---- bytes that are no blanks: from + to 9
-
-abbrev Inked : List ℕ → Type 0
-Inked t = (k : ℕ) → k < length t → (43 ≤ getD t k 0) × (getD t k 0 ≤ 57)
-
-inked-cons : (x : ℕ) (t : List ℕ) → 43 ≤ x → x ≤ 57 → Inked t → Inked (x ∷ t)
-inked-cons x t a b h zero k = (a, b)
-inked-cons x t a b h (suc j) k = h j (le-of-suc-le-suc k)
-
-inked-snoc : (x : ℕ) (t : List ℕ) → 43 ≤ x → x ≤ 57 → Inked t → Inked (t ++ (x ∷ []))
-inked-snoc x [] a b h = inked-cons x [] a b h
-inked-snoc x (y ∷ t) a b h =
-    inked-cons y (t ++ (x ∷ [])) (h 0 (zero-lt-suc (length t)) .0) (h 0 (zero-lt-suc (length t)) .1) (inked-snoc x t a b (λ j k. h (suc j) (omega arith)))
-
-inked-digitText : (w size : ℕ) → Inked (digitText w size)
-inked-digitText zero size = λ k h. absurd (not-suc-le-zero h)
-inked-digitText (suc w) size =
-    let d = digit-below w size in
-    inked-cons (asciiOf (digitAt w size)) (digitText w size) (omega arith) (omega arith) (inked-digitText w size)
-
-pub text-below : (w size k : ℕ) → k < length (digitText w size) → getD (digitText w size) k 0 < 256
-text-below w size k h = let i = inked-digitText w size k h .1 in omega arith
-
-no-blank : (x : ℕ) → 43 ≤ x → isBlank x ≡ false
-no-blank x h = rw (ne-eqb x 32 (omega arith), lt-leb x 13 (omega arith), and-false)
-
-trimmed-inked : (t : List ℕ) → Inked t → trimmed t ≡ t
-trimmed-inked t h =
-    ap (rightBy isBlank) (left-kept isBlank t (λ k. no-blank (getD t 0 0) (h 0 k .0)))
-    ∙ right-kept isBlank t (λ k. no-blank (getD t (length t - 1) 0) (h (length t - 1) (omega arith) .0))
+use Rattle.numerals.specs.Numerals.{isSign, signByte}
+use Rattle.numerals.proofs.Text.{Inked, inked-cons, inked-snoc, inked-digitText, trimmed-inked, all-digits, digits-back, kept-read, a-sign, a-minus}
+use Rattle.display.specs.Display.{isSeparate, signAt, restOf, digitsIn, wholeOf, intIn, intOf, decimalBy, decimalOf, intFits, intBytes, hasSign, decimalFits}
 
 sign-low : (negative : Bool) → 43 ≤ signByte negative
 sign-low true = omega arith
@@ -74,81 +41,26 @@ inked-bytes w negative size sign = by (eqb sign 2) (eqb sign 3)
 
 -- ---- a text of digits alone
 
-pub length-digitText : (w size : ℕ) → length (digitText w size) ≡ w
-length-digitText w size = length-map (digitsOf w size) asciiOf ∙ length-digits w size
-
 first-digit : (w size : ℕ) → 0 < w → 48 ≤ getD (digitText w size) 0 0
 first-digit zero size h = absurd (not-suc-le-zero h)
 first-digit (suc w) size h = omega arith
 
-digit-tests : (w size : ℕ) → (isDigit (asciiOf (digitAt w size)) ≡ true) × (isAscii (asciiOf (digitAt w size)) ≡ true)
-digit-tests w size =
-    let d = digit-below w size in
-    (rw (le-leb 48 (asciiOf (digitAt w size)) (omega arith), le-leb (asciiOf (digitAt w size)) 57 (omega arith)), lt-ltb (asciiOf (digitAt w size)) 128 (omega arith))
-
-all-digits : (w size : ℕ) → everyBy isDigit (digitText w size) ≡ true
-unfolding everyBy
-all-digits zero size = refl
-all-digits (suc w) size = rw (digit-tests w size .0) (all-digits w size)
-
-all-ascii : (w size : ℕ) → everyBy isAscii (digitText w size) ≡ true
-unfolding everyBy
-all-ascii zero size = refl
-all-ascii (suc w) size = rw (digit-tests w size .1) (all-ascii w size)
-
-digits-back : (w size : ℕ) → map digitIn (digitText w size) ≡ digitsOf w size
-digits-back zero size = refl
-digits-back (suc w) size =
-    let e : digitIn (asciiOf (digitAt w size)) ≡ digitAt w size = omega arith in
-    rw (e, digits-back w size)
-
-digits-read : (bound : ℕ) (negative : Bool) (w size : ℕ) → 0 < w → size < 10 ^ w → size < bound → digitsIn bound negative (digitText w size) ≡ Of (ltb 0 size && negative) size
+digits-read : (bound : ℕ) (negative : Bool) (w size : ℕ) → 0 < w → size < 10 ^ w → size < bound → digitsIn bound negative (digitText w size) ≡ some negative size
 unfolding digitsIn
 digits-read bound negative w size h k b =
     rw (length-digitText w size, lt-ltb 0 w h, all-digits w size, digits-back w size, value-of-digits w size k) (numberIn-fits bound negative size b)
 
-whole-read : (w size : ℕ) → 0 < w → size < 10 ^ w → size < 2 ^ 63 → wholeOf (digitText w size) ≡ Of (ltb 0 size && false) size
+whole-read : (w size : ℕ) → 0 < w → size < 10 ^ w → size < 2 ^ 63 → wholeOf (digitText w size) ≡ some false size
 unfolding wholeOf
 whole-read w size h k b =
     let f = first-digit w size h in
     rw (ne-eqb (getD (digitText w size) 0 0) 45 (omega arith), ne-eqb (getD (digitText w size) 0 0) 43 (omega arith)) (digits-read (2 ^ 63) false w size h k b)
-
-kept-read : (w size : ℕ) → size < 10 ^ w → size < limit → keptOf (digitText w size) ≡ Of (ltb 0 size && false) size
-unfolding keptOf
-kept-read w size k b =
-    rw (all-ascii w size, keep-every isDigit (digitText w size) (all-digits w size), digits-back w size, value-of-digits w size k) (numberIn-fits limit false size b)
 
 -- ---- the parts of a written field
 
 -- the places of the digits
 abbrev pub placesOf : ℕ → ℕ → ℕ
 placesOf sign w = cond (isSeparate sign) (w - 1) w
-
-pub last-snoc : (t : List ℕ) (x : ℕ) → lastOf (t ++ (x ∷ [])) ≡ x
-last-snoc t x =
-    let e : length (t ++ (x ∷ [])) - 1 ≡ length t = let l = length-append t (x ∷ []) in omega arith in
-    rw e (at t)
-  where
-    at : (l : List ℕ) → getD (l ++ (x ∷ [])) (length l) 0 ≡ x
-    at [] = refl
-    at (y ∷ l) = at l
-
-pub front-snoc : (t : List ℕ) (x : ℕ) → take (length (t ++ (x ∷ [])) - 1) (t ++ (x ∷ [])) ≡ t
-front-snoc t x =
-    let e : length (t ++ (x ∷ [])) - 1 ≡ length t = let l = length-append t (x ∷ []) in omega arith in
-    rw e (at t)
-  where
-    at : (l : List ℕ) → take (length l) (l ++ (x ∷ [])) ≡ l
-    at [] = refl
-    at (y ∷ l) = ap (λ (r : List ℕ). y ∷ r) (at l)
-
-a-sign : (negative : Bool) → isSign (signByte negative) ≡ true
-a-sign true = refl
-a-sign false = refl
-
-a-minus : (negative : Bool) → eqb (signByte negative) 45 ≡ negative
-a-minus true = refl
-a-minus false = refl
 
 record Parts (w : ℕ) (negative : Bool) (size sign : ℕ) (t : List ℕ) : Type 0 where
   taken : isSign (signAt sign t) ≡ isSeparate sign
@@ -245,7 +157,7 @@ module _ (page w : ℕ) (negative : Bool) (size : ℕ) (signed : Bool) (sign : �
       by true e = refl
       by false e = sym (keeps e)
 
-  pub int-back : size < 2 ^ 63 → intOf sign (map (fromPage page) (map (ontoPage page) (intBytes w negative size sign))) ≡ Of (ltb 0 size && negative) size
+  pub int-back : size < 2 ^ 63 → intOf sign (map (fromPage page) (map (ontoPage page) (intBytes w negative size sign))) ≡ some negative size
   unfolding intOf intIn
   int-back b =
       let t = intBytes w negative size sign in
@@ -256,17 +168,22 @@ module _ (page w : ℕ) (negative : Bool) (size : ℕ) (signed : Bool) (sign : �
       (by (isSeparate sign) refl some)
     where
       by : (s : Bool) → isSeparate sign ≡ s → 0 < placesOf sign w
-          → cond s (digitsIn (2 ^ 63) (s && negative) (digitText (placesOf sign w) size)) (wholeOf (digitText (placesOf sign w) size)) ≡ Of (ltb 0 size && negative) size
+          → cond s (digitsIn (2 ^ 63) (s && negative) (digitText (placesOf sign w) size)) (wholeOf (digitText (placesOf sign w) size)) ≡ some negative size
       by true e h = digits-read (2 ^ 63) negative (placesOf sign w) size h (room-below (placesOf sign w) size room) b
-      by false e h = whole-read (placesOf sign w) size h (room-below (placesOf sign w) size room) b ∙ ap (λ (n : Bool). Of (ltb 0 size && n) size) (sym (keeps e))
+      by false e h = whole-read (placesOf sign w) size h (room-below (placesOf sign w) size room) b ∙ ap (λ (n : Bool). some n size) (sym (keeps e))
 
-  pub decimal-back : size < limit → decimalOf sign (map (fromPage page) (map (ontoPage page) (intBytes w negative size sign))) ≡ Of (ltb 0 size && negative) size
-  unfolding decimalOf
-  decimal-back b =
+  -- what is written is lawful and spells the size, whatever is answered for it
+  pub decimal-back : {X : Type 0} (answer : Bool → ℕ → X) (bad : X) → decimalBy answer bad sign (map (fromPage page) (map (ontoPage page) (intBytes w negative size sign))) ≡ answer negative size
+  decimal-back answer bad =
       let t = intBytes w negative size sign in
       let r = parts w negative size sign in
       let d = placesOf sign w in
-      rw (bytes, trimmed-inked t (inked-bytes w negative size sign), r .rest, r .minus, kept-minus, kept-read d size (room-below d size room) b)
+      rw (bytes, trimmed-inked t (inked-bytes w negative size sign), r .rest, r .minus, kept-minus) (kept-read (answer negative) bad d size (room-below d size room))
+
+  -- so a size below the limit is read back
+  pub decoded : size < limit → decimalOf sign (map (fromPage page) (map (ontoPage page) (intBytes w negative size sign))) ≡ some negative size
+  unfolding decimalOf
+  decoded b = decimal-back numberOf Bad ∙ numberIn-fits limit negative size b
 
 -- ---- a Display field's number and an Int field's fit alike, but for the precision
 

@@ -6,43 +6,19 @@ use lib.Dec.{ltb, leb, eqb}
 use lib.ListN.{length, getD, take, drop}
 use Rattle.value.specs.declared.Number.{Number}
 use Rattle.value.specs.declared.Number.the-variants.{Of, Bad, Big}
-use Rattle.value.specs.Digits.{valueOf, digitText, isDigit, digitIn}
-use Rattle.value.specs.Number.{numberIn, numberOf}
+use Rattle.value.specs.Digits.{valueOf, digitText, isDigit, digitIn, roomFor}
+use Rattle.value.specs.Number.{some, numberIn, numberOf}
 use Rattle.value.specs.Field.{lastOf}
 use Rattle.value.specs.declared.Scalar.{Scalar}
 use Rattle.value.specs.declared.Scalar.the-variants.{Null, Text, Int, Decimal, Float, FloatBits, Bool as BoolV}
 use Rattle.ebcdic.specs.Ebcdic.{ontoPage}
-use Rattle.lists.specs.Scan.{leftBy, rightBy, keepBy, everyBy}
-
--- "blanks (0x09-0x0D, 0x20)"
-abbrev pub isBlank : ℕ → Bool
-isBlank x = eqb x 32 || (leb 9 x && leb x 13)
-
--- "blanks .. trimmed"
-abbrev pub trimmed : List ℕ → List ℕ
-trimmed s = rightBy isBlank (leftBy isBlank s)
-
--- "bytes from 0x80 refused in Int, Display, Edited"
-abbrev pub isAscii : ℕ → Bool
-isAscii x = ltb x 128
-
--- "digits kept, others skipped": the size that the digits among the bytes spell; none spell 0
-unfoldable pub keptOf : List ℕ → Number
-keptOf s = cond (everyBy isAscii s) (numberOf false (valueOf (map digitIn (keepBy isDigit s)))) Bad
-
--- a number with a sign in front of it; 0 has none
-abbrev pub withSign : Bool → Number → Number
-withSign negative (Of n size) = Of (ltb 0 size && negative) size
-withSign negative Bad = Bad
-withSign negative Big = Big
+use Rattle.lists.specs.Scan.{everyBy}
+use Rattle.numerals.specs.Numerals.{trimmed, keptBy, isSign, signByte}
 
 -- ---- a separate sign. "Sign: 0 Unsigned, 1 Embedded, 2 LeadingSeparate, 3 TrailingSeparate"; any other word is as 0
 
 abbrev pub isSeparate : ℕ → Bool
 isSeparate sign = eqb sign 2 || eqb sign 3
-
-abbrev pub isSign : ℕ → Bool
-isSign x = eqb x 45 || eqb x 43
 
 -- the byte of a trimmed text where a separate sign may stand; 0 where none may
 unfoldable pub signAt : ℕ → List ℕ → ℕ
@@ -76,9 +52,12 @@ intIn sign t u =
 unfoldable pub intOf : ℕ → List ℕ → Number
 intOf sign s = intIn sign (trimmed s) (trimmed (restOf sign (trimmed s)))
 
--- "Display (trim and sign as Int) ..: digits kept, others skipped"
+-- "Display (trim and sign as Int) ..: digits kept, others skipped"; answer: what a lawful field answers, from its sign and its size
+abbrev pub decimalBy : {X : Type 0} → (Bool → ℕ → X) → X → ℕ → List ℕ → X
+decimalBy answer bad sign s = keptBy (answer (eqb (signAt sign (trimmed s)) 45)) bad (restOf sign (trimmed s))
+
 unfoldable pub decimalOf : ℕ → List ℕ → Number
-decimalOf sign s = withSign (eqb (signAt sign (trimmed s)) 45) (keptOf (restOf sign (trimmed s)))
+decimalOf sign s = decimalBy numberOf Bad sign s
 
 -- "integer text outside 64 bits (13)": a text for a number has no answer but a number and a refusal
 abbrev pub orRefused : Number → Number
@@ -90,20 +69,13 @@ orRefused Big = Bad
 abbrev pub wholeIn : Scalar → List ℕ → Number
 wholeIn Null text = Of false 0
 wholeIn (Text start count) text = orRefused (wholeOf (trimmed text))
-wholeIn (Int negative size) text = Of (ltb 0 size && negative) size
-wholeIn (Decimal negative size scale) text = cond (eqb scale 0) (Of (ltb 0 size && negative) size) Bad
+wholeIn (Int negative size) text = some negative size
+wholeIn (Decimal negative size scale) text = cond (eqb scale 0) (some negative size) Bad
 wholeIn (Float x) text = Bad
 wholeIn (FloatBits w) text = Bad
 wholeIn (BoolV b) text = Bad
 
 -- ---- writing
-
--- a size has no more digits than there are places; 0 has one digit
-abbrev pub roomFor : ℕ → ℕ → Bool
-roomFor places size = ltb 0 places && ltb size (10 ^ places)
-
-abbrev pub signByte : Bool → ℕ
-signByte negative = cond negative 45 43
 
 -- a separate sign takes a byte; without one a minus needs a signed field
 unfoldable pub intFits : ℕ → Bool → ℕ → Bool → ℕ → Bool

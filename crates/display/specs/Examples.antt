@@ -7,7 +7,8 @@ use Rattle.value.specs.declared.Number.the-variants.{Of, Bad, Big}
 use Rattle.value.specs.declared.Scalar.the-variants.{Text, Decimal}
 use Rattle.lists.specs.Scan.{leftBy, rightBy, keepBy, everyBy}
 use Rattle.ebcdic.specs.Ebcdic.{fromPage, ontoPage, toAscii, toEbcdic, asciiTable, ebcdicTable}
-use Rattle.display.specs.Display.{intOf, intIn, signAt, restOf, digitsIn, wholeOf, decimalOf, keptOf, wholeIn, intFits, intBytes, decimalFits, intWritten}
+use Rattle.numerals.specs.Numerals.{keptBy}
+use Rattle.display.specs.Display.{intOf, intIn, signAt, restOf, digitsIn, wholeOf, decimalOf, wholeIn, intFits, intBytes, decimalFits, intWritten}
 
 -- `--5` leading
 two-signs : intOf 2 (0x2D ∷ 0x2D ∷ 0x35 ∷ []) ≡ Bad
@@ -54,15 +55,15 @@ least-separate = refl
 
 -- `12.5-`, trailing; on page 1
 kept : decimalOf 3 (0x31 ∷ 0x32 ∷ 0x2E ∷ 0x35 ∷ 0x2D ∷ []) ≡ Of true 125
-unfolding decimalOf signAt restOf keptOf leftBy rightBy everyBy keepBy
+unfolding decimalOf signAt restOf keptBy leftBy rightBy everyBy keepBy
 kept = refl
 
 kept-on : decimalOf 3 (map (fromPage 1) (0xF1 ∷ 0xF2 ∷ 0x4B ∷ 0xF5 ∷ 0x60 ∷ [])) ≡ Of true 125
-unfolding decimalOf signAt restOf keptOf leftBy rightBy everyBy keepBy fromPage toAscii asciiTable
+unfolding decimalOf signAt restOf keptBy leftBy rightBy everyBy keepBy fromPage toAscii asciiTable
 kept-on = refl
 
 not-ascii : decimalOf 0 (0x31 ∷ 0x80 ∷ []) ≡ Bad
-unfolding decimalOf signAt restOf keptOf leftBy rightBy everyBy keepBy
+unfolding decimalOf signAt restOf keptBy leftBy rightBy everyBy keepBy
 not-ascii = refl
 
 -- writing: -12 in four bytes, leading; 10 in one byte; a precision above the width; the minus of a signed field without a separate sign is lost

@@ -6,20 +6,19 @@ use Prim.Native.Nat.{ℕ, _^_, _<_}
 use native.Mathlib.Omega.{arith}
 use lib.Dec.{eqb, ltb}
 use lib.ListN.{length, getD, length-map}
-use borrow.Author.Tests.{lt-ltb, le-ltb, eqb-true}
-use native.Mathlib.Decide.{decLt}
+use borrow.Author.Tests.{lt-ltb, eqb-true}
 use Rattle.lists.specs.Scan.{keepBy, everyBy}
 use Rattle.lists.proofs.Scan.{every-true}
 use Rattle.lists.proofs.Lists.{getD-map}
 use Rattle.value.specs.declared.Number.{Number}
 use Rattle.value.specs.declared.Number.the-variants.{Of, Bad, Big}
 use Rattle.value.specs.Digits.{valueOf, limit, isDigit, digitIn}
-use Rattle.value.specs.Number.{numberOf}
+use Rattle.value.specs.Number.{some, numberOf}
+use Rattle.value.proofs.Answers.{numberIn-fits, numberIn-small}
 use Rattle.ebcdic.specs.Ebcdic.{fromPage, ontoPage}
 use Rattle.ebcdic.proofs.Laws.{bytes-back, onto-byte}
-use Rattle.display.specs.Display.{isAscii, trimmed, keptOf}
-use Rattle.display.specs.Display.{withSign}
-use Rattle.edited.specs.Edited.{negativeOf, decodedOf, isLawful, positions, judged, padOf, edited, writtenOf}
+use Rattle.numerals.specs.Numerals.{isAscii, trimmed, keptBy}
+use Rattle.edited.specs.Edited.{negativeOf, editedBy, decodedOf, isLawful, positions, judged, padOf, edited, writtenOf}
 use Rattle.edited.specs.Fits.{Fits, Tells}
 use Rattle.edited.proofs.Marks.{Low, all-at, marks-of, edit-length, edited-low}
 use Rattle.edited.proofs.Back.{edited-spells}
@@ -52,14 +51,6 @@ module _ (signed negative : Bool) (size : ℕ) (mask : List ℕ) (f : Fits signe
   unfolding judged
   fits-judged = rw (f .fixed, lt-ltb size limit (f .small), lt-ltb 0 (positions mask) (f .some), lt-ltb size (10 ^ positions mask) (f .enough), f .lawful)
 
-  kept : keptOf (edited negative size mask) ≡ Of (ltb 0 size && false) size
-  unfolding keptOf
-  kept =
-      let l = marks-of mask (f .lawful) in
-      let a : everyBy isAscii (edited negative size mask) ≡ true =
-      every-true isAscii (edited negative size mask) (λ k b. lt-ltb (getD (edited negative size mask) k 0) 128 (edited-ascii negative size mask (f .lawful) k b)) in
-      rw (a, edited-spells negative size l (f .no-zero) (f .enough), lt-ltb size limit (f .small))
-
   sign : (signed && negativeOf (trimmed (edited negative size mask))) ≡ negative
   sign = by negative signed (f .has-sign) (f .tells)
     where
@@ -68,11 +59,19 @@ module _ (signed negative : Bool) (size : ℕ) (mask : List ℕ) (f : Fits signe
       by false true hs ht = positive-back size (marks-of mask (f .lawful))
       by false false hs ht = refl
 
-  pub round : (page : ℕ) → decodedOf signed (map (fromPage page) (map (ontoPage page) (edited negative size mask))) ≡ Of (ltb 0 size && negative) size
+  -- what is written is lawful and spells the size, whatever is answered for it
+  pub round : {X : Type 0} (answer : Bool → ℕ → X) (bad : X) (page : ℕ) → editedBy answer bad signed (map (fromPage page) (map (ontoPage page) (edited negative size mask))) ≡ answer negative size
+  unfolding keptBy
+  round answer bad page =
+      let l = marks-of mask (f .lawful) in
+      let a : everyBy isAscii (edited negative size mask) ≡ true =
+      every-true isAscii (edited negative size mask) (λ k b. lt-ltb (getD (edited negative size mask) k 0) 128 (edited-ascii negative size mask (f .lawful) k b)) in
+      rw (bytes-back page (edited negative size mask) (edited-byte negative size mask (f .lawful)), sign, a, edited-spells negative size l (f .no-zero) (f .enough))
+
+  -- so a size below the limit is read back
+  pub decoded : (page : ℕ) → decodedOf signed (map (fromPage page) (map (ontoPage page) (edited negative size mask))) ≡ some negative size
   unfolding decodedOf
-  round page =
-      rw (bytes-back page (edited negative size mask) (edited-byte negative size mask (f .lawful)))
-      (λ i. withSign (sign i) (kept i))
+  decoded page = round numberOf Bad page ∙ numberIn-fits limit negative size (f .small)
 
 -- ---- a part keeps its length
 
@@ -98,20 +97,12 @@ written-length page mask Big part = refl
 -- ---- a size that is read is below 10^18
 
 pub decode-small : (signed : Bool) (s : List ℕ) (n : Bool) (w : ℕ) → decodedOf signed s ≡ Of n w → w < limit
-unfolding decodedOf keptOf
-decode-small signed s n w e = by (everyBy isAscii s) (signed && negativeOf (trimmed s)) e
+unfolding decodedOf keptBy
+decode-small signed s n w e = by (everyBy isAscii s) e
   where
     v : ℕ
     v = valueOf (map digitIn (keepBy isDigit s))
 
-    sized : (b : Bool) → Dec (v < limit) → withSign b (numberOf false v) ≡ Of n w → w < limit
-    sized b (yes h) q =
-        let k : v ≡ w = let f : _≡_ {A = Number} (Of (ltb 0 v && b) v) (Of n w) = rw (lt-ltb v limit h) at q in cc in
-        omega arith
-    sized b (no h) q =
-        let z : _≡_ {A = ℕ} 0 1 = let f : _≡_ {A = Number} Big (Of n w) = rw (le-ltb v limit (omega arith)) at q in cc in
-        absurd (omega arith)
-
-    by : (t b : Bool) → withSign b (cond t (numberOf false v) Bad) ≡ Of n w → w < limit
-    by true b q = sized b (decLt v limit) q
-    by false b q = let z : _≡_ {A = ℕ} 0 1 = let f : _≡_ {A = Number} Bad (Of n w) = q in cc in absurd (omega arith)
+    by : (t : Bool) → cond t (numberOf (signed && negativeOf (trimmed s)) v) Bad ≡ Of n w → w < limit
+    by true q = numberIn-small limit (signed && negativeOf (trimmed s)) v n w q
+    by false q = let z : _≡_ {A = ℕ} 0 1 = let f : _≡_ {A = Number} Bad (Of n w) = q in cc in absurd (omega arith)

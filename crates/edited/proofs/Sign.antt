@@ -11,7 +11,7 @@ use borrow.Author.Tests.{eq-eqb, ne-eqb, le-leb, lt-leb}
 use Rattle.lists.specs.Scan.{leftBy, joinBy, rightBy}
 use Rattle.value.specs.Field.{lastOf}
 use Rattle.value.proofs.Digits.{digit-below}
-use Rattle.display.specs.Display.{isBlank, trimmed}
+use Rattle.numerals.specs.Numerals.{isBlank, trimmed}
 use Rattle.edited.specs.Edited.{upper, endsIn, minusAtAnEnd, negativeOf, countOf, positions, editByte, supAfter, digitByte, editFrom, padOf, edited}
 use Rattle.edited.specs.Fits.{Tells}
 use Rattle.edited.specs.Fits.Tells.{first-plus, first-minus, last-plus, last-minus, credit, debit}

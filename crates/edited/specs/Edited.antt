@@ -6,9 +6,10 @@ use lib.Dec.{eqb, leb, ltb}
 use lib.ListN.{length, getD}
 use Rattle.value.specs.declared.Number.{Number}
 use Rattle.value.specs.declared.Number.the-variants.{Of, Bad, Big}
-use Rattle.value.specs.Digits.{digitAt, limit}
+use Rattle.value.specs.Digits.{digitAt, limit, roomFor}
+use Rattle.value.specs.Number.{numberOf}
 use Rattle.value.specs.Field.{lastOf}
-use Rattle.display.specs.Display.{trimmed, keptOf, roomFor, withSign}
+use Rattle.numerals.specs.Numerals.{trimmed, keptBy}
 use Rattle.ebcdic.specs.Ebcdic.{ontoPage}
 
 -- ---- reading
@@ -27,9 +28,12 @@ minusAtAnEnd t = eqb (getD t 0 0) 45 || eqb (lastOf t) 45
 unfoldable pub negativeOf : List ℕ → Bool
 negativeOf t = endsIn 67 82 t || (endsIn 68 66 t || minusAtAnEnd t)
 
--- "digits kept, others skipped. Edited is negative if signed and" the text tells a minus
+-- "digits kept, others skipped. Edited is negative if signed and" the text tells a minus; answer: what a lawful field answers, from its sign and its size
+abbrev pub editedBy : {X : Type 0} → (Bool → ℕ → X) → X → Bool → List ℕ → X
+editedBy answer bad signed s = keptBy (answer (signed && negativeOf (trimmed s))) bad s
+
 unfoldable pub decodedOf : Bool → List ℕ → Number
-decodedOf signed s = withSign (signed && negativeOf (trimmed s)) (keptOf s)
+decodedOf signed s = editedBy numberOf Bad signed s
 
 -- ---- the mask
 

@@ -4,7 +4,7 @@ use mathlib.Core.Bool.{true, false}
 use mathlib.Core.List.{[], _∷_}
 use Rattle.value.specs.declared.Number.the-variants.{Of, Bad}
 use Rattle.lists.specs.Scan.{leftBy, rightBy, keepBy, everyBy}
-use Rattle.display.specs.Display.{keptOf}
+use Rattle.numerals.specs.Numerals.{keptBy}
 use Rattle.edited.specs.Edited.{countBy, lawfulFrom, judged, editByte, supAfter, editFrom, edited, negativeOf, decodedOf}
 
 -- −123456 under `ZZ,ZZ9.99-` is ` 1,234.56-`
@@ -17,7 +17,7 @@ unfolding judged countBy lawfulFrom
 amount-judged = refl
 
 amount-back : decodedOf true (32 ∷ 49 ∷ 44 ∷ 50 ∷ 51 ∷ 52 ∷ 46 ∷ 53 ∷ 54 ∷ 45 ∷ []) ≡ Of true 123456
-unfolding decodedOf negativeOf leftBy rightBy keepBy everyBy keptOf
+unfolding decodedOf negativeOf leftBy rightBy keepBy everyBy keptBy
 amount-back = refl
 
 -- 0 under `ZZZ.ZZ` is `   .00`: the point ends the suppressing
@@ -36,15 +36,15 @@ debit = refl
 
 -- ` 1.50cr` is negative where the field is signed
 credit : decodedOf true (32 ∷ 49 ∷ 46 ∷ 53 ∷ 48 ∷ 99 ∷ 114 ∷ []) ≡ Of true 150
-unfolding decodedOf negativeOf leftBy rightBy keepBy everyBy keptOf
+unfolding decodedOf negativeOf leftBy rightBy keepBy everyBy keptBy
 credit = refl
 
 unsigned : decodedOf false (45 ∷ 53 ∷ []) ≡ Of false 5
-unfolding decodedOf negativeOf leftBy rightBy keepBy everyBy keptOf
+unfolding decodedOf negativeOf leftBy rightBy keepBy everyBy keptBy
 unsigned = refl
 
 no-ascii : decodedOf true (49 ∷ 128 ∷ []) ≡ Bad
-unfolding decodedOf negativeOf leftBy rightBy keepBy everyBy keptOf
+unfolding decodedOf negativeOf leftBy rightBy keepBy everyBy keptBy
 no-ascii = refl
 
 -- the order of the questions: `$$9` is refused before the size, the size before a C without R

@@ -73,13 +73,13 @@ fn is_negative(t: &[u8], page: u32) -> bool
 pub fn decode(part: &[u8], page: u32, signed: bool) -> Number
     ensures { λ r. ⌜ r ≡ decodedOf signed (map (fromPage page) (now (part .entry))) ⌝ }
 {
-    let n = display::kept_digits(part, page);
+    let n = numerals::kept_digits(part, page);
     if signed {
-        let t = display::trim(part, page);
+        let t = numerals::trim(part, page);
         let negative = is_negative(t, page);
-        return display::with_sign(negative, n);
+        return value::with_sign(negative, n);
     }
-    display::with_sign(false, n)
+    value::with_sign(false, n)
 }
 
 // ---- the mask
@@ -208,10 +208,10 @@ fn lawful(mask: &[u8]) -> bool
 fn fits_in(n: usize, size: u64) -> bool
     ensures { λ r. ⌜ r ≡ fitsIn n size ⌝ }
 {
-    if size >= 1000000000000000000 {
+    if size >= value::LIMIT {
         return false;
     }
-    display::has_room(n, size)
+    value::has_room(n, size)
 }
 
 fn judge_size(mask: &[u8], negative: bool, size: u64) -> u32

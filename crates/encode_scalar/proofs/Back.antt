@@ -17,6 +17,7 @@ use Rattle.value.specs.Digits.{limit}
 use Rattle.value.specs.Scalar.{tagOf, firstOf, floatOf}
 use Rattle.value.proofs.Items.{float-first, float-tag}
 use Rattle.value.proofs.Rounding.{scale-same}
+use Rattle.value.proofs.Room.{room-fits}
 use Rattle.text.specs.Text as Text
 use Rattle.text.proofs.Back as TextBack
 use Rattle.display.specs.Display as Display
@@ -30,6 +31,7 @@ use Rattle.float.proofs.Back as FloatBack
 use Rattle.hex.specs.Hex as Hex
 use Rattle.hex.proofs.Back as HexBack
 use Rattle.packed.specs.Packed as Packed
+use Rattle.packed.proofs.Writing as PackedWriting
 use Rattle.packed.proofs.Round as PackedRound
 use Rattle.zoned.specs.Zoned as Zoned
 use Rattle.zoned.proofs.Back as ZonedBack
@@ -120,7 +122,7 @@ module _ (p q r s : ℕ) (mask : List ℕ) (page w : ℕ) (t : List ℕ) where
       let n = same-scale negative size r (f .small) m in
       record {
         accepted = rw (n, EditedRound.fits-judged (flag p) negative size mask f, eq-eqb w (length mask) (sym e));
-        said = rw n (ap (decimalSays r) (EditedRound.round (flag p) negative size mask f page ∙ ap (λ (b : Bool). Of b size) (minus-is negative size m)));
+        said = rw n (ap (decimalSays r) (EditedRound.decoded (flag p) negative size mask f page ∙ ap (λ (b : Bool). Of b size) (minus-is negative size m)));
       }
 
   decimal-said : (negative : Bool) (size : ℕ) (n : Number) → n ≡ Of negative size → decimalSays r n ≡ value (Decimal negative size r)
@@ -134,7 +136,7 @@ module _ (p q r s : ℕ) (mask : List ℕ) (page w : ℕ) (t : List ℕ) where
       let f = digits-fit (Display.hasSign q) d in
       record {
         accepted = rw (n, e, DisplayBack.fits-decimal w s negative size q k f);
-        said = rw (n, e) (decimal-said negative size _ (DisplayBack.decimal-back page w negative size (Display.hasSign q) q f (digits-plain d) l ∙ ap (λ (b : Bool). Of b size) m));
+        said = rw (n, e) (decimal-said negative size _ (DisplayBack.decoded page w negative size (Display.hasSign q) q f (digits-plain d) l ∙ ap (λ (b : Bool). Of b size) m));
       }
 
   packed-kept : (negative : Bool) (size : ℕ) → p ≡ 1 → 0 < w → size < 10 ^ (2 * w - 1) → size < limit → (negative ≡ true → flag q ≡ true) → Minus negative size
@@ -142,11 +144,11 @@ module _ (p q r s : ℕ) (mask : List ℕ) (page w : ℕ) (t : List ℕ) where
   unfolding judgedOf numberJudged bytesOf numberBytes says
   packed-kept negative size e h k l g m =
       let n = same-scale negative size r l m in
-      let f : Packed.fitsOf w size ≡ true = rw (lt-ltb 0 w h, lt-ltb size (10 ^ (2 * w - 1)) k) in
+      let f : Packed.fitsOf w size ≡ true = PackedWriting.fits-below w size h k in
       let b : (ltb 0 size && (flag q && negative)) ≡ negative = rw (signed-minus q negative g) (minus-is negative size m) in
       record {
         accepted = rw (n, e, f);
-        said = rw (n, e) (decimal-said negative size _ (PackedRound.round w negative size (flag q) f l ∙ ap (λ (x : Bool). Of x size) b));
+        said = rw (n, e) (decimal-said negative size _ (PackedRound.decoded w negative size (flag q) f l ∙ ap (λ (x : Bool). Of x size) b));
       }
 
   zoned-kept : (negative : Bool) (size : ℕ) → p ≡ 2 → 0 < w → size < 10 ^ w → size < limit → (negative ≡ true → flag q ≡ true) → Minus negative size
@@ -154,11 +156,11 @@ module _ (p q r s : ℕ) (mask : List ℕ) (page w : ℕ) (t : List ℕ) where
   unfolding judgedOf numberJudged bytesOf numberBytes says
   zoned-kept negative size e h k l g m =
       let n = same-scale negative size r l m in
-      let f : Zoned.fitsOf w size ≡ true = rw (lt-ltb 0 w h, lt-ltb size (10 ^ w) k) in
+      let f : Zoned.fitsOf w size ≡ true = room-fits w size h k in
       let b : (ltb 0 size && (flag q && negative)) ≡ negative = rw (signed-minus q negative g) (minus-is negative size m) in
       record {
         accepted = rw (n, e, f);
-        said = rw (n, e) (decimal-said negative size _ (ZonedBack.zoned-back page w negative size (flag q) f l ∙ ap (λ (x : Bool). Of x size) b));
+        said = rw (n, e) (decimal-said negative size _ (ZonedBack.decoded page w negative size (flag q) f l ∙ ap (λ (x : Bool). Of x size) b));
       }
 
   -- a float's scalar is its word again

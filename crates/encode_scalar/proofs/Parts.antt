@@ -11,6 +11,7 @@ use lib.Seq.{drop-length}
 use borrow.Author.Tests.{le-leb, lt-leb, leb-true, eqb-true}
 use Rattle.value.specs.declared.Number.{Number}
 use Rattle.value.specs.declared.Number.the-variants.{Of, Bad, Big}
+use Rattle.value.proofs.Room.{room-some}
 use Rattle.ebcdic.specs.Ebcdic.{ontoPage}
 use Rattle.text.specs.Text.{written}
 use Rattle.text.specs.Shown.{Shows, shows, none, refusalAt, encodedIn}
@@ -26,7 +27,6 @@ use Rattle.packed.specs.Packed as Packed
 use Rattle.packed.proofs.Writing as PackedWriting
 use Rattle.packed.proofs.Round as PackedRound
 use Rattle.zoned.specs.Zoned as Zoned
-use Rattle.zoned.proofs.Writing as ZonedWriting
 use Rattle.zoned.proofs.Back as ZonedBack
 use Rattle.edited.specs.Edited as Edited
 use Rattle.edited.proofs.Round as EditedRound
@@ -80,8 +80,8 @@ decimal-length p q s page w negative size f = by (eqb p 0) (eqb p 1) f
     by : (a b : Bool) → cond a (decimalFits w s negative size q) (cond b (Packed.fitsOf w size) (Zoned.fitsOf w size)) ≡ true
         → length (cond a (map (ontoPage page) (intBytes w negative size q)) (cond b (Packed.encodedOf w negative size (flag q)) (map (ontoPage page) (Zoned.encodedOf w negative size (flag q))))) ≡ w
     by true b e = int-length page w negative size (hasSign q) q (decimal-fits w s negative size q e)
-    by false true e = PackedRound.encoded-length w negative size (flag q) (PackedWriting.fits-pos w size e)
-    by false false e = length-map (Zoned.encodedOf w negative size (flag q)) (ontoPage page) ∙ ZonedBack.encoded-length w negative size (flag q) (ZonedWriting.fits-some w size e)
+    by false true e = PackedRound.encoded-length w negative size (flag q) (PackedWriting.fits-some w size e)
+    by false false e = length-map (Zoned.encodedOf w negative size (flag q)) (ontoPage page) ∙ ZonedBack.encoded-length w negative size (flag q) (room-some w size e)
 
 -- ---- a Bool's byte
 

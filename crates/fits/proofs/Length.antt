@@ -2,18 +2,19 @@
 use mathlib.Core.Path.{_≡_, sym, _∙_}
 use mathlib.Core.List.{List}
 use mathlib.Core.Bool.{true, _&&_}
-use Prim.Native.Nat.{ℕ, _-_, _*_, _%_, _^_}
+use Prim.Native.Nat.{ℕ, _-_, _%_}
 use lib.Dec.{ltb}
 use lib.ListN.{length}
-use borrow.Author.Tests.{lt-ltb}
 use Rattle.value.specs.declared.Scalar.{Scalar}
 use Rattle.value.specs.declared.Number.the-variants.{Of}
+use Rattle.value.proofs.Room.{room-fits}
 use Rattle.text.proofs.Back.{written-length}
 use Rattle.display.specs.Display as Display
 use Rattle.display.proofs.Back.{fits-decimal}
 use Rattle.float.proofs.Back.{exact-lt}
 use Rattle.hex.proofs.Back as HexBack
 use Rattle.packed.specs.Packed as Packed
+use Rattle.packed.proofs.Writing.{fits-below}
 use Rattle.zoned.specs.Zoned as Zoned
 use Rattle.edited.proofs.Round as EditedRound
 use Rattle.decode_scalar.specs.Decode.{flag}
@@ -35,10 +36,10 @@ bytes-long {p} {q} {r} {s} {mask} {w} page (display-fits negative size t e d k l
     let f : decimalFit p q s w negative size ≡ true = rw e (fits-decimal w s negative size q k (digits-fit (Display.hasSign q) d)) in
     rw (same-scale negative size r l (digits-minus d)) (decimal-length p q s page w negative size f)
 bytes-long {p} {q} {r} {s} {mask} {w} page (packed-fits negative size t e h k l g) =
-    let f : decimalFit p q s w negative size ≡ true = rw (e, lt-ltb 0 w h, lt-ltb size (10 ^ (2 * w - 1)) k) in
+    let f : decimalFit p q s w negative size ≡ true = rw e (fits-below w size h k) in
     rw (same-scale negative size r l (g .1)) (decimal-length p q s page w negative size f)
 bytes-long {p} {q} {r} {s} {mask} {w} page (zoned-fits negative size t e h k l g) =
-    let f : decimalFit p q s w negative size ≡ true = rw (e, lt-ltb 0 w h, lt-ltb size (10 ^ w) k) in
+    let f : decimalFit p q s w negative size ≡ true = rw e (room-fits w size h k) in
     rw (same-scale negative size r l (g .1)) (decimal-length p q s page w negative size f)
 bytes-long {p} {q} {r} {s} {mask} {w} page (edited-fits negative size t e f m) =
     rw (same-scale negative size r (f .small) m) (EditedRound.page-length page negative size mask ∙ e)

@@ -13,6 +13,8 @@ use Rattle.lists.proofs.Scan.{every-true}
 use Rattle.value.specs.declared.Number.the-variants.{Of}
 use Rattle.value.specs.Digits.{limit}
 use Rattle.value.specs.Field.{lastOf}
+use Rattle.value.specs.Digits.{roomFor}
+use Rattle.numerals.specs.Numerals.{isSign}
 use Rattle.display.specs.Display as Display
 use Rattle.binary.specs.Binary.{widthOk}
 use Rattle.binary.proofs.Integers.{width-low, width-high, half-twice, halfAt}
@@ -126,7 +128,7 @@ digits-is w sign negative size = by (Display.isSeparate sign) negative
         by-false true false = refl
         by-false false c = refl
 
-    by : (s n : Bool) → (minusOk n size && cond s (Display.roomFor (w - 1) size) (not (n && not false) && Display.roomFor w size))
+    by : (s n : Bool) → (minusOk n size && cond s (roomFor (w - 1) size) (not (n && not false) && roomFor w size))
         ≡ cond s (leb 2 w && (ltb size (10 ^ (w - 1)) && minusOk n size)) (ltb 0 w && (ltb size (10 ^ w) && not n))
     by true n = rw width (last (minusOk n size) (ltb 0 (w - 1)) (ltb size (10 ^ (w - 1))))
     by false true = and-false (ltb 0 size) ∙ last false (ltb 0 w) (ltb size (10 ^ w))
@@ -185,12 +187,12 @@ unfolding tells
 tells-none [] e = refl
 tells-none (x ∷ m) e = absurd (omega arith)
 
-module _ (mask : List ℕ) {a : Bool} (ea : a ≡ Display.isSign (getD mask 0 0)) where
+module _ (mask : List ℕ) {a : Bool} (ea : a ≡ isSign (getD mask 0 0)) where
   pub tells-first : a ≡ true → true ≡ tells mask
   unfolding tells
   tells-first t = rw (← ea, t)
 
-  module _ (ha : a ≡ false) {b : Bool} (eb : b ≡ Display.isSign (lastOf mask)) where
+  module _ (ha : a ≡ false) {b : Bool} (eb : b ≡ isSign (lastOf mask)) where
     pub tells-last : b ≡ true → true ≡ tells mask
     unfolding tells
     tells-last t = rw (← ea, ha, ← eb, t)

@@ -18,8 +18,9 @@ use Rattle.value.specs.Digits.{limit}
 use Rattle.value.specs.Field.{lastOf}
 use Rattle.value.specs.Scalar.{floatOf}
 use Rattle.text.specs.Text as Text
-use Rattle.display.specs.Display.{isSeparate, isSign}
-use Rattle.display.proofs.Back.{last-snoc}
+use Rattle.value.proofs.Field.{last-snoc}
+use Rattle.numerals.specs.Numerals.{isSign}
+use Rattle.display.specs.Display.{isSeparate}
 use Rattle.hex.specs.Hex as Hex
 use Rattle.edited.specs.Edited.{isLawful, isFloating, countOf, positions}
 use Rattle.edited.specs.Fits as Edited

@@ -10,7 +10,8 @@ use Rattle.value.specs.declared.Scalar.{Scalar}
 use Rattle.value.specs.declared.Scalar.the-variants.{Null, Text, Int, Decimal, Float as FloatV, FloatBits, Bool as BoolV}
 use Rattle.value.specs.Digits.{limit}
 use Rattle.value.specs.Field.{lastOf}
-use Rattle.display.specs.Display.{isSeparate, isSign}
+use Rattle.numerals.specs.Numerals.{isSign}
+use Rattle.display.specs.Display.{isSeparate}
 use Rattle.binary.specs.Binary.{widthOk}
 use Rattle.float.specs.Field.{exactIn}
 use Rattle.hex.specs.Hex.{isLower}

@@ -11,7 +11,6 @@ ghost use lib.ListN.{length};
 ghost use lib.Ieee as Ieee;
 ghost use lib.Ieee.{binary64};
 ghost use Rattle.lists.specs.Scan.{everyBy};
-ghost use Rattle.display.specs.Display.{isSign};
 ghost use Rattle.binary.specs.Binary.{widthOk};
 ghost use Rattle.hex.specs.Hex.{isLower};
 ghost use Rattle.decode_scalar.specs.Decode as Decode;
@@ -297,15 +296,6 @@ fn fits_decimal(p: u32, q: u32, s: u32, width: usize, negative: bool, size: u64)
 
 // ---- Edited
 
-fn is_sign(x: u8) -> bool
-    ensures { λ r. ⌜ r ≡ isSign x ⌝ }
-{
-    if x == 45 {
-        return true;
-    }
-    x == 43
-}
-
 fn last_two(a: u8, b: u8, mask: &[u8]) -> bool
     ensures { λ r. ⌜ r ≡ lastTwo a b (now (mask .entry)) ⌝ }
 {
@@ -327,10 +317,10 @@ fn tells_minus(mask: &[u8]) -> bool
     if n == 0 {
         return false;
     }
-    if is_sign(mask[0]) {
+    if numerals::is_sign(mask[0]) {
         return true;
     }
-    if is_sign(mask[n - 1]) {
+    if numerals::is_sign(mask[n - 1]) {
         return true;
     }
     if last_two(67, 82, mask) {

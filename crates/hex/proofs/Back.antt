@@ -10,6 +10,7 @@ use lib.ListN.{length, replicate, length-append, length-replicate}
 use borrow.Author.Tests.{eqb-true, ltb-true, lt-ltb, eq-eqb, ne-eqb, le-leb, lt-leb}
 use Rattle.lists.specs.Scan.{everyBy}
 use Rattle.lists.proofs.Scan.{keep-every, every-weaker, every-head, every-tail}
+use Rattle.value.proofs.Digits.{high-digit, low-digit}
 use Rattle.hex.specs.Hex.{hexDigit, hexPair, hexOf, nibbleIn, isHex, isInk, digitsIn, pairOf, pairUp, judgedOf, bytesOf, isLower, Fits}
 use Rattle.hex.proofs.Laws.{fine}
 
@@ -42,22 +43,16 @@ small x e = ltb-true (nibbleIn x) 16 (both-left (isHex x) (eqb (hexDigit (nibble
 same : (x : ℕ) → isLower x ≡ true → hexDigit (nibbleIn x) ≡ x
 same x e = eqb-true (hexDigit (nibbleIn x)) x (both-right (isHex x) (eqb (hexDigit (nibbleIn x)) x) e)
 
-high : (a b : ℕ) → b < 16 → (a * 16 + b) / 16 ≡ a
-high a b h = omega arith
-
-low : (a b : ℕ) → b < 16 → (a * 16 + b) % 16 ≡ b
-low a b h = omega arith
-
 pair-back : (order a b : ℕ) → isLower a ≡ true → isLower b ≡ true → hexPair order (pairOf order a b) ≡ a ∷ b ∷ []
 pair-back order a b p q = by (eqb order 0)
   where
     by : (t : Bool) → cond t (hexDigit (cond t (nibbleIn a * 16 + nibbleIn b) (nibbleIn b * 16 + nibbleIn a) / 16) ∷ hexDigit (cond t (nibbleIn a * 16 + nibbleIn b) (nibbleIn b * 16 + nibbleIn a) % 16) ∷ [])
         (hexDigit (cond t (nibbleIn a * 16 + nibbleIn b) (nibbleIn b * 16 + nibbleIn a) % 16) ∷ hexDigit (cond t (nibbleIn a * 16 + nibbleIn b) (nibbleIn b * 16 + nibbleIn a) / 16) ∷ []) ≡ a ∷ b ∷ []
-    by true = ap (λ (n : ℕ). hexDigit n ∷ hexDigit ((nibbleIn a * 16 + nibbleIn b) % 16) ∷ []) (high (nibbleIn a) (nibbleIn b) (small b q))
-        ∙ ap (λ (n : ℕ). hexDigit (nibbleIn a) ∷ hexDigit n ∷ []) (low (nibbleIn a) (nibbleIn b) (small b q))
+    by true = ap (λ (n : ℕ). hexDigit n ∷ hexDigit ((nibbleIn a * 16 + nibbleIn b) % 16) ∷ []) (high-digit (nibbleIn a) (nibbleIn b) (small b q))
+        ∙ ap (λ (n : ℕ). hexDigit (nibbleIn a) ∷ hexDigit n ∷ []) (low-digit (nibbleIn a) (nibbleIn b) (small b q))
         ∙ ap (λ (n : ℕ). n ∷ hexDigit (nibbleIn b) ∷ []) (same a p) ∙ ap (λ (n : ℕ). a ∷ n ∷ []) (same b q)
-    by false = ap (λ (n : ℕ). hexDigit n ∷ hexDigit ((nibbleIn b * 16 + nibbleIn a) / 16) ∷ []) (low (nibbleIn b) (nibbleIn a) (small a p))
-        ∙ ap (λ (n : ℕ). hexDigit (nibbleIn a) ∷ hexDigit n ∷ []) (high (nibbleIn b) (nibbleIn a) (small a p))
+    by false = ap (λ (n : ℕ). hexDigit n ∷ hexDigit ((nibbleIn b * 16 + nibbleIn a) / 16) ∷ []) (low-digit (nibbleIn b) (nibbleIn a) (small a p))
+        ∙ ap (λ (n : ℕ). hexDigit (nibbleIn a) ∷ hexDigit n ∷ []) (high-digit (nibbleIn b) (nibbleIn a) (small a p))
         ∙ ap (λ (n : ℕ). n ∷ hexDigit (nibbleIn b) ∷ []) (same a p) ∙ ap (λ (n : ℕ). a ∷ n ∷ []) (same b q)
 
 pairs-back : (order w : ℕ) (t : List ℕ) → length t ≡ 2 * w → everyBy isLower t ≡ true → hexOf order (pairUp order t) ≡ t

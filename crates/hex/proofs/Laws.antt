@@ -14,7 +14,7 @@ use Rattle.lists.specs.Scan.{keepBy, everyBy}
 use Rattle.lists.proofs.Lists.{drop-replicate, behind}
 use Rattle.value.specs.Digits.{spread}
 use Rattle.value.proofs.Digits.{spread-more}
-use Rattle.display.specs.Display.{isBlank}
+use Rattle.numerals.specs.Numerals.{isBlank}
 use Rattle.hex.specs.Hex.{hexDigit, hexPair, hexOf, isHex, digitsIn, pairOf, pairUp, judgedOf, bytesOf}
 
 -- ---- digits from bytes

@@ -7,7 +7,7 @@ use lib.Dec.{eqb, leb, ltb}
 use lib.ListN.{length, replicate}
 use Rattle.lists.specs.Scan.{keepBy, everyBy}
 use Rattle.value.specs.Digits.{spread}
-use Rattle.display.specs.Display.{isBlank}
+use Rattle.numerals.specs.Numerals.{isBlank}
 
 -- ---- reading: lower-case digits
 

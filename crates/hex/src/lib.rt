@@ -115,7 +115,7 @@ pub fn judge_hex(width: usize, text: &[u8]) -> u32
     let mut i = 0;
     while i < text.len() {
         let x = text[i];
-        if display::is_blank(x) {
+        if numerals::is_blank(x) {
             i += 1;
         } else {
             if is_hex(x) {
@@ -146,7 +146,7 @@ fn write_bytes(part: &mut [u8], text: &[u8], order: u32)
     let mut i = 0;
     while i < text.len() {
         let x = text[i];
-        if display::is_blank(x) {
+        if numerals::is_blank(x) {
             i += 1;
         } else {
             if odd {

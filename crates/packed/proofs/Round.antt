@@ -8,14 +8,18 @@ use native.Mathlib.Omega.{arith}
 use native.Mathlib.Decide.{decLt}
 use lib.Dec.{ltb, lit<}
 use lib.ListN.{length, getD, take}
-use borrow.Author.Tests.{lt-ltb, ltb-true}
+use borrow.Author.Tests.{lt-ltb}
 use Rattle.value.specs.declared.Number.{Number}
 use Rattle.value.specs.declared.Number.the-variants.{Of, Bad, Big}
 use lib.IntN.{ℤ, pos}
 use Rattle.value.specs.Digits.{digitAt, digitsOf, spread, limit, signedOf}
-use Rattle.value.proofs.Digits.{ok-digits, value-of-digits, digit-below}
-use Rattle.value.specs.Field.{fieldOf, lastOf, digitsBy}
-use Rattle.packed.specs.Packed.{nibbles, highOf, isNegative, isSign, decodeOf, pairs, signOf, encodedOf, fitsOf}
+use Rattle.value.specs.Number.{some, numberOf}
+use Rattle.value.specs.Field.{lastOf, digitsBy}
+use Rattle.value.proofs.Digits.{ok-digits, value-of-digits, digit-below, high-digit, low-digit}
+use Rattle.value.proofs.Answers.{numberIn-fits}
+use Rattle.value.proofs.Field.{read-lawful}
+use Rattle.value.proofs.Room.{room-below}
+use Rattle.packed.specs.Packed.{nibbles, highOf, signed, isNegative, isSign, packedBy, decodeOf, pairs, signOf, encodedOf, fitsOf}
 
 double : ℕ → ℕ
 double zero = zero
@@ -25,12 +29,6 @@ double-is : (k : ℕ) → double k ≡ 2 * k
 unfolding double
 double-is zero = refl
 double-is (suc k) = let h = double-is k in omega arith
-
-high : (a b : ℕ) → b < 16 → (a * 16 + b) / 16 ≡ a
-high a b h = omega arith
-
-low : (a b : ℕ) → b < 16 → (a * 16 + b) % 16 ≡ b
-low a b h = omega arith
 
 module _ (size s : ℕ) (small : s < 16) where
   -- a field of k + 1 bytes
@@ -45,15 +43,15 @@ module _ (size s : ℕ) (small : s < 16) where
 
   field-sign : (k : ℕ) → getD (field k) k 0 % 16 ≡ s
   unfolding double
-  field-sign zero = low (digitAt 0 size) s small
+  field-sign zero = low-digit (digitAt 0 size) s small
   field-sign (suc k) = field-sign k
 
   field-digits : (k : ℕ) → spread nibbles (take k (field k)) ++ (getD (field k) k 0 / 16 ∷ []) ≡ digitsOf (suc (double k)) size
   unfolding double
-  field-digits zero = rw (high (digitAt 0 size) s small)
+  field-digits zero = rw (high-digit (digitAt 0 size) s small)
   field-digits (suc k) =
       let h = digit-below (suc (double k)) size in
-      rw (high (digitAt (suc (suc (double k))) size) (digitAt (suc (double k)) size) (omega arith), low (digitAt (suc (suc (double k))) size) (digitAt (suc (double k)) size) (omega arith), field-digits k)
+      rw (high-digit (digitAt (suc (suc (double k))) size) (digitAt (suc (double k)) size) (omega arith), low-digit (digitAt (suc (suc (double k))) size) (digitAt (suc (double k)) size) (omega arith), field-digits k)
 
   field-at : (k i : ℕ) → i < k → getD (field k) i 0 ≡ digitAt (2 * (k - i)) size * 16 + digitAt (2 * (k - i) - 1) size
   unfolding double
@@ -76,10 +74,11 @@ module _ (size s : ℕ) (small : s < 16) where
   field-sign-in : (k : ℕ) → lastOf (field k) % 16 ≡ s
   field-sign-in k = let e : length (field k) - 1 ≡ k = omega (arith, field-length k) in rw e (field-sign k)
 
-  field-read : (k : ℕ) → size < 10 ^ suc (double k) → size < limit → isSign s ≡ true → decodeOf (field k) ≡ Of (ltb 0 size && isNegative s) size
-  unfolding decodeOf fieldOf
-  field-read k h l t =
-      rw (field-in k, field-sign-in k, ok-digits (suc (double k)) size, t, value-of-digits (suc (double k)) size h, lt-ltb size limit l)
+  field-read : {X : Type 0} (answer : Bool → ℕ → X) (bad : X) (k : ℕ) → size < 10 ^ suc (double k) → isSign s ≡ true → packedBy answer bad (field k) ≡ answer (isNegative s) size
+  field-read answer bad k h t =
+      let l = field-length k in
+      read-lawful nibbles highOf signed (λ b v. answer (isNegative (b % 16)) v) bad (field k) (omega arith) (rw (field-in k) (ok-digits (suc (double k)) size)) (rw (field-sign-in k) t)
+      ∙ rw (field-in k, field-sign-in k, value-of-digits (suc (double k)) size h)
 
 -- an encoded field is such a field
 encoded-is : (k : ℕ) (negative : Bool) (size : ℕ) (signed : Bool) (small : signOf signed negative < 16)
@@ -105,16 +104,21 @@ sign-read true true = refl
 sign-read true false = refl
 sign-read false negative = refl
 
--- what is written is read back: the sign where the field has one and the number is not 0
-pub round : (w : ℕ) (negative : Bool) (size : ℕ) (signed : Bool) → fitsOf w size ≡ true → size < limit
-    → decodeOf (encodedOf w negative size signed) ≡ Of (ltb 0 size && (signed && negative)) size
-round zero negative size signed h l = absurd (false≢true h)
-round (suc k) negative size signed h l =
+-- what is written is lawful and spells the size, whatever is answered for it: the sign where the field has one
+pub round : {X : Type 0} (answer : Bool → ℕ → X) (bad : X) (w : ℕ) (negative : Bool) (size : ℕ) (signed : Bool) → fitsOf w size ≡ true
+    → packedBy answer bad (encodedOf w negative size signed) ≡ answer (signed && negative) size
+round answer bad zero negative size signed h = absurd (false≢true h)
+round answer bad (suc k) negative size signed h =
     let d = double-is k in
     let e : 2 * suc k - 1 ≡ suc (double k) = omega arith in
-    let f : size < 10 ^ suc (double k) = rw e at (ltb-true size (10 ^ (2 * suc k - 1)) (rw (lt-ltb 0 (suc k) (omega arith)) at h)) in
+    let f : size < 10 ^ suc (double k) = rw e at (room-below (2 * suc k - 1) size h) in
     rw (encoded-is k negative size signed (sign-small signed negative), ← sign-read signed negative)
-    (field-read size (signOf signed negative) (sign-small signed negative) k f l (sign-lawful signed negative))
+    (field-read size (signOf signed negative) (sign-small signed negative) answer bad k f (sign-lawful signed negative))
+
+-- so a size below the limit is read back
+pub decoded : (w : ℕ) (negative : Bool) (size : ℕ) (signed : Bool) → fitsOf w size ≡ true → size < limit → decodeOf (encodedOf w negative size signed) ≡ some (signed && negative) size
+unfolding decodeOf
+decoded w negative size signed h l = round numberOf Bad w negative size signed h ∙ numberIn-fits limit (signed && negative) size l
 
 -- each byte but the last holds the two digits of its place, and the last one the units and the sign
 pub by-place : (w : ℕ) (negative : Bool) (size : ℕ) (signed : Bool) (i : ℕ) → i < w - 1
@@ -146,7 +150,7 @@ zero-unsigned negative (suc n) = rw (lt-ltb 0 (suc n) (omega arith))
 
 pub round-integer : (w : ℕ) (negative : Bool) (size : ℕ) → fitsOf w size ≡ true → size < limit
     → integerIn (decodeOf (encodedOf w negative size true)) ≡ signedOf negative size
-round-integer w negative size h l = ap integerIn (round w negative size true h l) ∙ zero-unsigned negative size
+round-integer w negative size h l = ap integerIn (decoded w negative size true h l) ∙ zero-unsigned negative size
 
 -- a written field is as long as the field, and made of bytes
 pub encoded-length : (w : ℕ) (negative : Bool) (size : ℕ) (signed : Bool) → 0 < w → length (encodedOf w negative size signed) ≡ w

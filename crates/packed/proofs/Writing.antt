@@ -1,19 +1,18 @@
 -- How a writer from the right makes a packed field.
-use mathlib.Core.Path.{_≡_, sym, _∙_}
+use mathlib.Core.Path.{_≡_}
 use mathlib.Core.List.{List, [], _∷_, _++_}
-use mathlib.Core.Bool.{Bool, true, false, true≢false}
+use mathlib.Core.Bool.{Bool, true, false, _&&_}
 use Prim.Native.Nat.{ℕ, suc, _+_, _-_, _*_, _/_, _%_, _^_, _<_, _≤_}
-use native.Mathlib.Nat.{div-one, pow-le-pow-right, lt-of-lt-of-le}
+use native.Mathlib.Nat.{div-one}
 use native.Mathlib.Omega.{arith}
-use lib.Dec.{ltb, lit<, lit≤}
 use native.Mathlib.Decide.{decLt}
-use borrow.Author.Tests.{lt-ltb}
+use lib.Dec.{ltb}
+use borrow.Author.Tests.{lt-ltb, le-ltb}
 use lib.ListN.{length, drop, set, drop-of-length-le}
 use Rattle.lists.proofs.Lists.{drop-set}
 use Rattle.value.specs.Digits.{digitsOf}
-use Rattle.value.specs.Word.{powerTen}
-use Rattle.value.proofs.Word.{power-is}
 use Rattle.value.proofs.Digits.{next-place}
+use Rattle.value.proofs.Room.{room-ample, room-fits, room-some}
 use Rattle.packed.specs.Packed.{pairs, encodedOf, fitsOf, writtenOf}
 
 -- the digits that stand from place i of w on
@@ -56,26 +55,22 @@ written-all l w size sign rest r = let e : places w 0 ≡ 2 * w - 1 = omega arit
 
 -- ---- whether a size fits
 
-pub fits-none : (w size : ℕ) → w ≡ 0 → fitsOf w size ≡ false
-fits-none w size e = rw e
-
 pub fits-ample : (w size : ℕ) → 11 ≤ w → size < 2 ^ 64 → fitsOf w size ≡ true
-fits-ample w size h l =
-    let p : 10 ^ 21 ≤ 10 ^ (2 * w - 1) = pow-le-pow-right {n = 10} (lit< tt) {i = 21} {j = 2 * w - 1} (omega arith) in
-    rw (lt-ltb 0 w (omega arith), lt-ltb size (10 ^ (2 * w - 1)) (lt-of-lt-of-le (lt-of-lt-of-le l (lit≤ tt)) p))
+fits-ample w size h l = room-ample (2 * w - 1) size (omega arith) l
 
-pub fits-is : (w size p : ℕ) → 0 < w → w < 11 → p ≡ powerTen (2 * w - 1) → ltb size p ≡ fitsOf w size
-fits-is w size p h k e = rw (e, power-is (2 * w - 1) (omega arith), lt-ltb 0 w h)
+pub fits-below : (w size : ℕ) → 0 < w → size < 10 ^ (2 * w - 1) → fitsOf w size ≡ true
+fits-below w size h k = room-fits (2 * w - 1) size (omega arith) k
 
-pub fits-pos : (w size : ℕ) → fitsOf w size ≡ true → 0 < w
-fits-pos w size h = go (decLt 0 w)
+-- a place, or a byte
+pub fits-is : (w size : ℕ) → fitsOf w size ≡ (ltb 0 w && ltb size (10 ^ (2 * w - 1)))
+fits-is w size = go (decLt 0 w)
   where
-    go : Dec (0 < w) → 0 < w
-    go (yes k) = k
-    go (no k) =
-        let e : w ≡ 0 = omega arith in
-        let z : fitsOf w size ≡ false = fits-none w size e in
-        absurd (true≢false (sym h ∙ z))
+    go : Dec (0 < w) → fitsOf w size ≡ (ltb 0 w && ltb size (10 ^ (2 * w - 1)))
+    go (yes h) = rw (lt-ltb 0 w h, lt-ltb 0 (2 * w - 1) (omega arith))
+    go (no h) = rw (le-ltb 0 w (omega arith), le-ltb 0 (2 * w - 1) (omega arith))
+
+pub fits-some : (w size : ℕ) → fitsOf w size ≡ true → 0 < w
+fits-some w size h = let k = room-some (2 * w - 1) size h in omega arith
 
 -- ---- what encode leaves
 

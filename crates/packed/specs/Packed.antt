@@ -1,12 +1,12 @@
 -- What a packed field of any width says, and the bytes of a number in one.
 use mathlib.Core.List.{List, [], _∷_, _++_}
-use mathlib.Core.Bool.{Bool, true, false, _&&_, _||_, cond}
-use Prim.Native.Nat.{ℕ, zero, suc, _+_, _-_, _*_, _/_, _%_, _^_}
-use lib.Dec.{ltb, leb, eqb}
+use mathlib.Core.Bool.{Bool, _||_, cond}
+use Prim.Native.Nat.{ℕ, _+_, _-_, _*_, _/_, _%_}
+use lib.Dec.{leb, eqb}
 use lib.ListN.{length}
 use Rattle.value.specs.declared.Number.{Number}
-use Rattle.value.specs.declared.Number.the-variants.{Of, Bad, Big}
-use Rattle.value.specs.Digits.{digitsOf}
+use Rattle.value.specs.declared.Number.the-variants.{Bad}
+use Rattle.value.specs.Digits.{digitsOf, roomFor}
 use Rattle.value.specs.Number.{numberOf}
 use Rattle.value.specs.Field.{fieldOf}
 
@@ -28,13 +28,12 @@ highOf b = b / 16
 abbrev pub signed : ℕ → Bool
 signed b = isSign (b % 16)
 
--- what a lawful field answers
-abbrev pub narrow : ℕ → ℕ → Number
-narrow b size = numberOf (isNegative (b % 16)) size
+-- each byte but the last holds two digits, and the last one a digit and the sign; answer: what a lawful field answers, from its sign and its size
+abbrev pub packedBy : {X : Type 0} → (Bool → ℕ → X) → X → List ℕ → X
+packedBy answer bad part = fieldOf nibbles highOf signed (λ b size. answer (isNegative (b % 16)) size) bad part
 
--- each byte but the last holds two digits, and the last one a digit and the sign
 unfoldable pub decodeOf : List ℕ → Number
-decodeOf part = fieldOf nibbles highOf signed narrow Bad part
+decodeOf part = packedBy numberOf Bad part
 
 -- ---- writing
 
@@ -51,9 +50,9 @@ signOf signed negative = cond signed (cond negative 13 12) 15
 abbrev pub encodedOf : ℕ → Bool → ℕ → Bool → List ℕ
 encodedOf w negative size signed = pairs (digitsOf (2 * w - 1) size ++ (signOf signed negative ∷ []))
 
--- a field of w bytes has 2 w - 1 digits; one of no bytes has no place for the sign
+-- a field of w bytes has 2 w - 1 digits; one of no bytes has none
 abbrev pub fitsOf : ℕ → ℕ → Bool
-fitsOf w size = ltb 0 w && ltb size (10 ^ (2 * w - 1))
+fitsOf w size = roomFor (2 * w - 1) size
 
 -- the field after writing: the number where it fits, and what it was elsewhere
 unfoldable pub writtenOf : List ℕ → Bool → ℕ → Bool → List ℕ

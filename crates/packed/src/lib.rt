@@ -41,7 +41,7 @@ pub fn decode(part: &[u8]) -> Number
     if sign < 10 {
         return Number::Bad;
     }
-    let total = value::push_digit(size, high);
+    let total = value::push_digit(size, high, value::LIMIT);
     value::number_of(is_negative(sign), total)
 }
 
@@ -64,7 +64,7 @@ pub fn fits(width: usize, size: u64) -> bool
     if width >= 11 {
         return true;
     }
-    size < value::ten_to((2 * width - 1) as u64)
+    value::has_room(2 * width - 1, size)
 }
 
 // Two digits in a byte.

@@ -7,12 +7,10 @@ use native.Mathlib.Omega.{arith}
 use native.Mathlib.Decide.{decLt}
 use borrow.Author.Tests.{lt-ltb, le-ltb}
 use lib.Dec.{ltb, lit<, lit≤}
-use lib.ListN.{length, length-map}
 use Rattle.value.specs.Digits.{digitsOf, valueOf}
 use Rattle.value.specs.Word.{powerTen}
-use Rattle.value.proofs.Digits.{pow-pos10, length-digits, value-of-digits}
+use Rattle.value.proofs.Digits.{pow-pos10, value-of-digits}
 use Rattle.value.proofs.Word.{power-is}
-use Rattle.value.specs.Digits.{asciiOf, digitText}
 use Rattle.text.specs.Shown.{countIn, digitCount}
 
 count-true : (steps v : ℕ) → countIn steps true v ≡ 1
@@ -115,6 +113,3 @@ holds (suc n) v h = go (decLt v 10) (holds n (v / 10) (tenth-below (suc n) v h))
 
 pub whole-value : (v : ℕ) → valueOf (digitsOf (digitCount v) v) ≡ v
 whole-value v = value-of-digits (digitCount v) v (holds v v (below-self v))
-
-pub length-text : (n v : ℕ) → length (digitText n v) ≡ n
-length-text n v = length-map (digitsOf n v) asciiOf ∙ length-digits n v

@@ -13,7 +13,7 @@ use Rattle.value.proofs.Digits.{next-place}
 use Rattle.text.specs.Text.{front}
 use Rattle.value.specs.Digits.{digitText}
 use Rattle.text.specs.Shown.{placed}
-use Rattle.text.proofs.Count.{length-text}
+use Rattle.value.proofs.Digits.{length-digitText}
 
 -- a text behind another at the front
 pub placed-front : (s t out : List ℕ) → placed (length s) t (front s out) ≡ front (s ++ t) out
@@ -25,7 +25,7 @@ pub digits-placed : (at n v : ℕ) (xs last : List ℕ) → at + n ≤ length xs
     → take at xs ++ (last ++ drop (at + n - at) (drop at xs)) ≡ placed at (digitText n v) xs
 digits-placed at n v xs last h e =
     rw (e, mid-length at n xs h) (in-whole at n xs (digitText n v))
-    ∙ ap (λ (k : ℕ). take at xs ++ (digitText n v ++ drop (at + k) xs)) (sym (length-text n v))
+    ∙ ap (λ (k : ℕ). take at xs ++ (digitText n v ++ drop (at + k) xs)) (sym (length-digitText n v))
 
 -- a byte and a text behind it
 pub byte-placed : (at b : ℕ) (t xs : List ℕ) → at < length xs → placed (at + 1) t (set xs at b) ≡ placed at (b ∷ t) xs

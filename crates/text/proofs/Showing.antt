@@ -15,7 +15,8 @@ use Rattle.value.proofs.Word.{power-is}
 use Rattle.text.specs.Text.{front}
 use Rattle.value.specs.Digits.{digitText}
 use Rattle.text.specs.Shown.{digitCount, wholeText, minusText, intText, decimalText, boolText, placed}
-use Rattle.text.proofs.Count.{count-below, length-text}
+use Rattle.value.proofs.Digits.{length-digitText}
+use Rattle.text.proofs.Count.{count-below}
 use Rattle.text.proofs.Places.{placed-front}
 
 -- ---- one piece more
@@ -37,7 +38,7 @@ minus-short negative size at e = subst (λ (n : ℕ). n ≤ 1) (sym e) (by (ltb 
     by false = omega arith
 
 pub whole-short : (size : ℕ) → size < 2 ^ 64 → length (wholeText size) ≤ 20
-whole-short size f = subst (λ (n : ℕ). n ≤ 20) (sym (length-text (digitCount size) size)) (count-below 19 size (lt-of-lt-of-le f (lit≤ tt)))
+whole-short size f = subst (λ (n : ℕ). n ≤ 20) (sym (length-digitText (digitCount size) size)) (count-below 19 size (lt-of-lt-of-le f (lit≤ tt)))
 
 pub ten-pos : (scale p : ℕ) → scale ≤ 18 → p ≡ powerTen scale → 0 < p
 ten-pos scale p h e = subst (λ (n : ℕ). 0 < n) (sym (e ∙ power-is scale (omega arith))) (pow-pos10 scale)
@@ -51,7 +52,7 @@ parts-short size scale p f h e =
     let b : size < 10 ^ suc (19 - scale) * 10 ^ scale = subst (λ (n : ℕ). size < n) (sym w) (lt-of-lt-of-le f (lit≤ tt)) in
     let d : size / 10 ^ scale < 10 ^ suc (19 - scale) = div-lt-iff-lt-mul {k = 10 ^ scale} {x = size} {y = 10 ^ suc (19 - scale)} (pow-pos10 scale) .1 b in
     let c : digitCount (size / 10 ^ scale) ≤ suc (19 - scale) = count-below (19 - scale) (size / 10 ^ scale) d in
-    rw (q, length-text (digitCount (size / 10 ^ scale)) (size / 10 ^ scale)) (omega arith)
+    rw (q, length-digitText (digitCount (size / 10 ^ scale)) (size / 10 ^ scale)) (omega arith)
 
 -- ---- decimals
 

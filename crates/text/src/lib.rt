@@ -158,7 +158,7 @@ fn digit_count(v: u64) -> usize
 fn spell(part: &mut [u8], v: u64)
     ensures { λ _. ⌜ now (part .exit) ≡ digitText (length (now (part .entry))) v ⌝ }
 {
-    display::zero_pad(part, 0, v);
+    numerals::zero_pad(part, 0, v);
 }
 
 // A minus to the front, if the number has one; where the next byte goes.

@@ -9,7 +9,7 @@ use borrow.Author.Tests.{lt-ltb, le-ltb}
 use Rattle.value.specs.declared.Number.{Number}
 use Rattle.value.specs.declared.Number.the-variants.{Of, Big}
 use Rattle.value.specs.Digits.{limit, capped}
-use Rattle.value.specs.Number.{numberIn, numberOf}
+use Rattle.value.specs.Number.{some, numberIn, numberOf}
 
 -- nothing is lost by a size that stops counting at the bound or past it
 pub numberIn-capped : (bound cap : ℕ) (negative : Bool) (v : ℕ) → bound ≤ cap → numberIn bound negative (min v cap) ≡ numberIn bound negative v
@@ -30,5 +30,5 @@ numberIn-small bound negative v n w e = go (decLt v bound)
     go (yes h) = let k : v ≡ w = let f : _≡_ {A = Number} (Of (ltb 0 v && negative) v) (Of n w) = rw (lt-ltb v bound h) at e in cc in omega arith
     go (no h) = let z : _≡_ {A = ℕ} 0 1 = let f : _≡_ {A = Number} Big (Of n w) = rw (le-ltb v bound (omega arith)) at e in cc in absurd (omega arith)
 
-pub numberIn-fits : (bound : ℕ) (negative : Bool) (v : ℕ) → v < bound → numberIn bound negative v ≡ Of (ltb 0 v && negative) v
+pub numberIn-fits : (bound : ℕ) (negative : Bool) (v : ℕ) → v < bound → numberIn bound negative v ≡ some negative v
 numberIn-fits bound negative v h = rw (lt-ltb v bound h)

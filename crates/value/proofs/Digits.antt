@@ -1,18 +1,18 @@
 -- The laws of digits that reading and writing share, over any number of digits.
 use mathlib.Core.Path.{_≡_, refl, sym, _∙_, ap}
 use mathlib.Core.List.{List, [], _∷_, _++_, append-assoc, append-nil}
-use mathlib.Core.Bool.{Bool, true, false, _&&_}
-use Prim.Native.Nat.{ℕ, zero, suc, _+_, _*_, _/_, _%_, _^_, _<_}
+use mathlib.Core.Bool.{Bool, true, false, _&&_, and-false}
+use Prim.Native.Nat.{ℕ, zero, suc, _+_, _*_, _/_, _%_, _^_, _<_, min}
 use native.Mathlib.Nat.{mod-lt, mod-eq-of-lt, pow-zero, pow-suc, pow-succ', add-mul, mul-assoc, add-assoc, div-div-eq-div-mul, zero-mul, zero-add}
 use native.Mathlib.Nat.{not-suc-le-zero, le-of-suc-le-suc}
 use native.Mathlib.Numerals.{add-one}
 use native.Mathlib.Omega.{arith}
 use lib.Arith.{mod-mul}
 use lib.Dec.{ltb, lit<}
-use lib.ListN.{length, getD, take}
+use lib.ListN.{length, getD, take, length-map}
 use lib.Seq.{take-suc}
 use borrow.Author.Tests.{lt-ltb}
-use Rattle.value.specs.Digits.{valueFrom, valueOf, digitsOk, digitAt, digitsOf, capped, spread}
+use Rattle.value.specs.Digits.{valueFrom, valueOf, digitsOk, digitAt, digitsOf, asciiOf, digitText, spread}
 
 pub value-append : (acc : ℕ) (xs ys : List ℕ) → valueFrom acc (xs ++ ys) ≡ valueFrom (valueFrom acc xs) ys
 value-append acc [] ys = refl
@@ -37,6 +37,9 @@ pub length-digits : (n v : ℕ) → length (digitsOf n v) ≡ n
 length-digits zero v = refl
 length-digits (suc n) v = ap suc (length-digits n v)
 
+pub length-digitText : (n v : ℕ) → length (digitText n v) ≡ n
+length-digitText n v = length-map (digitsOf n v) asciiOf ∙ length-digits n v
+
 pub pow-pos10 : (n : ℕ) → 0 < 10 ^ n
 pow-pos10 zero = rw pow-zero (lit< tt)
 pow-pos10 (suc n) = let h = pow-pos10 n in rw pow-suc (omega arith)
@@ -50,19 +53,31 @@ value-digits acc (suc n) v = value-digits (acc * 10 + digitAt n v) n v ∙
 pub value-of-digits : (n v : ℕ) → v < 10 ^ n → valueOf (digitsOf n v) ≡ v
 value-of-digits n v h = value-digits 0 n v ∙ rw (mod-eq-of-lt h) (simp (zero-mul, zero-add))
 
--- a step of a size that stops counting
-pub capped-step : (v d : ℕ) → capped (capped v * 10 + d) ≡ capped (v * 10 + d)
-capped-step v d = omega arith
+-- a size that stops counting at a cap spells the same up to the cap
+cap-value : (cap v : ℕ) (ds : List ℕ) → min (valueFrom (min v cap) ds) cap ≡ min (valueFrom v ds) cap
+cap-value cap v [] = omega arith
+cap-value cap v (d ∷ ds) =
+    let e : min (min v cap * 10 + d) cap ≡ min (v * 10 + d) cap = omega arith in
+    sym (cap-value cap (min v cap * 10 + d) ds) ∙ ap (λ (n : ℕ). min (valueFrom n ds) cap) e ∙ cap-value cap (v * 10 + d) ds
+
+-- so nothing is lost to an answer that does not tell sizes past the cap apart
+pub cap-answer : {X : Type 0} (answer : ℕ → X) (cap : ℕ) → ((v : ℕ) → answer (min v cap) ≡ answer v) → (v : ℕ) (ds : List ℕ)
+    → answer (valueFrom (min v cap) ds) ≡ answer (valueFrom v ds)
+cap-answer answer cap same v ds =
+    sym (same (valueFrom (min v cap) ds)) ∙ ap answer (cap-value cap v ds) ∙ same (valueFrom v ds)
+
+-- the two digits of a byte
+pub high-digit : (a b : ℕ) → b < 16 → (a * 16 + b) / 16 ≡ a
+high-digit a b h = omega arith
+
+pub low-digit : (a b : ℕ) → b < 16 → (a * 16 + b) % 16 ≡ b
+low-digit a b h = omega arith
 
 -- dividing by ten moves to the next place
 pub next-place : (n v : ℕ) → v / 10 ^ n / 10 ≡ v / 10 ^ suc n
 next-place n v = rw (div-div-eq-div-mul, pow-suc)
 
 -- ---- the digits of the bytes of a part
-
-and-false : (a : Bool) → (a && false) ≡ false
-and-false true = refl
-and-false false = refl
 
 pub spread-append : (f : ℕ → List ℕ) (xs ys : List ℕ) → spread f (xs ++ ys) ≡ spread f xs ++ spread f ys
 spread-append f [] ys = refl

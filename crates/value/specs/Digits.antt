@@ -42,6 +42,10 @@ digitIn x = x - 48
 abbrev pub digitText : ℕ → ℕ → List ℕ
 digitText n v = map asciiOf (digitsOf n v)
 
+-- a size has no more digits than there are places; 0 has one digit
+abbrev pub roomFor : ℕ → ℕ → Bool
+roomFor places size = ltb 0 places && ltb size (10 ^ places)
+
 -- Decimals are "below 10^18 in size"
 abbrev pub limit : ℕ
 limit = 1_000_000_000_000_000_000

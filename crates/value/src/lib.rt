@@ -2,13 +2,13 @@
 
 ghost use mathlib.Core.Path.{_≡_};
 ghost use mathlib.Core.Bool.{Bool, cond};
-ghost use Prim.Native.Nat.{ℕ, _+_, _*_, _/_, _%_, _^_, _<_, _≤_};
+ghost use Prim.Native.Nat.{ℕ, _+_, _*_, _/_, _%_, _^_, _<_, _≤_, min};
 ghost use lib.Dec.{leb, eqb};
 ghost use lib.ListN.{length};
 ghost use lib.Ieee as Ieee;
 ghost use lib.Ieee.{binary64};
-ghost use Rattle.value.specs.Digits.{capped, limit};
-ghost use Rattle.value.specs.Number.{numberOf};
+ghost use Rattle.value.specs.Digits.{capped, limit, roomFor};
+ghost use Rattle.value.specs.Number.{some, numberIn, numberOf, withSign};
 ghost use Rattle.value.specs.Rounding.{rescaled};
 ghost use Rattle.value.specs.Word.{wordOf, minusIn, sizeIn, powerTen};
 ghost use Rattle.value.specs.Scalar.{tagOf, firstOf, secondOf, putOf, floatOf, scalarOf};
@@ -34,18 +34,22 @@ pub enum Scalar {
 
 // ---- sizes: the steps by which every reader and writer goes
 
-// One digit more of a size that stops counting at 10^18.
-pub fn push_digit(size: u64, digit: u8) -> u64
-    ensures { λ r. ⌜ r ≡ capped (size * 10 + digit) ⌝ }
+// A Decimal's size is below 10^18.
+pub const LIMIT: u64 = 1000000000000000000;
+
+// One digit more of a size that stops counting at a cap.
+pub fn push_digit(size: u64, digit: u8, cap: u64) -> u64
+    ensures { λ r. ⌜ r ≡ min (size * 10 + digit) cap ⌝ }
 {
-    if size >= 100000000000000000 {
-        return 1000000000000000000;
+    if size > cap / 10 {
+        return cap;
     }
-    let next = size * 10 + digit as u64;
-    if next >= 1000000000000000000 {
-        return 1000000000000000000;
+    let tens = size * 10;
+    let units = digit as u64;
+    if units >= cap - tens {
+        return cap;
     }
-    next
+    tens + units
 }
 
 // Two digits more.
@@ -55,7 +59,7 @@ pub fn push_pair(size: u64, high: u8, low: u8) -> u64
     if size < 9000000000000000 {
         return size * 100 + (high as u64 * 10 + low as u64);
     }
-    push_digit(push_digit(size, high), low)
+    push_digit(push_digit(size, high, LIMIT), low, LIMIT)
 }
 
 // The units of a size.
@@ -86,17 +90,56 @@ pub fn drop_pair(size: u64) -> u64
     size / 100
 }
 
-// The answer for a sign and a size.
-pub fn number_of(negative: bool, size: u64) -> Number
-    ensures { λ r. ⌜ r ≡ numberOf negative size ⌝ }
+// Whether a size has no more digits than there are places.
+pub fn has_room(places: usize, size: u64) -> bool
+    ensures { λ r. ⌜ r ≡ roomFor places size ⌝ }
 {
-    if size >= 1000000000000000000 {
-        return Number::Big;
+    if places == 0 {
+        return false;
     }
+    if places >= 20 {
+        return true;
+    }
+    let p = ten_to(places as u64);
+    size < p
+}
+
+// The number of a sign and a size that is in range.
+pub fn signed_size(negative: bool, size: u64) -> Number
+    ensures { λ r. ⌜ r ≡ some negative size ⌝ }
+{
     if size == 0 {
         return Number::Of(false, 0);
     }
     Number::Of(negative, size)
+}
+
+// The answer for a sign and a size that is to be below a bound.
+pub fn number_in(bound: u64, negative: bool, size: u64) -> Number
+    ensures { λ r. ⌜ r ≡ numberIn bound negative size ⌝ }
+{
+    if size >= bound {
+        return Number::Big;
+    }
+    signed_size(negative, size)
+}
+
+// The same for a Decimal's size.
+pub fn number_of(negative: bool, size: u64) -> Number
+    ensures { λ r. ⌜ r ≡ numberOf negative size ⌝ }
+{
+    number_in(LIMIT, negative, size)
+}
+
+// A number with a sign in front of it.
+pub fn with_sign(negative: bool, n: Number) -> Number
+    ensures { λ r. ⌜ r ≡ withSign negative n ⌝ }
+{
+    match n {
+        Number::Of(_, size) => signed_size(negative, size),
+        Number::Bad => Number::Bad,
+        Number::Big => Number::Big,
+    }
 }
 
 // 10^k where a word holds it, else 0.

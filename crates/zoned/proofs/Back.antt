@@ -1,24 +1,26 @@
 -- A number that was written into a zoned field is read back, over any width and on either page.
-use mathlib.Core.Path.{_≡_, refl, ap, _∙_}
+use mathlib.Core.Path.{_≡_, refl, sym, ap, _∙_}
 use mathlib.Core.List.{List, [], _∷_, _++_, map}
 use mathlib.Core.Bool.{Bool, true, false, _&&_, cond}
 use Prim.Native.Nat.{ℕ, zero, suc, _+_, _-_, _/_, _^_, _<_}
-use native.Mathlib.Nat.{not-suc-le-zero, le-of-suc-le-suc}
 use native.Mathlib.Omega.{arith}
 use native.Mathlib.Decide.{decLt}
 use lib.Dec.{eqb, leb, ltb, lit<}
-use lib.ListN.{length, getD, take, length-append, List·getD-append}
-use lib.Seq.{take-at, getD-at}
-use borrow.Author.Tests.{lt-ltb, le-ltb, ltb-true, le-leb, lt-leb, ne-eqb}
+use lib.ListN.{length, getD, length-append, List·getD-append}
+use lib.Seq.{getD-at}
+use borrow.Author.Tests.{lt-ltb, le-ltb, le-leb, lt-leb, ne-eqb}
 use Rattle.ebcdic.specs.Ebcdic.{fromPage, ontoPage}
 use Rattle.ebcdic.proofs.Laws.{bytes-back}
-use Rattle.value.specs.declared.Number.the-variants.{Of}
-use Rattle.value.specs.Digits.{digitAt, digitsOf, spread, limit}
-use Rattle.value.specs.Field.{fieldOf, lastOf, digitsBy}
-use Rattle.value.proofs.Digits.{ok-digits, value-of-digits, digit-below, digits-snoc}
-use Rattle.value.specs.Digits.{digitText}
-use Rattle.zoned.specs.Zoned.{digitOf, zone, lastDigit, minus, decodeOf, overpunch, lastByte, encodedOf, fitsOf}
-use Rattle.zoned.proofs.Writing.{fits-some, text-length}
+use Rattle.value.specs.declared.Number.the-variants.{Bad}
+use Rattle.value.specs.Digits.{digitAt, digitsOf, digitText, spread, limit}
+use Rattle.value.specs.Number.{some, numberOf}
+use Rattle.value.specs.Field.{digitsBy}
+use Rattle.value.proofs.Digits.{ok-digits, value-of-digits, digit-below, digits-snoc, length-digitText}
+use Rattle.value.proofs.Answers.{numberIn-fits}
+use Rattle.value.proofs.Field.{read-lawful, last-snoc, front-snoc}
+use Rattle.value.proofs.Room.{room-some, room-below}
+use Rattle.numerals.proofs.Text.{inked-digitText}
+use Rattle.zoned.specs.Zoned.{digitOf, zone, lastDigit, minus, anySign, zonedBy, decodeOf, overpunch, lastByte, encodedOf, fitsOf}
 
 -- ---- the last byte
 
@@ -63,11 +65,6 @@ spread-digitText : (k v : ℕ) → spread zone (digitText k v) ≡ digitsOf k v
 spread-digitText zero v = refl
 spread-digitText (suc k) v = rw (plain-digit (digitAt k v) (digit-below k v)) (ap (λ (l : List ℕ). digitAt k v ∷ l) (spread-digitText k v))
 
-text-byte : (n v k : ℕ) → k < n → getD (digitText n v) k 0 < 58
-text-byte zero v k h = absurd (not-suc-le-zero h)
-text-byte (suc n) v zero h = let d = digit-below n v in omega arith
-text-byte (suc n) v (suc k) h = text-byte n v k (le-of-suc-le-suc h)
-
 over-byte : (d : ℕ) (negative signed : Bool) → d < 10 → cond signed (overpunch d negative) (48 + d) < 256
 over-byte zero true true h = lit< tt
 over-byte zero false true h = lit< tt
@@ -78,80 +75,63 @@ over-byte d negative false h = omega arith
 -- ---- the field
 
 module _ (k : ℕ) (negative : Bool) (size : ℕ) (signed : Bool) where
-  front : List ℕ
+  abbrev front : List ℕ
   front = digitText k (size / 10)
 
-  b : ℕ
+  abbrev b : ℕ
   b = lastByte size negative signed
 
-  field : List ℕ
-  unfolding front b
+  abbrev field : List ℕ
   field = front ++ (b ∷ [])
 
-  front-length : length front ≡ k
-  unfolding front
-  front-length = text-length k (size / 10)
-
   field-length : length field ≡ suc k
-  unfolding field
-  field-length = length-append front (b ∷ []) ∙ rw front-length (omega arith)
-
-  field-last : lastOf field ≡ b
-  unfolding field
-  field-last = let e : length field - 1 ≡ k = omega (arith, field-length) in rw e (getD-at front b [] 0 k front-length)
-
-  field-front : take (length field - 1) field ≡ front
-  unfolding field
-  field-front = let e : length field - 1 ≡ k = omega (arith, field-length) in rw e (take-at front (b ∷ []) k front-length)
+  field-length = length-append front (b ∷ []) ∙ rw (length-digitText k (size / 10)) (omega arith)
 
   field-digits : digitsBy zone lastDigit field ≡ digitsOf (suc k) size
-  unfolding b front
   field-digits =
-      rw (field-front, field-last, spread-digitText k (size / 10), last-digit (digitAt 0 size) negative signed (digit-below 0 size)) (digits-snoc k size)
+      rw (front-snoc front b, last-snoc front b, spread-digitText k (size / 10), last-digit (digitAt 0 size) negative signed (digit-below 0 size)) (digits-snoc k size)
 
-  field-read : size < 10 ^ suc k → size < limit → decodeOf field ≡ Of (ltb 0 size && (signed && negative)) size
-  unfolding decodeOf fieldOf b
-  field-read h l =
+  field-read : {X : Type 0} (answer : Bool → ℕ → X) (bad : X) → size < 10 ^ suc k → zonedBy answer bad field ≡ answer (signed && negative) size
+  field-read answer bad h =
       let f = field-length in
-      rw (lt-ltb 0 (length field) (omega arith), field-digits, field-last, ok-digits (suc k) size, value-of-digits (suc k) size h, lt-ltb size limit l, last-minus (digitAt 0 size) negative signed (digit-below 0 size))
+      read-lawful zone lastDigit anySign (λ x v. answer (minus x) v) bad field (omega arith) (rw field-digits (ok-digits (suc k) size)) refl
+      ∙ rw (field-digits, last-snoc front b, value-of-digits (suc k) size h, last-minus (digitAt 0 size) negative signed (digit-below 0 size))
 
   field-byte : (i : ℕ) → i < length field → getD field i 0 < 256
-  unfolding field front b
   field-byte i h = go (decLt i k)
     where
       go : Dec (i < k) → getD (front ++ (b ∷ [])) i 0 < 256
       go (yes m) =
-          let l = front-length in
-          let p = text-byte k (size / 10) i m in
+          let l = length-digitText k (size / 10) in
+          let p = inked-digitText k (size / 10) i (omega arith) .1 in
           rw (List·getD-append front (b ∷ []) 0 i (omega arith)) (omega arith)
       go (no m) =
           let f = field-length in
           let e : i ≡ k = omega arith in
-          rw (e, getD-at front b [] 0 k front-length) (over-byte (digitAt 0 size) negative signed (digit-below 0 size))
+          rw (e, getD-at front b [] 0 k (length-digitText k (size / 10))) (over-byte (digitAt 0 size) negative signed (digit-below 0 size))
 
-pub encoded-length : (w : ℕ) (negative : Bool) (size : ℕ) (signed : Bool) → 0 < w → length (encodedOf w negative size signed) ≡ w
-unfolding field front b
-encoded-length zero negative size signed h = absurd (omega arith)
-encoded-length (suc k) negative size signed h =
-    let e : suc k - 1 ≡ k = omega arith in
-    rw e (field-length k negative size signed)
+-- a field of w bytes is such a field
+module _ (w : ℕ) (negative : Bool) (size : ℕ) (signed : Bool) (some : 0 < w) where
+  width : w ≡ suc (w - 1)
+  width = omega arith
 
-pub encoded-byte : (w : ℕ) (negative : Bool) (size : ℕ) (signed : Bool) → 0 < w → (i : ℕ) → i < length (encodedOf w negative size signed) → getD (encodedOf w negative size signed) i 0 < 256
-unfolding field front b
-encoded-byte zero negative size signed h i l = absurd (omega arith)
-encoded-byte (suc k) negative size signed h i l =
-    let e : suc k - 1 ≡ k = omega arith in
-    rw e (field-byte k negative size signed i (rw e at l))
+  pub encoded-length : length (encodedOf w negative size signed) ≡ w
+  encoded-length = field-length (w - 1) negative size signed ∙ sym width
 
-room : (k size : ℕ) → fitsOf (suc k) size ≡ true → size < 10 ^ suc k
-room k size f = ltb-true size (10 ^ suc k) (rw (lt-ltb 0 (suc k) (omega arith)) at f)
+  pub encoded-byte : (i : ℕ) → i < length (encodedOf w negative size signed) → getD (encodedOf w negative size signed) i 0 < 256
+  encoded-byte i l = field-byte (w - 1) negative size signed i l
 
--- what is written is read back: the sign where the field has one and the number is not 0
-pub zoned-back : (page w : ℕ) (negative : Bool) (size : ℕ) (signed : Bool) → fitsOf w size ≡ true → size < limit
-    → decodeOf (map (fromPage page) (map (ontoPage page) (encodedOf w negative size signed))) ≡ Of (ltb 0 size && (signed && negative)) size
-unfolding field front b
-zoned-back page zero negative size signed f l = absurd (not-suc-le-zero (fits-some zero size f))
-zoned-back page (suc k) negative size signed f l =
-    let e : suc k - 1 ≡ k = omega arith in
-    ap decodeOf (bytes-back page (encodedOf (suc k) negative size signed) (encoded-byte (suc k) negative size signed (omega arith)))
-    ∙ rw e (field-read k negative size signed (room k size f) l)
+-- what is written is lawful and spells the size, whatever is answered for it: the sign where the field has one
+pub zoned-back : {X : Type 0} (answer : Bool → ℕ → X) (bad : X) (page w : ℕ) (negative : Bool) (size : ℕ) (signed : Bool) → fitsOf w size ≡ true
+    → zonedBy answer bad (map (fromPage page) (map (ontoPage page) (encodedOf w negative size signed))) ≡ answer (signed && negative) size
+zoned-back answer bad page w negative size signed f =
+    let h = room-some w size f in
+    let k : size < 10 ^ suc (w - 1) = rw (← width w negative size signed h) (room-below w size f) in
+    ap (zonedBy answer bad) (bytes-back page (encodedOf w negative size signed) (encoded-byte w negative size signed h))
+    ∙ field-read (w - 1) negative size signed answer bad k
+
+-- so a size below the limit is read back
+pub decoded : (page w : ℕ) (negative : Bool) (size : ℕ) (signed : Bool) → fitsOf w size ≡ true → size < limit
+    → decodeOf (map (fromPage page) (map (ontoPage page) (encodedOf w negative size signed))) ≡ some (signed && negative) size
+unfolding decodeOf
+decoded page w negative size signed f l = zoned-back numberOf Bad page w negative size signed f ∙ numberIn-fits limit (signed && negative) size l

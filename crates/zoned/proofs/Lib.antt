@@ -1,4 +1,3 @@
 pub mod Reading
-pub mod Paged
 pub mod Writing
 pub mod Back

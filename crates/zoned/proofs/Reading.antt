@@ -1,33 +1,65 @@
--- How a reader from the left finds out what a zoned field says: the laws of a field, at zoned bytes.
-use mathlib.Core.Path.{_≡_, refl}
-use mathlib.Core.List.{List}
-use Prim.Native.Nat.{ℕ, _+_, _-_, _*_, _<_, _≤_}
-use lib.ListN.{length, getD}
-use borrow.Author.Tests.{le-ltb, lt-ltb}
+-- How a reader of bytes on a page finds out from the left what a zoned field says: the laws of a field, at zoned bytes.
+use mathlib.Core.Path.{_≡_, refl, sym, ap, _∙_}
+use mathlib.Core.List.{List, [], _∷_, map}
+use mathlib.Core.Bool.{Bool}
+use Prim.Native.Nat.{ℕ, _+_, _-_, _*_, _<_, _≤_, min}
+use native.Mathlib.Omega.{arith}
+use lib.ListN.{length, getD, length-map}
+use borrow.Author.Tests.{le-ltb}
+use Rattle.lists.proofs.Lists.{getD-map}
+use Rattle.ebcdic.specs.Ebcdic.{fromPage}
+use Rattle.value.specs.declared.Number.{Number}
 use Rattle.value.specs.declared.Number.the-variants.{Bad}
-use Rattle.value.specs.Digits.{capped, limit}
-use Rattle.value.specs.Number.{numberOf}
-use Rattle.value.proofs.Answers.{numberOf-capped}
-use Rattle.value.proofs.Field as Field
+use Rattle.value.specs.Number.{numberIn}
 use Rattle.value.specs.Field.{lastOf}
-use Rattle.value.proofs.Field.{Read}
-use Rattle.zoned.specs.Zoned.{zone, digitOf, lastDigit, minus, anySign, narrow, decodeOf}
+use Rattle.value.proofs.Answers.{numberIn-capped}
+use Rattle.value.proofs.Field as Field
+use Rattle.value.proofs.Field.{Read, read-one}
+use Rattle.zoned.specs.Zoned.{zone, digitOf, lastDigit, minus, anySign, zonedBy}
 
-pub bad-empty : (part : List ℕ) → length part ≡ 0 → decodeOf part ≡ Bad
-unfolding decodeOf
-bad-empty part h = rw h
+module _ (bound page : ℕ) (part : List ℕ) where
+  abbrev ascii : List ℕ
+  ascii = map (fromPage page) part
 
-module _ (part : List ℕ) (some : 0 < length part) where
-  pub bad-digit : (i : ℕ) → i < length part - 1 → 10 ≤ digitOf (getD part i 0) → decodeOf part ≡ Bad
-  unfolding decodeOf
-  bad-digit i below h =
-      rw (lt-ltb 0 (length part) some) (Field.bad-body zone lastDigit anySign narrow Bad part i below (rw (le-ltb (digitOf (getD part i 0)) 10 h)))
+  abbrev says : Number
+  says = zonedBy (numberIn bound) Bad ascii
 
-  pub bad-last : 10 ≤ lastDigit (lastOf part) → decodeOf part ≡ Bad
-  unfolding decodeOf
-  bad-last h = rw (lt-ltb 0 (length part) some) (Field.bad-last zone lastDigit anySign narrow Bad part h)
+  -- what a lawful field answers
+  abbrev answer : ℕ → ℕ → Number
+  answer b size = numberIn bound (minus b) size
 
-  pub read-all : (size total : ℕ) → Read limit zone part (length part - 1) size → lastDigit (lastOf part) < 10
-      → total ≡ capped (size * 10 + lastDigit (lastOf part)) → numberOf (minus (lastOf part)) total ≡ decodeOf part
-  unfolding decodeOf
-  read-all size total r h e = rw (lt-ltb 0 (length part) some) (Field.read-all zone lastDigit anySign narrow Bad part limit (λ b v. numberOf-capped (minus b) v) size total r h refl e)
+  long : length ascii ≡ length part
+  long = length-map part (fromPage page)
+
+  byte : (i x : ℕ) → i < length part → x ≡ fromPage page (getD part i 0) → getD ascii i 0 ≡ x
+  byte i x h e = getD-map (fromPage page) part i h ∙ sym e
+
+  last : (x : ℕ) → 0 < length part → x ≡ fromPage page (getD part (length part - 1) 0) → lastOf ascii ≡ x
+  last x h e = ap (λ (n : ℕ). getD ascii (n - 1) 0) long ∙ byte (length part - 1) x (omega arith) e
+
+  pub none : length part ≡ 0 → Bad ≡ says
+  none h = sym (Field.bad-empty zone lastDigit anySign answer Bad ascii (long ∙ h))
+
+  pub bad : (i x d : ℕ) → i < length part - 1 → x ≡ fromPage page (getD part i 0) → d ≡ digitOf x → 10 ≤ d → Bad ≡ says
+  bad i x d h e f k =
+      let l = long in
+      let b : 10 ≤ digitOf (getD ascii i 0) = rw (byte i x (omega arith) e, ← f) k in
+      sym (Field.bad-body zone lastDigit anySign answer Bad ascii i (omega arith) (rw (le-ltb (digitOf (getD ascii i 0)) 10 b)))
+
+  pub more : (i size x d next : ℕ) → i < length part - 1 → Read bound zone ascii i size → x ≡ fromPage page (getD part i 0) → d ≡ digitOf x → d < 10
+      → next ≡ min (size * 10 + d) bound → Read bound zone ascii (i + 1) next
+  more i size x d next h r e f k n =
+      let l = long in
+      read-one bound zone ascii i size (omega arith) r d next (ap zone (byte i x (omega arith) e) ∙ ap (λ (y : ℕ). y ∷ []) (sym f)) k n
+
+  pub bad-last : (x d : ℕ) → 0 < length part → x ≡ fromPage page (getD part (length part - 1) 0) → d ≡ lastDigit x → 10 ≤ d → Bad ≡ says
+  bad-last x d h e f k = sym (Field.bad-last zone lastDigit anySign answer Bad ascii (rw (last x h e, ← f) k))
+
+  pub all : (i size x d total : ℕ) (negative : Bool) → 0 < length part → i ≡ length part - 1 → Read bound zone ascii i size → x ≡ fromPage page (getD part (length part - 1) 0)
+      → d ≡ lastDigit x → d < 10 → total ≡ min (size * 10 + d) bound → negative ≡ minus x → numberIn bound negative total ≡ says
+  all i size x d total negative h q r e f k t m =
+      let l = long in
+      let y = last x h e in
+      let p : i ≡ length ascii - 1 = omega arith in
+      rw (m, ← y)
+      (Field.read-all zone lastDigit anySign answer Bad ascii bound (λ b v. numberIn-capped bound bound (minus b) v (omega arith)) size total (omega arith) (rw p at r) (rw (y, ← f) k) refl (rw (y, ← f) t))

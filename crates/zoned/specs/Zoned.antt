@@ -3,14 +3,11 @@ use mathlib.Core.List.{List, [], _∷_, _++_}
 use mathlib.Core.Bool.{Bool, true, false, _&&_, _||_, cond}
 use Prim.Native.Nat.{ℕ, _+_, _-_, _/_}
 use lib.Dec.{ltb, leb, eqb}
-use lib.ListN.{length}
 use Rattle.value.specs.declared.Number.{Number}
 use Rattle.value.specs.declared.Number.the-variants.{Bad}
-use Rattle.value.specs.Digits.{digitAt}
+use Rattle.value.specs.Digits.{digitAt, digitText, roomFor}
 use Rattle.value.specs.Number.{numberOf}
 use Rattle.value.specs.Field.{fieldOf}
-use Rattle.value.specs.Digits.{digitText}
-use Rattle.display.specs.Display.{roomFor}
 
 -- a digit's byte, 0x30 to 0x39; any other is no digit, 10 or more
 abbrev pub digitOf : ℕ → ℕ
@@ -33,17 +30,16 @@ lastDigit b =
 abbrev pub minus : ℕ → Bool
 minus b = (leb 0x4A b && ltb b 0x53) || eqb b 0x7D
 
--- what a lawful field answers
-abbrev pub narrow : ℕ → ℕ → Number
-narrow b size = numberOf (minus b) size
-
 -- a last byte that has a digit has a sign
 abbrev pub anySign : ℕ → Bool
 anySign b = true
 
--- "Bytes lawful (.. packed and zoned from 1)"
+-- a digit to a byte, the sign over the last one; answer: what a lawful field answers, from its sign and its size
+abbrev pub zonedBy : {X : Type 0} → (Bool → ℕ → X) → X → List ℕ → X
+zonedBy answer bad part = fieldOf zone lastDigit anySign (λ b size. answer (minus b) size) bad part
+
 unfoldable pub decodeOf : List ℕ → Number
-decodeOf part = cond (ltb 0 (length part)) (fieldOf zone lastDigit anySign narrow Bad part) Bad
+decodeOf part = zonedBy numberOf Bad part
 
 -- ---- writing
 

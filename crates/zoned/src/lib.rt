@@ -6,8 +6,9 @@ ghost use mathlib.Core.Bool.{Bool, cond};
 ghost use mathlib.Core.List.{List, [], _∷_, _++_, map};
 ghost use Prim.Native.Nat.{ℕ, _+_, _<_, _≤_};
 ghost use lib.ListN.{length};
+ghost use Rattle.value.specs.Number.{numberIn};
 ghost use Rattle.ebcdic.specs.Ebcdic.{fromPage, ontoPage};
-ghost use Rattle.zoned.specs.Zoned.{decodeOf, digitOf, lastDigit, minus, overpunch, encodedOf, fitsOf};
+ghost use Rattle.zoned.specs.Zoned.{zonedBy, decodeOf, digitOf, lastDigit, minus, overpunch, encodedOf, fitsOf};
 
 // The digit of a byte, or 10 or more.
 fn digit(b: u8) -> u8
@@ -56,9 +57,9 @@ fn is_minus(b: u8) -> bool
     b == 0x7D
 }
 
-// The number of a zoned field.
-pub fn decode(part: &[u8], page: u32) -> Number
-    ensures { λ r. ⌜ r ≡ decodeOf (map (fromPage page) (now (part .entry))) ⌝ }
+// The number of a zoned field, whose size is to be below a bound.
+pub fn decode_within(part: &[u8], page: u32, bound: u64) -> Number
+    ensures { λ r. ⌜ r ≡ zonedBy (numberIn bound) Number.Bad (map (fromPage page) (now (part .entry))) ⌝ }
 {
     let n = part.len();
     if n == 0 {
@@ -73,7 +74,7 @@ pub fn decode(part: &[u8], page: u32) -> Number
         if d >= 10 {
             return Number::Bad;
         }
-        size = value::push_digit(size, d);
+        size = value::push_digit(size, d, bound);
         i += 1;
     }
     let z = part[last];
@@ -82,8 +83,15 @@ pub fn decode(part: &[u8], page: u32) -> Number
     if d >= 10 {
         return Number::Bad;
     }
-    let total = value::push_digit(size, d);
-    value::number_of(is_minus(b), total)
+    let total = value::push_digit(size, d, bound);
+    value::number_in(bound, is_minus(b), total)
+}
+
+// The number of a zoned field.
+pub fn decode(part: &[u8], page: u32) -> Number
+    ensures { λ r. ⌜ r ≡ decodeOf (map (fromPage page) (now (part .entry))) ⌝ }
+{
+    decode_within(part, page, value::LIMIT)
 }
 
 // A digit with a sign over it.
@@ -117,7 +125,7 @@ fn last_byte(d: u8, negative: bool, signed: bool) -> u8
 pub fn fits(width: usize, size: u64) -> bool
     ensures { λ r. ⌜ r ≡ fitsOf width size ⌝ }
 {
-    display::has_room(width, size)
+    value::has_room(width, size)
 }
 
 // Writes a number into a zoned field, and answers whether it fits; a field that it does not fit stays as it was.
@@ -128,7 +136,7 @@ pub fn encode(part: &mut [u8], page: u32, negative: bool, size: u64, signed: boo
     let w = part.len();
     if fits(w, size) {
         let last = w - 1;
-        display::zero_pad(&mut part[0..last], page, value::drop_digit(size));
+        numerals::zero_pad(&mut part[0..last], page, value::drop_digit(size));
         let b = last_byte(value::last_digit(size), negative, signed);
         part[last] = ebcdic::onto_page(page, b);
         return true;

@@ -1,10 +1,9 @@
 use mathlib.Core.Path.{_≡_, refl, sym, ap, _∙_}
 use mathlib.Core.List.{map}
-use Prim.Native.Nat.{_+_, _-_, _≤_}
+use Prim.Native.Nat.{_-_, _≤_}
 use native.Mathlib.Omega.{arith}
 use lib.ListN.{length, take, drop}
 use borrow.Author.Needs.{needs}
-use Prim.Native.Nat.{_^_}
 use Rattle.ebcdic.specs.Ebcdic.{fromPage}
 use Rattle.display.proofs.Reading.{wholeFrom, digits-none, digits-some, whole-bad, whole-go, whole-end}
 use Rattle.display.proofs.digits_in.Statement.{statement}
@@ -37,8 +36,8 @@ is-digit-requires c κs = search needs
 digit-in-requires : tie.Need-digit-in-requires Inv-loop μ-loop
 digit-in-requires c κs = search needs
 
-push-whole-requires : tie.Need-push-whole-requires Inv-loop μ-loop
-push-whole-requires c κs = search needs
+push-digit-requires : tie.Need-push-digit-requires Inv-loop μ-loop
+push-digit-requires c κs = search needs
 
 add-i : tie.Need-add-i Inv-loop μ-loop
 add-i c = search needs
@@ -50,7 +49,7 @@ loop-again : tie.Need-loop-again Inv-loop μ-loop
 loop-again c =
     let a = c .before .before .before .before .before .before .before .before .before .before .args in
     let x = c .before .before .before .before .from-page .ensures in
-    (omega arith, c .before .before .before .before .before .before .before .loop .inv .1 ∙ whole-go (fromPage (a .page)) (a .part .now) (a .bound) (a .negative) (2 ^ 63 + 1) (c .before .before .before .before .before .before .before .loop .i) (c .before .before .before .before .before .before .before .loop .size) (c .push-whole .result) (c .before .before .before .before .before .before .before .before .before .before .pre) (c .before .before .before .before .before .before .loop-test .taken) (ap isDigit (sym x) ∙ sym (c .before .before .before .is-digit .ensures) ∙ c .before .before .if2 .taken) (rw (c .before .digit-in .ensures, x) at (c .push-whole .ensures)))
+    (omega arith, c .before .before .before .before .before .before .before .loop .inv .1 ∙ whole-go (fromPage (a .page)) (a .part .now) (a .bound) (a .negative) (c .before .before .before .before .before .before .before .loop .i) (c .before .before .before .before .before .before .before .loop .size) (c .push-digit .result) (c .before .before .before .before .before .before .loop-test .taken) (ap isDigit (sym x) ∙ sym (c .before .before .before .is-digit .ensures) ∙ c .before .before .if2 .taken) (rw (c .before .digit-in .ensures, x) at (c .push-digit .ensures)))
 
 returns-2 : tie.Need-returns-2 Inv-loop μ-loop
 returns-2 c =
@@ -78,7 +77,7 @@ digits-in-spec =
     from-page-requires
     is-digit-requires
     digit-in-requires
-    push-whole-requires
+    push-digit-requires
     add-i
     loop-less
     loop-again

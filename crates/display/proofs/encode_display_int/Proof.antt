@@ -4,7 +4,8 @@ use native.Mathlib.Omega.{arith}
 use lib.ListN.{length, take, drop}
 use Rattle.ebcdic.specs.Ebcdic.{ontoPage}
 use native.Mathlib.Nat.{sub-zero}
-use Rattle.display.proofs.Writing.{text-length, lead-separate, trail-separate, separate-width, encode-not, encode-first, encode-last, encode-plain, last-left, last-piece, last-all}
+use Rattle.display.proofs.Writing.{lead-separate, trail-separate, separate-width, encode-not, encode-first, encode-last, encode-plain}
+use Rattle.numerals.proofs.Writing.{text-length, last-left, last-piece, last-all}
 use borrow.Author.Needs.{needs}
 use Rattle.display.proofs.encode_display_int.Statement.{statement}
 use Rattle.display.proofs.encode_display_int.Tie as tie

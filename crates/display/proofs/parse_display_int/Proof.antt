@@ -2,7 +2,7 @@ use mathlib.Core.Path.{sym, ap, _∙_}
 use Prim.Native.Nat.{_-_}
 use lib.ListN.{take}
 use Rattle.ebcdic.specs.Ebcdic.{fromPage}
-use Rattle.display.specs.Display.{isSign}
+use Rattle.numerals.specs.Numerals.{isSign}
 use Rattle.display.proofs.Signs.{int-empty, int-taken, int-plain}
 use borrow.Author.Needs.{needs}
 use Rattle.display.proofs.parse_display_int.Statement.{statement}

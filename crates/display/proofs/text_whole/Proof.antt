@@ -1,6 +1,7 @@
 use mathlib.Core.Path.{ap, _∙_}
 use Prim.Native.Nat.{_-_}
-use Rattle.display.specs.Display.{orRefused, wholeOf, trimmed}
+use Rattle.display.specs.Display.{orRefused, wholeOf}
+use Rattle.numerals.specs.Numerals.{trimmed}
 use Rattle.display.proofs.Signs.{same-page}
 use borrow.Author.Needs.{needs}
 use Rattle.display.proofs.text_whole.Statement.{statement}

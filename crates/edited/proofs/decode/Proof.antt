@@ -1,8 +1,11 @@
-use mathlib.Core.Path.{ap, _∙_}
+-- The digits are kept first, and the sign is given to what they spell.
+use mathlib.Core.Path.{_≡_, ap, _∙_}
 use mathlib.Core.Bool.{false}
-use Prim.Native.Nat.{_-_}
-use lib.ListN.{take}
-use Rattle.display.specs.Display.{withSign}
+use mathlib.Core.List.{map}
+use Rattle.value.specs.Number.{withSign}
+use Rattle.ebcdic.specs.Ebcdic.{fromPage}
+use Rattle.numerals.specs.Numerals.{trimmed}
+use Rattle.numerals.proofs.Reading.{kept-signed}
 use Rattle.edited.specs.Edited.{decodedOf, negativeOf}
 use borrow.Author.Needs.{needs}
 use Rattle.edited.proofs.decode.Statement.{statement}
@@ -23,15 +26,20 @@ with-sign-requires c κs = search needs
 returns : tie.Need-returns
 unfolding decodedOf
 returns c =
-    rw (c .before .before .before .if1 .taken)
-    (c .with-sign .ensures ∙ (λ i. withSign ((c .before .is-negative .ensures ∙ ap negativeOf (c .before .before .trim .ensures)) i) (c .before .before .before .before .kept-digits .ensures i)))
+    let kept = c .before .before .before .before in
+    let a = kept .before .before .args in
+    let ascii = map (fromPage (a .page)) (a .part .now) in
+    let minus : c .before .is-negative .result ≡ negativeOf (trimmed ascii) = c .before .is-negative .ensures ∙ ap negativeOf (c .before .before .trim .ensures) in
+    rw (c .before .before .before .if1 .taken) (c .with-sign .ensures ∙ (λ i. withSign (minus i) (kept .kept-digits .ensures i)) ∙ kept-signed (negativeOf (trimmed ascii)) ascii)
 
 with-sign-requires-2 : tie.Need-with-sign-requires-2
 with-sign-requires-2 c κs = search needs
 
 returns-2 : tie.Need-returns-2
 unfolding decodedOf
-returns-2 c = rw (c .before .if1 .left) (c .with-sign2 .ensures ∙ ap (withSign false) (c .before .before .kept-digits .ensures))
+returns-2 c =
+    let a = c .before .before .before .before .args in
+    rw (c .before .if1 .left) (c .with-sign2 .ensures ∙ ap (withSign false) (c .before .before .kept-digits .ensures) ∙ kept-signed false (map (fromPage (a .page)) (a .part .now)))
 
 pub decode-spec : {M : Type 1} → statement M
 decode-spec =

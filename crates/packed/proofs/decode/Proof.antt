@@ -66,8 +66,10 @@ number-of-requires c κs = search needs
 
 returns-6 : tie.Need-returns-6 Inv-loop μ-loop
 returns-6 c =
-    let e : c .before .before .before .before .before .before .before .loop .i ≡ length (c .before .before .before .before .before .before .before .before .before .before .args .part .now) - 1 = omega arith in
-    c .number-of .ensures ∙ rw (c .before .is-negative .ensures) (read-all _ _ _ (rw e at (c .before .before .before .before .before .before .before .loop .inv .1)) (c .before .before .before .before .if4 .left) (c .before .before .before .if5 .left) (c .before .before .push-digit .ensures))
+    let here = c .before .before .before .before .before .before .before in
+    let e : here .loop .i ≡ length (here .before .before .before .args .part .now) - 1 = omega arith in
+    c .number-of .ensures
+    ∙ rw (c .before .is-negative .ensures) (read-all _ _ _ (omega arith) (rw e at (here .loop .inv .1)) (c .before .before .before .before .if4 .left) (c .before .before .before .if5 .left) (c .before .before .push-digit .ensures))
 
 pub decode-spec : {M : Type 1} → statement M
 decode-spec =

@@ -1,13 +1,8 @@
 use borrow.Author.Needs.{needs}
 use Rattle.packed.proofs.encode.Statement.{statement}
 use Rattle.packed.proofs.encode.Tie as tie
-use Rattle.packed.proofs.encode.Reads as reads
-use Rattle.packed.proofs.encode.Lts as lts
-use Rattle.packed.proofs.fits.Reads as fits-reads
-use Rattle.packed.proofs.sign_of.Reads as sign-of-reads
-use Rattle.packed.proofs.write.Reads as write-reads
 use mathlib.Core.Path.{sym, _∙_}
-use Rattle.packed.proofs.Writing.{fits-pos, written-fits, written-not}
+use Rattle.packed.proofs.Writing.{fits-some, written-fits, written-not}
 
 -- src/lib.rt:106:8
 fits-requires : tie.Need-fits-requires
@@ -19,7 +14,7 @@ sign-of-requires c κs = search needs
 
 -- src/lib.rt:108:9
 write-requires : tie.Need-write-requires
-write-requires c κs = (fits-pos _ (c .before .before .before .before .before .args .size) (sym (c .before .before .before .fits2 .ensures) ∙ c .before .before .if1 .taken), c .before .sign-of .ensures .1)
+write-requires c κs = (fits-some _ (c .before .before .before .before .before .args .size) (sym (c .before .before .before .fits2 .ensures) ∙ c .before .before .if1 .taken), c .before .sign-of .ensures .1)
 
 -- src/lib.rt:109:9
 same-length : tie.Need-same-length

@@ -1,29 +1,28 @@
+-- A field of no bytes has no place and one of eleven has room for any word; between them the room is that of 2 w - 1 places.
 use mathlib.Core.Path.{sym}
-use Prim.Native.Nat.{_-_}
 use native.Mathlib.Omega.{arith}
-use lib.ListN.{take}
-use Rattle.packed.proofs.Writing.{fits-none, fits-ample, fits-is}
+use Rattle.packed.proofs.Writing.{fits-ample}
 use borrow.Author.Needs.{needs}
 use Rattle.packed.proofs.fits.Statement.{statement}
 use Rattle.packed.proofs.fits.Tie as tie
 
 returns : tie.Need-returns
-returns c = sym (fits-none (c .before .args .width) (c .before .args .size) (c .if1 .taken))
+returns c = rw (c .if1 .taken)
 
 returns-2 : tie.Need-returns-2
 returns-2 c = sym (fits-ample (c .before .before .args .width) (c .before .before .args .size) (c .if2 .taken) (omega arith))
 
-mul-ten-to : tie.Need-mul-ten-to
-mul-ten-to c = search needs
+mul-has-room : tie.Need-mul-has-room
+mul-has-room c = search needs
 
-sub-ten-to : tie.Need-sub-ten-to
-sub-ten-to c = search needs
+sub-has-room : tie.Need-sub-has-room
+sub-has-room c = search needs
 
-ten-to-requires : tie.Need-ten-to-requires
-ten-to-requires c κs = search needs
+has-room-requires : tie.Need-has-room-requires
+has-room-requires c κs = search needs
 
 returns-3 : tie.Need-returns-3
-returns-3 c = fits-is (c .before .before .before .args .width) (c .before .before .before .args .size) (c .ten-to .result) (omega arith) (c .before .if2 .left) (c .ten-to .ensures)
+returns-3 c = c .has-room .ensures
 
 pub fits-spec : {M : Type 1} → statement M
-fits-spec = tie.close (tie.spec returns returns-2 mul-ten-to sub-ten-to ten-to-requires returns-3)
+fits-spec = tie.close (tie.spec returns returns-2 mul-has-room sub-has-room has-room-requires returns-3)

@@ -4,7 +4,7 @@ use native.Mathlib.Omega.{arith}
 use lib.ListN.{length, set, length-set}
 use borrow.Rule.Slice.PartMut.{same-len-mid}
 use Rattle.value.specs.Digits.{digitText}
-use Rattle.text.proofs.Count.{length-text}
+use Rattle.value.proofs.Digits.{length-digitText}
 use Rattle.text.proofs.Places.{digits-placed, byte-placed}
 use borrow.Author.Needs.{needs}
 use Rattle.text.proofs.put_fraction.Statement.{statement}
@@ -39,7 +39,7 @@ same-length c =
 returns : tie.Need-returns
 returns c =
     let a = c .before .before .before .before .before .args in (
-      rw (length-text (a .scale) (a .size)) (omega arith),
+      rw (length-digitText (a .scale) (a .size)) (omega arith),
       digits-placed (a .at + 1) (a .scale) (a .size) (set (a .out .now) (a .at) 46) (c .before .before .spell .last .0) (rw length-set (c .before .before .before .before .before .pre)) (c .before .before .spell .ensures)
           ∙ byte-placed (a .at) 46 (digitText (a .scale) (a .size)) (a .out .now) (omega arith),
     )

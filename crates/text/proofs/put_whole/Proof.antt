@@ -4,7 +4,8 @@ use native.Mathlib.Omega.{arith}
 use lib.ListN.{length}
 use Rattle.value.specs.Digits.{digitText}
 use Rattle.text.specs.Shown.{digitCount, placed}
-use Rattle.text.proofs.Count.{count-word, length-text}
+use Rattle.value.proofs.Digits.{length-digitText}
+use Rattle.text.proofs.Count.{count-word}
 use Rattle.text.proofs.Places.{digits-placed}
 use borrow.Author.Needs.{needs}
 use Rattle.text.proofs.put_whole.Statement.{statement}
@@ -36,7 +37,7 @@ returns c =
     let a = c .before .before .before .before .before .before .args in
     let n = c .before .before .before .before .digit-count in
     let b : n .result ≤ 20 = count-word (n .result) (a .size) (n .ensures) (omega arith) in (
-      ap (λ (k : ℕ). a .at + k) (n .ensures ∙ sym (length-text (digitCount (a .size)) (a .size))),
+      ap (λ (k : ℕ). a .at + k) (n .ensures ∙ sym (length-digitText (digitCount (a .size)) (a .size))),
       digits-placed (a .at) (n .result) (a .size) (a .out .now) (c .before .before .spell .last .0) (omega arith) (c .before .before .spell .ensures) ∙ ap (λ (k : ℕ). placed (a .at) (digitText k (a .size)) (a .out .now)) (n .ensures),
     )
 

@@ -7,7 +7,7 @@ use Prim.Native.Nat.{_/_}
 use Rattle.text.specs.Text.{front}
 use Rattle.value.specs.Digits.{digitText}
 use Rattle.text.specs.Shown.{minusText, wholeText}
-use Rattle.text.proofs.Count.{length-text}
+use Rattle.value.proofs.Digits.{length-digitText}
 use Rattle.text.proofs.Showing.{length-more, front-more, minus-short, ten-pos, parts-short, decimal-int, decimal-parts}
 use borrow.Author.Needs.{needs}
 use Rattle.text.proofs.show_decimal.Statement.{statement}
@@ -58,7 +58,7 @@ returns-2 c =
     let b : at ≤ 1 = minus-short (a .negative) (a .size) at (c .before .before .before .before .before .before .before .before .before .before .before .put-minus .ensures .0) in
     let k : length w + a .scale ≤ 20 = parts-short (a .size) (a .scale) (c .before .before .before .before .before .before .before .before .ten-to .result) (omega arith) (c .before .before .before .before .before .before .before .before .before .before .before .before .before .before .before .pre .1) (c .before .before .before .before .before .before .before .before .ten-to .ensures) in
     let l : point ≡ length (m ++ w) = length-more m w at point (c .before .before .before .before .before .before .before .before .before .before .before .put-minus .ensures .0) (c .before .before .before .before .before .before .put-whole .ensures .0) in
-    let g : length f ≡ a .scale = length-text (a .scale) (a .size) in
+    let g : length f ≡ a .scale = length-digitText (a .scale) (a .size) in
     let e = decimal-parts (a .negative) (a .size) (a .scale) (c .before .before .before .before .before .before .before .before .ten-to .result) (c .before .before .before .before .before .before .before .before .before .before .before .before .before .if1 .left) (c .before .before .before .before .before .before .before .before .before .before .before .before .before .before .before .pre .1) (c .before .before .before .before .before .before .before .before .ten-to .ensures) in (
       (length-more (m ++ w) (46 ∷ f) point (c .before .before .put-fraction .result) l (c .before .before .put-fraction .ensures .0) ∙ ap length e, omega (arith, c .before .before .before .before .before .before .put-whole .ensures .0, c .before .before .put-fraction .ensures .0)),
       front-more (m ++ w) (46 ∷ f) (a .out .now) (c .before .before .before .before .before .before .put-whole .last .0) (c .before .before .put-fraction .last .0) point l

@@ -1,10 +1,12 @@
+-- A number that fits has a byte: those before the last one are lent to the digits above the units, and the last one is stored.
 use mathlib.Core.Path.{_≡_, refl, sym, _∙_}
 use mathlib.Core.Bool.{true, false}
 use Prim.Native.Nat.{zero, _-_}
 use native.Mathlib.Omega.{arith}
 use lib.ListN.{length, take, drop}
 use Rattle.zoned.specs.Zoned.{fitsOf}
-use Rattle.zoned.proofs.Writing.{fits-some, written}
+use Rattle.value.proofs.Room.{room-some}
+use Rattle.zoned.proofs.Writing.{written}
 use borrow.Author.Needs.{needs}
 use Rattle.zoned.proofs.encode.Statement.{statement}
 use Rattle.zoned.proofs.encode.Tie as tie
@@ -13,7 +15,7 @@ fits-requires : tie.Need-fits-requires
 fits-requires c κs = search needs
 
 sub-last : tie.Need-sub-last
-sub-last c = fits-some (length (c .before .before .before .args .part .now)) (c .before .before .before .args .size) (sym (c .before .fits2 .ensures) ∙ c .if1 .taken)
+sub-last c = room-some (length (c .before .before .before .args .part .now)) (c .before .before .before .args .size) (sym (c .before .fits2 .ensures) ∙ c .if1 .taken)
 
 sub-zero-pad : tie.Need-sub-zero-pad
 sub-zero-pad c = search needs
@@ -41,7 +43,9 @@ onto-page-requires c κs = search needs
 
 slice-write-part : tie.Need-slice-write-part
 slice-write-part c =
-    let h = fits-some (length (c .before .before .before .before .before .before .before .before .before .before .before .args .part .now)) (c .before .before .before .before .before .before .before .before .before .before .before .args .size) (sym (c .before .before .before .before .before .before .before .before .before .fits2 .ensures) ∙ c .before .before .before .before .before .before .before .before .if1 .taken) in
+    let asked = c .before .before .before .before .before .before .before .before in
+    let a = asked .before .before .before .args in
+    let h = room-some (length (a .part .now)) (a .size) (sym (asked .before .fits2 .ensures) ∙ asked .if1 .taken) in
     omega arith
 
 same-length : tie.Need-same-length
@@ -49,9 +53,16 @@ same-length c = search needs
 
 returns : tie.Need-returns
 returns c =
-    let t : fitsOf (length (c .before .before .before .before .before .before .before .before .before .before .before .args .part .now)) (c .before .before .before .before .before .before .before .before .before .before .before .args .size) ≡ true = sym (c .before .before .before .before .before .before .before .before .before .fits2 .ensures) ∙ c .before .before .before .before .before .before .before .before .if1 .taken in
-    let h = fits-some (length (c .before .before .before .before .before .before .before .before .before .before .before .args .part .now)) (c .before .before .before .before .before .before .before .before .before .before .before .args .size) t in
-    rw t (refl, written (c .before .before .before .before .before .before .before .before .before .before .before .args .page) (c .before .before .before .before .before .before .before .before .before .before .before .args .part .now) (c .before .before .before .before .before .zero-pad .last .0) (c .before .before .before .before .before .before .before .before .before .before .before .args .size) (c .before .before .last-digit .result) (c .before .before .before .before .before .before .before .before .before .before .before .args .negative) (c .before .before .before .before .before .before .before .before .before .before .before .args .signed) (c .onto-page .result) (c .before .last-byte .result) h (c .before .before .before .before .before .zero-pad .ensures ∙ rw (c .before .before .before .before .before .before .drop-digit .ensures) refl) (c .before .before .last-digit .ensures .0) (c .before .last-byte .ensures) (c .onto-page .ensures))
+    let asked = c .before .before .before .before .before .before .before .before in
+    let padded = c .before .before .before .before .before in
+    let a = asked .before .before .before .args in
+    let t : fitsOf (length (a .part .now)) (a .size) ≡ true = sym (asked .before .fits2 .ensures) ∙ asked .if1 .taken in
+    let h = room-some (length (a .part .now)) (a .size) t in
+    rw t (
+      refl,
+      written (a .page) (a .part .now) (padded .zero-pad .last .0) (a .size) (c .before .before .last-digit .result) (a .negative) (a .signed) (c .onto-page .result) (c .before .last-byte .result) h
+          (padded .zero-pad .ensures ∙ rw (padded .before .drop-digit .ensures) refl) (c .before .before .last-digit .ensures .0) (c .before .last-byte .ensures) (c .onto-page .ensures),
+    )
 
 returns-2 : tie.Need-returns-2
 returns-2 c =

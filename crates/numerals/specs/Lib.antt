@@ -1,0 +1,2 @@
+-- Numbers as text: blanks, digits and signs.
+pub mod Numerals

@@ -1,0 +1,36 @@
+-- What the texts of numbers share, over bytes as ASCII: blanks at the ends, the digits among the bytes, and signs.
+use mathlib.Core.List.{List, map}
+use mathlib.Core.Bool.{Bool, _&&_, _||_, cond}
+use Prim.Native.Nat.{ℕ}
+use lib.Dec.{ltb, leb, eqb}
+use Rattle.value.specs.declared.Number.{Number}
+use Rattle.value.specs.declared.Number.the-variants.{Bad}
+use Rattle.value.specs.Digits.{valueOf, isDigit, digitIn}
+use Rattle.value.specs.Number.{numberOf}
+use Rattle.lists.specs.Scan.{leftBy, rightBy, keepBy, everyBy}
+
+-- "blanks (0x09-0x0D, 0x20)"
+abbrev pub isBlank : ℕ → Bool
+isBlank x = eqb x 32 || (leb 9 x && leb x 13)
+
+-- "blanks .. trimmed"
+abbrev pub trimmed : List ℕ → List ℕ
+trimmed s = rightBy isBlank (leftBy isBlank s)
+
+-- "bytes from 0x80 refused in Int, Display, Edited"
+abbrev pub isAscii : ℕ → Bool
+isAscii x = ltb x 128
+
+-- "digits kept, others skipped": the answer for the size that the digits among the bytes spell; none spell 0
+unfoldable pub keptBy : {X : Type 0} → (ℕ → X) → X → List ℕ → X
+keptBy answer bad s = cond (everyBy isAscii s) (answer (valueOf (map digitIn (keepBy isDigit s)))) bad
+
+abbrev pub keptOf : Bool → List ℕ → Number
+keptOf negative s = keptBy (numberOf negative) Bad s
+
+-- a sign's byte, and the byte of a sign
+abbrev pub isSign : ℕ → Bool
+isSign x = eqb x 45 || eqb x 43
+
+abbrev pub signByte : Bool → ℕ
+signByte negative = cond negative 45 43

@@ -30,7 +30,7 @@ use Rattle.zoned.specs.Zoned as Zoned
 use Rattle.zoned.proofs.Back as ZonedBack
 use Rattle.edited.specs.Edited as Edited
 use Rattle.edited.proofs.Round as EditedRound
-use Rattle.encode_scalar.specs.Encode.{textBytes, decimalFit, decimalWritten, editedWritten, partAfter}
+use Rattle.encode_scalar.specs.Encode.{textBytes, decimalFit, decimalJudged, decimalWritten, editedWritten, partAfter}
 use Rattle.decode_scalar.specs.Decode.{flag}
 
 -- bytes that fill the part
@@ -82,6 +82,17 @@ decimal-length p q s page w negative size f = by (eqb p 0) (eqb p 1) f
     by true b e = int-length page w negative size (hasSign q) q (decimal-fits w s negative size q e)
     by false true e = PackedRound.encoded-length w negative size (flag q) (PackedWriting.fits-some w size e)
     by false false e = length-map (Zoned.encodedOf w negative size (flag q)) (ontoPage page) ∙ ZonedBack.encoded-length w negative size (flag q) (room-some w size e)
+
+-- ---- a Decimal field's number by the item: a List or Struct (the Bool t) is refused
+
+pub item-judged : (t : Bool) (p q s w : ℕ) (n : Number) → decimalJudged p q s w (cond t Bad n) ≡ cond t 13 (decimalJudged p q s w n)
+item-judged true p q s w n = refl
+item-judged false p q s w n = refl
+
+pub item-after : (t : Bool) (p q s page w : ℕ) (n : Number) (part : List ℕ)
+    → partAfter (decimalJudged p q s w (cond t Bad n)) (decimalWritten p q page w (cond t Bad n)) part ≡ partAfter (cond t 13 (decimalJudged p q s w n)) (decimalWritten p q page w n) part
+item-after true p q s page w n part = refl
+item-after false p q s page w n part = refl
 
 -- ---- a Bool's byte
 

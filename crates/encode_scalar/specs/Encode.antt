@@ -111,6 +111,10 @@ decimalWritten p q page w (Of negative size) =
 decimalWritten p q page w Bad = []
 decimalWritten p q page w Big = []
 
+-- the number of an item for a Decimal field; a List or Struct has none
+abbrev pub itemNumber : ℕ → ℕ → ℕ → ℕ → Number
+itemNumber tag a b scale = cond (leb 6 tag) Bad (decimalFor (scalarOf tag a b) scale)
+
 -- ---- Edited
 
 abbrev pub editedWritten : ℕ → List ℕ → Number → List ℕ

@@ -6,15 +6,16 @@ use value::Number;
 use value::Scalar;
 ghost use mathlib.Core.Path.{_≡_};
 ghost use mathlib.Core.List.{[], _∷_};
-ghost use mathlib.Core.Bool.{cond};
+ghost use mathlib.Core.Bool.{cond, false};
 ghost use Prim.Native.Nat.{ℕ, _<_};
 ghost use lib.ListN.{length};
+ghost use lib.Dec.{eqb};
 ghost use Rattle.value.specs.Scalar.{scalarOf};
 ghost use Rattle.text.specs.Text.{padded};
 ghost use Rattle.text.specs.Shown.{textIn, refusalAt};
 ghost use Rattle.edited.specs.Edited.{answerOf};
 ghost use Rattle.encode_scalar.specs.Encode.{textBytes, intJudged, intWritten, binaryJudged, binaryWritten, floatJudged, floatWritten, hexText, hexJudged, hexWritten};
-ghost use Rattle.encode_scalar.specs.Encode.{boolIn, decimalFit, decimalJudged, decimalWritten, editedWritten, numberJudged, numberBytes, judgedOf, bytesOf, partAfter};
+ghost use Rattle.encode_scalar.specs.Encode.{boolIn, decimalFit, decimalJudged, decimalWritten, editedWritten, numberJudged, numberBytes, judgedOf, bytesOf, partAfter, itemNumber};
 ghost use Rattle.decode_scalar.specs.Decode as Decode;
 
 fn fitting(fits: bool) -> u32
@@ -117,7 +118,7 @@ fn judge_number(
         2 => judge_binary(width, display::as_i128(v, text)),
         3 => judge_float(q, width, float::as_f64(v)),
         4 => judge_hex(width, v, text),
-        7 => judge_decimal(p, q, s, width, float::decimal_of(v, r as u64)),
+        7 => judge_decimal(p, q, s, width, float::as_decimal(v, r as u64)),
         8 => judge_edited(width, mask, float::as_decimal(v, r as u64)),
         _ => 0,
     }
@@ -297,6 +298,21 @@ fn write_decimal(part: &mut [u8], page: u32, p: u32, q: u32, s: u32, n: Number) 
     }
 }
 
+// The number of an item for a Decimal field: of a Decimal that has the scale, at once; Bad for a List or Struct.
+fn decimal_item(tag: u64, a: u64, b: u64, scale: u64) -> Number
+    ensures { λ n. ⌜ n ≡ itemNumber tag a b scale ⌝ }
+{
+    if tag == 3 {
+        if b == scale {
+            return value::number_of(value::is_minus(a), value::size_of(a));
+        }
+    }
+    if tag >= 6 {
+        return Number::Bad;
+    }
+    float::as_decimal(value::item_scalar(tag, a, b), scale)
+}
+
 fn write_edited(part: &mut [u8], page: u32, mask: &[u8], n: Number) -> u32
     ensures { λ r. ⌜ r ≡ answerOf (length (now (part .entry))) (now (mask .entry)) n ⌝ }
     ensures { λ _. ⌜ now (part .exit) ≡ partAfter (answerOf (length (now (part .entry))) (now (mask .entry)) n) (editedWritten page (now (mask .entry)) n) (now (part .entry)) ⌝ }
@@ -316,6 +332,7 @@ fn write_number(
     v: Scalar,
     text: &[u8],
 ) -> u32
+    requires { ⌜ eqb kind 7 ≡ false ⌝ }
     ensures { λ n. ⌜ n ≡ numberJudged kind p q r s (now (mask .entry)) (length (now (part .entry))) v (now (text .entry)) ⌝ }
     ensures { λ _. ⌜ now (part .exit) ≡ partAfter (numberJudged kind p q r s (now (mask .entry)) (length (now (part .entry))) v (now (text .entry))) (numberBytes kind p q r (now (mask .entry)) page (length (now (part .entry))) v (now (text .entry))) (now (part .entry)) ⌝ }
 {
@@ -330,7 +347,6 @@ fn write_number(
         2 => write_binary(part, p, display::as_i128(v, text)),
         3 => write_float(part, p, q, float::as_f64(v)),
         4 => write_hex(part, p, v, text),
-        7 => write_decimal(part, page, p, q, s, float::decimal_of(v, r as u64)),
         8 => write_edited(part, page, mask, float::as_decimal(v, r as u64)),
         _ => 0,
     }
@@ -355,6 +371,9 @@ pub fn encode_scalar(
     ensures { λ n. ⌜ n ≡ judgedOf kind p q r s (now (mask .entry)) (length (now (part .entry))) tag (scalarOf tag a b) (now (text .entry)) ⌝ }
     ensures { λ _. ⌜ now (part .exit) ≡ partAfter (judgedOf kind p q r s (now (mask .entry)) (length (now (part .entry))) tag (scalarOf tag a b) (now (text .entry))) (bytesOf kind p q r (now (mask .entry)) page (length (now (part .entry))) (scalarOf tag a b) (now (text .entry))) (now (part .entry)) ⌝ }
 {
+    if kind == 7 {
+        return write_decimal(part, page, p, q, s, decimal_item(tag, a, b, r as u64));
+    }
     let v = value::item_scalar(tag, a, b);
     if kind == 0 {
         return write_text(

@@ -371,18 +371,6 @@ pub fn as_decimal(v: Scalar, scale: u64) -> Number
     }
 }
 
-// The same, with a Decimal that has the scale already answered at once: for Decimal fields, where that is the rule.
-pub fn decimal_of(v: Scalar, scale: u64) -> Number
-    ensures { λ r. ⌜ r ≡ decimalFor v scale ⌝ }
-{
-    if let Scalar::Decimal(negative, size, from) = v {
-        if from == scale {
-            return value::number_of(negative, size);
-        }
-    }
-    as_decimal(v, scale)
-}
-
 // ---- fields
 
 // Whether a Float field of a width may have so many bits.

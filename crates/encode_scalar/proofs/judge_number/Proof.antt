@@ -30,14 +30,14 @@ judge-float-requires c κs = search needs
 judge-hex-requires : tie.Need-judge-hex-requires
 judge-hex-requires c κs = search needs
 
-decimal-of-requires : tie.Need-decimal-of-requires
-decimal-of-requires c κs = search needs
+as-decimal-requires : tie.Need-as-decimal-requires
+as-decimal-requires c κs = search needs
 
 judge-decimal-requires : tie.Need-judge-decimal-requires
 judge-decimal-requires c κs = search needs
 
-as-decimal-requires : tie.Need-as-decimal-requires
-as-decimal-requires c κs = search needs
+as-decimal-requires-2 : tie.Need-as-decimal-requires-2
+as-decimal-requires-2 c κs = search needs
 
 judge-edited-requires : tie.Need-judge-edited-requires
 judge-edited-requires c κs = search needs
@@ -60,11 +60,11 @@ returns-4 c = rw (c .before .match .keys4) (c .judge-hex .ensures)
 
 returns-5 : tie.Need-returns-5
 unfolding numberJudged
-returns-5 c = rw (c .before .before .match .keys5, ← (c .before .decimal-of .ensures)) (c .judge-decimal .ensures)
+returns-5 c = rw (c .before .before .match .keys5, ← (c .before .as-decimal .ensures)) (c .judge-decimal .ensures)
 
 returns-6 : tie.Need-returns-6
 unfolding numberJudged
-returns-6 c = rw (c .before .before .match .keys6, ← (c .before .as-decimal .ensures)) (c .judge-edited .ensures)
+returns-6 c = rw (c .before .before .match .keys6, ← (c .before .as-decimal2 .ensures)) (c .judge-edited .ensures)
 
 returns-7 : tie.Need-returns-7
 unfolding numberJudged
@@ -84,9 +84,9 @@ judge-number-spec =
     as-f64-requires
     judge-float-requires
     judge-hex-requires
-    decimal-of-requires
-    judge-decimal-requires
     as-decimal-requires
+    judge-decimal-requires
+    as-decimal-requires-2
     judge-edited-requires
     returns
     returns-2

@@ -33,12 +33,6 @@ write-float-requires c κs = search needs
 write-hex-requires : tie.Need-write-hex-requires
 write-hex-requires c κs = search needs
 
-decimal-of-requires : tie.Need-decimal-of-requires
-decimal-of-requires c κs = search needs
-
-write-decimal-requires : tie.Need-write-decimal-requires
-write-decimal-requires c κs = search needs
-
 as-decimal-requires : tie.Need-as-decimal-requires
 as-decimal-requires c κs = search needs
 
@@ -78,20 +72,13 @@ same-length-5 c = search needs
 
 returns-5 : tie.Need-returns-5
 unfolding numberJudged numberBytes
-returns-5 c = rw (c .before .before .before .before .before .match .keys5, ← (c .before .before .before .decimal-of .ensures)) (c .before .before .write-decimal .ensures)
-
-same-length-6 : tie.Need-same-length-6
-same-length-6 c = search needs
+returns-5 c = rw (c .before .before .before .before .before .match .keys5, ← (c .before .before .before .as-decimal .ensures)) (c .before .before .write-edited .ensures)
 
 returns-6 : tie.Need-returns-6
 unfolding numberJudged numberBytes
-returns-6 c = rw (c .before .before .before .before .before .match .keys6, ← (c .before .before .before .as-decimal .ensures)) (c .before .before .write-edited .ensures)
-
-returns-7 : tie.Need-returns-7
-unfolding numberJudged numberBytes
-returns-7 c =
+returns-6 c =
     let m = c .match .rest in
-    rw (ne-eqb _ _ (m .0 .0 .0 .0 .0 .1), ne-eqb _ _ (m .0 .0 .0 .0 .1), ne-eqb _ _ (m .0 .0 .0 .1), ne-eqb _ _ (m .0 .0 .1), ne-eqb _ _ (m .0 .1), ne-eqb _ _ (m .1)) (refl, nothing (c .before .before .before .before .args .part .now))
+    rw (ne-eqb _ _ (m .0 .0 .0 .0 .1), ne-eqb _ _ (m .0 .0 .0 .1), ne-eqb _ _ (m .0 .0 .1), ne-eqb _ _ (m .0 .1), c .before .before .before .before .pre, ne-eqb _ _ (m .1)) (refl, nothing (c .before .before .before .before .args .part .now))
 
 pub write-number-spec : {M : Type 1} → statement M
 write-number-spec =
@@ -105,8 +92,6 @@ write-number-spec =
     as-f64-requires
     write-float-requires
     write-hex-requires
-    decimal-of-requires
-    write-decimal-requires
     as-decimal-requires
     write-edited-requires
     same-length
@@ -119,6 +104,4 @@ write-number-spec =
     returns-4
     same-length-5
     returns-5
-    same-length-6
-    returns-6
-    returns-7)
+    returns-6)

@@ -49,12 +49,12 @@ module _ {once : Bool} {F : ℕ → Reader Held} {i₀ t₀ : List ℕ} {c₀ : 
   few-is false z = omega (arith, v .few)
 
   pub listed-met : {o : Outcome Held} {r : Out} {after : List ℕ} → o ≡ cond (bare e) Turned (wrap (e .name) 6 Turned) → Listed e used members taken told₁ r items after → Met o r after text counts
-  listed-met {o} {r} {after} q w = fine (record {
-    is = q ∙ ap (λ x. cond (bare e) x (wrap (e .name) 6 x)) (turns-done v h) ∙ words-is (bare e) p ∙ rw (w .used, w .counted, w .taken, w .told, w .is) refl;
-    within = rw (w .used, w .is) (length-is (bare e) p);
-    told = rw (w .told) (v .fits);
-    few = rw (w .used, w .counted) (few-is (bare e) p);
-  }) (w .fine)
+  listed-met {o} {r} {after} q w = rw (w .answer, w .is) (fine (record {
+    is = q ∙ ap (λ x. cond (bare e) x (wrap (e .name) 6 x)) (turns-done v h) ∙ words-is (bare e) p;
+    within = length-is (bare e) p;
+    told = v .fits;
+    few = few-is (bare e) p;
+  }) refl)
 
 pub head-is : (e : Entry) (once : Bool) (head : ℕ) → once ≡ single e → head ≡ cond (once || eqb (e .kind) 6) 0 4 → head ≡ headOf e
 head-is e once head o p = p ∙ ap (λ b. cond {A = ℕ} (b || eqb (e .kind) 6) 0 4) o

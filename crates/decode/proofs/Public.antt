@@ -87,9 +87,9 @@ module _ (l masks : List ℕ) (page : ℕ) (bytes : List ℕ) (items text work :
               go′ x e = let u : eqb (checkedOf l masks page) 0 ≡ true = eq-eqb (checkedOf l masks page) 0 e in omega (arith, ap (λ b. cond {A = ℕ} b 1 0) (sym u ∙ x))
 
       -- only a layout with depending looks at the counts
-      module _ (run : List ℤ) (zero : deps ≡ true → run ≡ replicate work (pos 0)) where
+      module _ (run before : List ℤ) (started : run ≡ cond deps (replicate work (pos 0)) before) where
         alike : Alike (Rel l masks page text deps) (level (Rel l masks page text deps) 8) (C.seq (kept l page text deps) bytes (entries l) 0 0 items (record { run = run; text = [] })) Walk
-        alike = joined l masks page text deps (lawful .0) d bytes (lawful .1 .1) items run (λ q. rw (zero q) (stands-none l work (lawful .1 .0)))
+        alike = joined l masks page text deps (lawful .0) d bytes (lawful .1 .1) items run (λ q. rw (started, q) (stands-none l work (lawful .1 .0)))
 
         pub walk-refused : (m : ℕ) → C.seq (kept l page text deps) bytes (entries l) 0 0 items (record { run = run; text = [] }) ≡ R.refused m → Whole ≡ refused m
         walk-refused m e = walk-is ∙ alike-refused alike m e

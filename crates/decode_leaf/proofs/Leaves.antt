@@ -16,7 +16,7 @@ use Rattle.decode_leaf.specs.declared.Count.{Count}
 use Rattle.value.specs.declared.Scalar.{Scalar}
 use Rattle.value.specs.Scalar.{tagOf, firstOf, secondOf}
 use Rattle.value.specs.declared.Scalar.the-variants.{Null, Text, Int, Decimal, Float as FloatV, FloatBits, Bool as BoolV}
-use Rattle.decode_leaf.specs.Machine.{bare, headOf, Listed, Counted, movedIn, toldIn}
+use Rattle.decode_leaf.specs.Machine.{out, bare, headOf, Listed, Counted, movedIn, toldIn}
 
 pub put4 : (xs : List ℕ) (a b c d : ℕ) → 4 ≤ length xs → set (set (set (set xs 0 a) 1 b) 2 c) 3 d ≡ a ∷ b ∷ c ∷ d ∷ drop 4 xs
 put4 [] a b c d h = absurd (omega arith)
@@ -76,12 +76,12 @@ module _ (e : Entry) (head : ℕ) (h : head ≡ headOf e) where
       go false q = (q, h ∙ ap (λ x. cond {A = ℕ} x 0 4) q)
 
   module _ (used members taken told : ℕ) (before : List ℕ) where
-    pub listed-pads : head ≡ 0 → Listed e used members taken told (record { refused = 0; used = used; members = members; taken = taken; told = told }) before before
-    listed-pads z = record { is = rw (no-head z) refl; fine = refl; used = refl; counted = rw (no-head z) refl; taken = refl; told = refl }
+    pub listed-pads : head ≡ 0 → Listed e used members taken told (out used members taken told) before before
+    listed-pads z = record { is = rw (no-head z) refl; answer = rw (no-head z) refl }
 
     pub listed-items : (head ≡ 0 → ⊥) → (after : List ℕ) → after ≡ e .name ∷ 6 ∷ members ∷ (used / 4) ∷ drop 4 before
-        → Listed e used members taken told (record { refused = 0; used = used; members = 1; taken = taken; told = told }) before after
-    listed-items n after p = record { is = rw (has-head n .0) p; fine = refl; used = refl; counted = rw (has-head n .0) refl; taken = refl; told = refl }
+        → Listed e used members taken told (out used 1 taken told) before after
+    listed-items n after p = record { is = rw (has-head n .0) p; answer = rw (has-head n .0) refl }
 
 -- ---- counts
 

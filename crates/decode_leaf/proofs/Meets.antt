@@ -1,21 +1,21 @@
 -- How a function comes to its promise, `Met`: by a refusal, by what was read, by an item.
-use mathlib.Core.Path.{_≡_, refl, sym, ap, _∙_, subst⁻¹}
+use mathlib.Core.Path.{_≡_, refl, ap, _∙_, subst⁻¹}
 use mathlib.Core.Bool.{true, false, not, cond}
-use mathlib.Core.List.{List, [], _∷_}
+use mathlib.Core.List.{List, _∷_}
 use Prim.Native.Nat.{ℕ, _-_, _≤_, _<_}
 use native.Mathlib.Omega.{arith}
 use lib.Dec.{leb}
 use lib.IntN.{ℤ}
-use lib.ListN.{length, take, drop, length-drop}
+use lib.ListN.{length, drop, length-drop}
 use borrow.Author.Tests.{le-leb, lt-leb}
 use Rattle.value.specs.declared.Scalar.{Scalar}
 use Rattle.value.specs.Scalar.{tagOf, firstOf, secondOf}
 use Rattle.walks.specs.Reading.{Outcome, refused, placed}
 use Rattle.decode_leaf.specs.declared.Out.{Out}
-use Rattle.decode_leaf.specs.Machine.{Held, out, state, leafIn, Fine, Met, Placed}
+use Rattle.decode_leaf.specs.Machine.{Held, out, refusing, state, leafIn, Fine, Met, Placed}
 
-pub refuse : {o : Outcome Held} {r : Out} {items buffer : List ℕ} {run : List ℤ} (n : ℕ) → r .refused ≡ n → (n ≡ 0 → ⊥) → o ≡ refused n → Met o r items buffer run
-refuse n p f q = record { fine = λ z. absurd (f (sym p ∙ z)); refuses = λ _. q ∙ ap refused (sym p) }
+pub refuse : {o : Outcome Held} {r : Out} {items buffer : List ℕ} {run : List ℤ} (n : ℕ) → r ≡ refusing n → (n ≡ 0 → ⊥) → o ≡ refused n → Met o r items buffer run
+refuse n p f q = rw p (record { fine = λ z. absurd (f z); refuses = λ _. (q, refl) })
 
 pub fine : {o : Outcome Held} {r : Out} {items buffer : List ℕ} {run : List ℤ} → Fine o r items buffer run → r .refused ≡ 0 → Met o r items buffer run
 fine f p = record { fine = λ _. f; refuses = λ n. absurd (n p) }
@@ -29,24 +29,15 @@ module _ (name : ℕ) (width : ℕ) (i : List ℕ) (v : Scalar) where
   abbrev Whole : Held → Outcome Held
   Whole s = placed name true width (length i) (leafIn v s)
 
-  pub place-full : {behind : ℕ} {r : Out} {items : List ℕ} → length i < 4 → r .refused ≡ 16 → Placed Whole [] behind width r items []
-  place-full h n = record { fine = λ z. absurd (omega (arith, n, z)); refuses = λ _ s. rw (lt-leb 4 (length i) h, n) refl }
+  pub place-full : {behind : ℕ} {r : Out} → length i < 4 → r ≡ refusing 16 → Placed Whole behind width i r i
+  place-full h n = rw n (record { fine = λ z. absurd (omega arith); refuses = λ _. ((λ s. rw (lt-leb 4 (length i) h) refl), refl); rest = refl })
 
   pub place-item : {behind : ℕ} {r : Out} {items : List ℕ} (tag a b told : ℕ) → 4 ≤ length i → items ≡ name ∷ tag ∷ a ∷ b ∷ drop 4 i → tag ≡ tagOf v → a ≡ firstOf v → b ≡ secondOf v → told ≡ behind
-      → r ≡ out 4 1 width told → Placed Whole [] behind width r items []
+      → r ≡ out 4 1 width told → Placed Whole behind width i r items
   place-item tag a b told h w p q s t z = rw z (record {
-    fine = λ _. (
-      record {
-        is = λ st. rw (le-leb 4 (length i) h, w, p, q, s) refl;
-        used = refl;
-        members = refl;
-        taken = refl;
-        told = t;
-        within = omega (arith, ap length w, length-drop 4 i);
-      },
-      refl,
-    );
+    fine = λ _. record { is = λ st. rw (le-leb 4 (length i) h, w, p, q, s) refl; answer = ap (out 4 1 width) t; within = omega (arith, ap length w, length-drop 4 i) };
     refuses = λ n. absurd (n refl);
+    rest = ap (drop 4) w;
   })
 
 -- an element of a table has a byte
@@ -54,37 +45,27 @@ module _ (name : ℕ) (width room : ℕ) (v : Scalar) where
   abbrev Element-at : Held → Outcome Held
   Element-at s = placed name false width room (leafIn v s)
 
-  pub place-empty : {behind : ℕ} {r : Out} {items : List ℕ} → width ≡ 0 → r .refused ≡ 10 → Placed Element-at [] behind width r items []
-  place-empty q n = record { fine = λ z. absurd (omega (arith, n, z)); refuses = λ _ s. rw (lt-leb 1 width (omega (arith, q)), n) refl }
+  pub place-empty : {behind : ℕ} {r : Out} (items : List ℕ) → width ≡ 0 → r ≡ refusing 10 → Placed Element-at behind width items r items
+  place-empty items q n = rw n (record { fine = λ z. absurd (omega arith); refuses = λ _. ((λ s. rw (lt-leb 1 width (omega (arith, q))) refl), refl); rest = refl })
 
-  pub place-some : {behind : ℕ} {r : Out} {items : List ℕ} → (width ≡ 0 → ⊥) → Placed (λ s. placed name true width room (leafIn v s)) [] behind width r items [] → Placed Element-at [] behind width r items []
+  pub place-some : {behind : ℕ} {before : List ℕ} {r : Out} {items : List ℕ} → (width ≡ 0 → ⊥)
+      → Placed (λ s. placed name true width room (leafIn v s)) behind width before r items → Placed Element-at behind width before r items
   place-some q p = record {
-    fine = λ z. let f = p .fine z .0 in (record { is = λ s. same s ∙ f .is s; used = f .used; members = f .members; taken = f .taken; told = f .told; within = f .within }, p .fine z .1);
-    refuses = λ n s. same s ∙ p .refuses n s;
+    fine = λ z. let f = p .fine z in record { is = λ s. same s ∙ f .is s; answer = f .answer; within = f .within };
+    refuses = λ n. ((λ s. same s ∙ p .refuses n .0 s), p .refuses n .1);
+    rest = p .rest;
   }
     where
       same : (s : Held) → Element-at s ≡ placed name true width room (leafIn v s)
       same s = rw (le-leb 1 width (omega (arith, q))) refl
 
-pub placed-refused : {O : Held → Outcome Held} {behind width : ℕ} {r : Out} {items : List ℕ} {noted run : List ℤ} → (r .refused ≡ 0 → ⊥) → Placed O [] behind width r items [] → Placed O noted behind width r items run
-placed-refused n p = record { fine = λ z. absurd (n z); refuses = p .refuses }
-
--- an item that sets no count
-pub placed-any : {O : Held → Outcome Held} {behind width : ℕ} {r : Out} {items : List ℕ} {noted run : List ℤ} → run ≡ noted → Placed O [] behind width r items [] → Placed O noted behind width r items run
-placed-any q p = record { fine = λ z. (p .fine z .0, q); refuses = p .refuses }
-
 -- an item in a state that is known
-pub value-met : {o : Outcome Held} {O : Held → Outcome Held} {noted run : List ℤ} {behind width : ℕ} {r : Out} {items : List ℕ} (buffer : List ℕ)
-    → o ≡ O (state noted behind buffer) → behind ≤ length buffer → Placed O noted behind width r items run → Met o r items buffer run
-value-met {noted = noted} {behind = behind} {width = width} {r = r} {items = items} buffer e h p =
+pub value-met : {o : Outcome Held} {O : Held → Outcome Held} {noted run : List ℤ} {behind width : ℕ} {before : List ℕ} {r : Out} {items : List ℕ} (buffer : List ℕ)
+    → o ≡ O (state noted behind buffer) → behind ≤ length buffer → (r .refused ≡ 0 → run ≡ noted) → Placed O behind width before r items → Met o r items buffer run
+value-met {noted = noted} {behind = behind} {width = width} {r = r} {items = items} buffer e h c p =
     record {
       fine = λ z.
-          let f = p .fine z .0 in
-          record {
-            is = e ∙ f .is (state noted behind buffer) ∙ rw (f .used, f .members, f .taken, f .told, p .fine z .1) refl;
-            within = omega (arith, f .used, f .within);
-            told = omega (arith, f .told, h);
-            few = omega (arith, f .used, f .members);
-          };
-      refuses = λ n. e ∙ p .refuses n (state noted behind buffer);
+          let f = p .fine z in
+          rw (f .answer, c z) (record { is = e ∙ f .is (state noted behind buffer); within = f .within; told = h; few = omega arith });
+      refuses = λ n. (e ∙ p .refuses n .0 (state noted behind buffer), p .refuses n .1);
     }

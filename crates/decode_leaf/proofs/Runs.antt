@@ -119,13 +119,13 @@ module _ (l : List ℕ) (deps : Bool) (e : Entry) (once : Bool) (run : List ℤ)
   note-other q (BoolV x) h = rw (sym p ∙ q) refl
 
 module _ (l : List ℕ) (name : ℕ) (run : List ℤ) (j s : ℕ) (a : j ≡ first l name) (b : s ≡ natOf (getD run (j * 2) (pos 0))) where
-  pub held-none : s ≡ 0 → (r : Count) → r .refused ≡ 5 → Counted (heldIn l name run) r
+  pub held-none : s ≡ 0 → Counted (heldIn l name run) (record { refused = 5; n = 0 })
   unfolding heldIn
-  held-none z r n = record { fine = λ f. absurd (omega (arith, n, f)); refuses = λ _. rw (← a, ← b, z, n) refl }
+  held-none z = record { fine = λ f. absurd (omega arith); refuses = λ _. (rw (← a, ← b, z) refl, refl) }
 
-  pub held-minus : s ≡ 2 → (r : Count) → r .refused ≡ 6 → Counted (heldIn l name run) r
+  pub held-minus : s ≡ 2 → Counted (heldIn l name run) (record { refused = 6; n = 0 })
   unfolding heldIn
-  held-minus z r n = record { fine = λ f. absurd (omega (arith, n, f)); refuses = λ _. rw (← a, ← b, z, n) refl }
+  held-minus z = record { fine = λ f. absurd (omega arith); refuses = λ _. (rw (← a, ← b, z) refl, refl) }
 
   pub held-count : (s ≡ 0 → ⊥) → (s ≡ 2 → ⊥) → (n : ℕ) → n ≡ natOf (getD run (j * 2 + 1) (pos 0)) → Counted (heldIn l name run) (record { refused = 0; n = n })
   unfolding heldIn
@@ -142,7 +142,7 @@ module _ (l : List ℕ) (run : List ℤ) (e : Entry) where
   module _ (d : e .depending ≡ 4294967295 → ⊥) (c : Count) (h : Counted (heldIn l (e .depending) run) c) where
     pub many-refused : (c .refused ≡ 0 → ⊥) → Counted Many-of c
     unfolding howMany
-    many-refused n = record { fine = λ z. absurd (n z); refuses = λ _. rw (ne-eqb (e .depending) 4294967295 d, h .refuses n) refl }
+    many-refused n = record { fine = λ z. absurd (n z); refuses = λ _. (rw (ne-eqb (e .depending) 4294967295 d, h .refuses n .0) refl, h .refuses n .1) }
 
     pub many-free : c .refused ≡ 0 → e .occurs ≡ 4294967295 → Counted Many-of c
     unfolding howMany
@@ -152,6 +152,9 @@ module _ (l : List ℕ) (run : List ℤ) (e : Entry) where
     unfolding howMany
     many-within z o k = record { fine = λ _. rw (ne-eqb (e .depending) 4294967295 d, h .fine z, ne-eqb (e .occurs) 4294967295 o, le-leb (c .n) (e .occurs) k) refl; refuses = λ n. absurd (n z) }
 
-    pub many-above : c .refused ≡ 0 → (e .occurs ≡ 4294967295 → ⊥) → e .occurs < c .n → (r : Count) → r .refused ≡ 6 → Counted Many-of r
+    pub many-above : c .refused ≡ 0 → (e .occurs ≡ 4294967295 → ⊥) → e .occurs < c .n → Counted Many-of (record { refused = 6; n = 0 })
     unfolding howMany
-    many-above z o k r n = record { fine = λ f. absurd (omega (arith, n, f)); refuses = λ _. rw (ne-eqb (e .depending) 4294967295 d, h .fine z, ne-eqb (e .occurs) 4294967295 o, lt-leb (c .n) (e .occurs) k, n) refl }
+    many-above z o k = record {
+      fine = λ f. absurd (omega arith);
+      refuses = λ _. (rw (ne-eqb (e .depending) 4294967295 d, h .fine z, ne-eqb (e .occurs) 4294967295 o, lt-leb (c .n) (e .occurs) k) refl, refl);
+    }

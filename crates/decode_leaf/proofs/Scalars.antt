@@ -7,7 +7,7 @@ use native.Mathlib.Omega.{arith}
 use lib.Dec.{eqb, leb}
 use lib.IntN.{ℤ}
 use lib.ListN.{length, take, drop}
-use borrow.Author.Tests.{le-leb, leb-true, eq-eqb, ne-eqb}
+use borrow.Author.Tests.{le-leb, leb-true, eq-eqb, ne-eqb, not-true, not-false}
 use Rattle.layout.specs.declared.Entry.{Entry}
 use Rattle.value.specs.declared.Scalar.{Scalar}
 use Rattle.decode_scalar.specs.declared.Decoded.{Decoded}
@@ -17,7 +17,7 @@ use Rattle.walks.specs.Walk.{isPad}
 use Rattle.walks.specs.Reading.{Outcome, refused, read, placed, scalar, pad}
 use Rattle.decode_leaf.specs.declared.Out.{Out}
 use Rattle.decode_leaf.specs.Counts.{noteIn}
-use Rattle.decode_leaf.specs.Machine.{Held, out, state, leafIn, leafOf, leafAt, dec, kept, movedIn, toldIn, Met, Placed}
+use Rattle.decode_leaf.specs.Machine.{Held, out, refusing, state, leafIn, leafOf, leafAt, dec, kept, movedIn, toldIn, Met, Placed, textIn, textBehind}
 use Rattle.decode_leaf.proofs.Meets.{refuse, fine, same-as, value-met}
 use Rattle.decode_leaf.proofs.Said.{Read, matches, refused-leaf, read-leaf}
 
@@ -43,7 +43,7 @@ module _ (l bytes : List ℕ) (page : ℕ) (deps : Bool) (e : Entry) (name : ℕ
     scalar-is = rw (le-leb (at + e .width) (length bytes) inside) refl
 
     module _ (d : Decoded) (q : d ≡ answerOf Said (length buffer - told)) where
-      pub value-refuses : {r : Out} {items after : List ℕ} {run′ : List ℤ} (n : ℕ) → d ≡ Refused n → r .refused ≡ n → Met Scalar-at r items after run′
+      pub value-refuses : {r : Out} {items after : List ℕ} {run′ : List ℤ} (n : ℕ) → d ≡ Refused n → r ≡ refusing n → Met Scalar-at r items after run′
       value-refuses n p z =
           let f = refused-leaf l page deps e once run told buffer h Said (matches (e .kind) (e .p) (e .q) (e .r) page (take (e .width) (drop at bytes))) n (sym p ∙ q) in
           refuse n z (f .0) (scalar-is ∙ ap (placed name once (e .width) room) (f .1))
@@ -52,41 +52,42 @@ module _ (l bytes : List ℕ) (page : ℕ) (deps : Bool) (e : Entry) (name : ℕ
         pub value-read : Read l page deps e once run told buffer h Said v after
         value-read = read-leaf l page deps e once run told buffer h Said (matches (e .kind) (e .p) (e .q) (e .r) page (take (e .width) (drop at bytes))) v (sym p ∙ q) after a
 
-        pub value-reads : {r : Out} {items : List ℕ} {run′ : List ℤ}
-            → Placed (λ s. placed name once (e .width) room (leafIn (movedIn told v) s)) (noteIn l deps e once v run) (toldIn told v) (e .width) r items run′
+        pub value-reads : {before : List ℕ} {r : Out} {items : List ℕ} {run′ : List ℤ} → (r .refused ≡ 0 → run′ ≡ noteIn l deps e once v run)
+            → Placed (λ s. placed name once (e .width) room (leafIn (movedIn told v) s)) (toldIn told v) (e .width) before r items
             → Met Scalar-at r items after run′
-        value-reads f = value-met after (scalar-is ∙ ap (placed name once (e .width) room) (value-read .is)) (value-read .within) f
+        value-reads c f = value-met after (scalar-is ∙ ap (placed name once (e .width) room) (value-read .is)) (value-read .within) c f
 
   module _ (b : Bool) (p : b ≡ leb (at + e .width) (length bytes)) where
-    no : not b ≡ true → leb (at + e .width) (length bytes) ≡ false
-    no q = go b p q
-      where
-        go : (x : Bool) → x ≡ leb (at + e .width) (length bytes) → not x ≡ true → leb (at + e .width) (length bytes) ≡ false
-        go true s t = sym s ∙ sym t
-        go false s t = sym s
-
-    yes : not b ≡ false → leb (at + e .width) (length bytes) ≡ true
-    yes q = go b p q
-      where
-        go : (x : Bool) → x ≡ leb (at + e .width) (length bytes) → not x ≡ false → leb (at + e .width) (length bytes) ≡ true
-        go true s t = sym s
-        go false s t = sym s ∙ sym t
-
-    pub leaf-outside : not b ≡ true → {r : Out} {items after : List ℕ} {run′ : List ℤ} → r .refused ≡ 7 → Met Leaf-at r items after run′
+    pub leaf-outside : not b ≡ true → {r : Out} {items after : List ℕ} {run′ : List ℤ} → r ≡ refusing 7 → Met Leaf-at r items after run′
     unfolding scalar pad
-    leaf-outside q n = refuse 7 n (λ z. omega arith) (rw (no q) (go (isPad e)))
+    leaf-outside q n = refuse 7 n (λ z. omega arith) (rw (← p, not-true b q) (go (isPad e)))
       where
         go : (x : Bool) → cond {A = Outcome Held} x (refused 7) (refused 7) ≡ refused 7
         go true = refl
         go false = refl
 
     pub leaf-inside : not b ≡ false → at + e .width ≤ length bytes
-    leaf-inside q = leb-true (at + e .width) (length bytes) (yes q)
+    leaf-inside q = leb-true (at + e .width) (length bytes) (sym p ∙ not-false b q)
 
     pub leaf-pad : not b ≡ false → e .kind ≡ 6 → told ≤ length buffer → {r : Out} {items : List ℕ} → r ≡ out 0 0 (e .width) told → Met Leaf-at r items buffer run
     unfolding pad isPad
-    leaf-pad q k h z = rw z (fine (record { is = rw (eq-eqb (e .kind) 6 k, yes q) refl; within = omega arith; told = h; few = omega arith }) refl)
+    leaf-pad q k h z = rw z (fine (record { is = rw (eq-eqb (e .kind) 6 k, ← p, not-false b q) refl; within = omega arith; told = h; few = omega arith }) refl)
 
     pub leaf-scalar : (e .kind ≡ 6 → ⊥) → {r : Out} {items after : List ℕ} {run′ : List ℤ} → Met Scalar-at r items after run′ → Met Leaf-at r items after run′
     unfolding isPad
     leaf-scalar k m = same-as (rw (ne-eqb (e .kind) 6 k) refl) m
+
+-- the text buffer: only a scalar that is inside the record writes there
+module _ (bytes : List ℕ) (page : ℕ) (e : Entry) (at told : ℕ) (buffer : List ℕ) (b : Bool) (p : b ≡ leb (at + e .width) (length bytes)) where
+  pub text-outside : not b ≡ true → buffer ≡ textBehind page bytes e at told buffer
+  unfolding textBehind
+  text-outside q = rw (← p, not-true b q) refl
+
+  module _ (q : not b ≡ false) where
+    pub text-pad : e .kind ≡ 6 → buffer ≡ textBehind page bytes e at told buffer
+    unfolding textBehind isPad
+    text-pad k = rw (← p, not-false b q, eq-eqb (e .kind) 6 k) refl
+
+    pub text-scalar : (e .kind ≡ 6 → ⊥) → {after : List ℕ} → after ≡ textIn page bytes e at told buffer → after ≡ textBehind page bytes e at told buffer
+    unfolding textBehind isPad
+    text-scalar k a = rw (← p, not-false b q, ne-eqb (e .kind) 6 k) a

@@ -1,6 +1,6 @@
 -- What the reader's inner functions promise: the walk with the state as the code holds it, by its own answer.
 use mathlib.Core.Path.{_≡_}
-use mathlib.Core.Bool.{Bool, true, false, _||_, cond}
+use mathlib.Core.Bool.{Bool, true, false, _||_, _&&_, not, cond}
 use mathlib.Core.List.{List, [], _∷_, _++_}
 use Prim.Native.Nat.{ℕ, _+_, _/_, _≤_}
 use lib.Dec.{eqb, leb}
@@ -10,7 +10,7 @@ use Rattle.layout.specs.declared.Entry.{Entry}
 use Rattle.value.specs.declared.Scalar.{Scalar}
 use Rattle.value.specs.declared.Scalar.the-variants.{Null, Text, Int, Decimal, Float as FloatV, FloatBits, Bool as BoolV}
 use Rattle.value.specs.Scalar.{tagOf, firstOf, secondOf}
-use Rattle.decode_scalar.specs.Decode.{Says, refused, value, text, says}
+use Rattle.decode_scalar.specs.Decode.{Says, refused, value, text, says, textAfter}
 use Rattle.walks.specs.Walk.{single, isPad, Many, never, times, unfit, Leaf, bad, leaf, Codec}
 use Rattle.walks.specs.Reading as R
 use Rattle.walks.specs.Reading.{Outcome, Reader, read, scalar, pad}
@@ -86,6 +86,10 @@ toldIn told (BoolV b) = told
 abbrev pub out : ℕ → ℕ → ℕ → ℕ → Out
 out used members taken told = record { refused = 0; used = used; members = members; taken = taken; told = told }
 
+-- an answer that refuses, which has read nothing
+abbrev pub refusing : ℕ → Out
+refusing n = record { refused = n; used = 0; members = 0; taken = 0; told = 0 }
+
 pub record Fine (o : Outcome Held) (r : Out) (items buffer : List ℕ) (run : List ℤ) : Type 0 where
   pub is : o ≡ read (take (r .used) items) (r .members) (r .taken) (state run (r .told) buffer)
   pub within : r .used ≤ length items
@@ -94,11 +98,30 @@ pub record Fine (o : Outcome Held) (r : Out) (items buffer : List ℕ) (run : Li
 
 pub record Met (o : Outcome Held) (r : Out) (items buffer : List ℕ) (run : List ℤ) : Type 0 where
   pub fine : r .refused ≡ 0 → Fine o r items buffer run
-  pub refuses : (r .refused ≡ 0 → ⊥) → o ≡ R.refused (r .refused)
+  pub refuses : (r .refused ≡ 0 → ⊥) → (o ≡ R.refused (r .refused)) × (r ≡ refusing (r .refused))
+
+-- the items behind the words that were read stay as they were: after a refusal all of them
+abbrev pub Rest : Out → List ℕ → List ℕ → Type 0
+Rest r before items = drop (r .used) items ≡ drop (r .used) before
+
+-- the text buffer behind a scalar that is inside the record: its text stays where it was put, though its item finds no place
+abbrev pub textIn : ℕ → List ℕ → Entry → ℕ → ℕ → List ℕ → List ℕ
+textIn page r e at told buffer = take told buffer ++ textAfter (says (e .kind) (e .p) (e .q) (e .r) page (take (e .width) (drop at r))) (drop told buffer)
+
+-- the text buffer behind a scalar or Pad
+unfoldable pub textBehind : ℕ → List ℕ → Entry → ℕ → ℕ → List ℕ → List ℕ
+textBehind page r e at told buffer = cond (leb (at + e .width) (length r) && not (isPad e)) (textIn page r e at told buffer) buffer
+
+-- one scalar or Pad that is no element of a table, with every item and count
+pub record Lone (o : Outcome Held) (before : List ℕ) (held : List ℤ) (r : Out) (items buffer : List ℕ) (run : List ℤ) : Type 0 where
+  pub met : Met o r items buffer run
+  pub rest : Rest r before items
+  pub counts : (r .refused ≡ 0 → ⊥) → run ≡ held
 
 -- an element of a table, whatever the layout and the counts are, which it leaves alone
-pub record Element (o : List ℕ → Bool → Held → Outcome Held) (told : ℕ) (before : List ℕ) (r : Out) (items buffer : List ℕ) : Type 0 where
-  pub met : (l : List ℕ) (deps : Bool) (run : List ℤ) → Met (o l deps (state run told before)) r items buffer run
+pub record Element (o : List ℕ → Bool → Held → Outcome Held) (told : ℕ) (text before : List ℕ) (r : Out) (items buffer : List ℕ) : Type 0 where
+  pub met : (l : List ℕ) (deps : Bool) (run : List ℤ) → Met (o l deps (state run told text)) r items buffer run
+  pub rest : Rest r before items
 
 -- a table of such elements, whether or not some table of the layout depends on a count
 pub record Elements (o : Bool → Outcome Held) (r : Out) (items buffer : List ℕ) (run : List ℤ) : Type 0 where
@@ -107,15 +130,13 @@ pub record Elements (o : Bool → Outcome Held) (r : Out) (items buffer : List �
 -- an item of four words, whatever the state behind it
 pub record Item (o : Held → Outcome Held) (behind width : ℕ) (r : Out) (items : List ℕ) : Type 0 where
   pub is : (s : Held) → o s ≡ read (take 4 items) 1 width s
-  pub used : r .used ≡ 4
-  pub members : r .members ≡ 1
-  pub taken : r .taken ≡ width
-  pub told : r .told ≡ behind
+  pub answer : r ≡ out 4 1 width behind
   pub within : 4 ≤ length items
 
-pub record Placed (o : Held → Outcome Held) (noted : List ℤ) (behind width : ℕ) (r : Out) (items : List ℕ) (run : List ℤ) : Type 0 where
-  pub fine : r .refused ≡ 0 → Item o behind width r items × (run ≡ noted)
-  pub refuses : (r .refused ≡ 0 → ⊥) → (s : Held) → o s ≡ R.refused (r .refused)
+pub record Placed (o : Held → Outcome Held) (behind width : ℕ) (before : List ℕ) (r : Out) (items : List ℕ) : Type 0 where
+  pub fine : r .refused ≡ 0 → Item o behind width r items
+  pub refuses : (r .refused ≡ 0 → ⊥) → ((s : Held) → o s ≡ R.refused (r .refused)) × (r ≡ refusing (r .refused))
+  pub rest : Rest r before items
 
 -- a table's own item around the elements behind it
 abbrev pub headed : Entry → ℕ → ℕ → List ℕ → List ℕ
@@ -123,12 +144,8 @@ headed e used members items = cond (bare e) items (e .name ∷ 6 ∷ members ∷
 
 pub record Listed (e : Entry) (end members width behind : ℕ) (r : Out) (before items : List ℕ) : Type 0 where
   pub is : items ≡ headed e end members before
-  pub fine : r .refused ≡ 0
-  pub used : r .used ≡ end
-  pub counted : r .members ≡ cond (bare e) members 1
-  pub taken : r .taken ≡ width
-  pub told : r .told ≡ behind
+  pub answer : r ≡ out end (cond (bare e) members 1) width behind
 
 pub record Counted (m : Many) (r : Count) : Type 0 where
   pub fine : r .refused ≡ 0 → m ≡ times (r .n)
-  pub refuses : (r .refused ≡ 0 → ⊥) → m ≡ never (r .refused)
+  pub refuses : (r .refused ≡ 0 → ⊥) → (m ≡ never (r .refused)) × (r .n ≡ 0)

@@ -14,7 +14,7 @@ ghost use Rattle.walks.specs.Reading.{placed, scalar};
 ghost use Rattle.decode_scalar.specs.Decode.{says, answerOf, textAfter};
 ghost use Rattle.decode_leaf.specs.Counts.{natOf, first, statusOf, heldIn, noteIn, setIn};
 ghost use Rattle.decode_leaf.specs.Capped.{sat};
-ghost use Rattle.decode_leaf.specs.Machine.{out, kept, state, leafIn, leafAt, Met, Element, Placed, Listed, Counted, headOf, movedIn, toldIn};
+ghost use Rattle.decode_leaf.specs.Machine.{out, refusing, kept, state, leafIn, leafAt, Lone, Element, textIn, textBehind, Placed, Listed, Counted, headOf, movedIn, toldIn};
 
 // What a part of the walk came to: the number that refuses it, or 0 with the item words written, how many items these are at
 // their own level, the bytes taken, and the text bytes so far.
@@ -33,7 +33,7 @@ pub struct Count {
 }
 
 pub fn refusal(n: u32) -> Out
-    ensures { λ r. ⌜ r .refused ≡ n ⌝ }
+    ensures { λ r. ⌜ r ≡ refusing n ⌝ }
 {
     Out {
         refused: n,
@@ -74,7 +74,7 @@ pub fn larger(a: u64, b: u64) -> u64
 }
 
 // Whether a field of this width at this position is inside a record of so many bytes.
-pub fn inside_record(bytes: usize, at: u64, width: u32) -> bool
+fn inside_record(bytes: usize, at: u64, width: u32) -> bool
     ensures { λ r. ⌜ r ≡ leb (at + width) bytes ⌝ }
 {
     let n = bytes as u64;
@@ -101,7 +101,7 @@ fn signed(x: u64) -> i64
 }
 
 // The place of the first entry of a name, and the number of entries where there is none.
-pub fn first_of(layout: &[u32], name: u32) -> usize
+fn first_of(layout: &[u32], name: u32) -> usize
     ensures { λ r. ⌜ (r ≡ first (now (layout .entry)) name) × (r ≤ length (now (layout .entry)) / 12) ⌝ }
 {
     let n = layout.len() / 12;
@@ -344,7 +344,7 @@ fn one_item(width: u32, told: usize) -> Out
 // The item of a scalar at the front; a text starts behind the texts so far.
 fn place(items: &mut [u64], name: u64, width: u32, told: usize, v: Scalar) -> Out
     requires { ⌜ toldIn told v < 9223372036854775808 ⌝ }
-    ensures { λ r. ⌜ Placed (λ st. placed name true width (length (now (items .entry))) (leafIn (movedIn told v) st)) [] (toldIn told v) width r (now (items .exit)) [] ⌝ }
+    ensures { λ r. ⌜ Placed (λ st. placed name true width (length (now (items .entry))) (leafIn (movedIn told v) st)) (toldIn told v) width (now (items .entry)) r (now (items .exit)) ⌝ }
 {
     if items.len() < 4 {
         return refusal(16);
@@ -369,7 +369,9 @@ fn place_lone(
     v: Scalar,
 ) -> Out
     requires { ⌜ toldIn told v < 9223372036854775808 ⌝ }
-    ensures { λ r. ⌜ Placed (λ st. placed (e .name) true (e .width) (length (now (items .entry))) (leafIn (movedIn told v) st)) (noteIn (now (layout .entry)) deps e true v (now (counts .entry))) (toldIn told v) (e .width) r (now (items .exit)) (now (counts .exit)) ⌝ }
+    ensures { λ r. ⌜ Placed (λ st. placed (e .name) true (e .width) (length (now (items .entry))) (leafIn (movedIn told v) st))
+        (toldIn told v) (e .width) (now (items .entry)) r (now (items .exit)) ⌝ }
+    ensures { λ r. ⌜ now (counts .exit) ≡ cond (eqb (r .refused) 0) (noteIn (now (layout .entry)) deps e true v (now (counts .entry))) (now (counts .entry)) ⌝ }
 {
     let o = place(items, e.name as u64, e.width, told, v);
     if o.refused != 0 {
@@ -382,7 +384,7 @@ fn place_lone(
 // The item of a table's element at the front.
 fn place_element(items: &mut [u64], e: Entry, told: usize, v: Scalar) -> Out
     requires { ⌜ toldIn told v < 9223372036854775808 ⌝ }
-    ensures { λ r. ⌜ Placed (λ st. placed 65536 false (e .width) (length (now (items .entry))) (leafIn (movedIn told v) st)) [] (toldIn told v) (e .width) r (now (items .exit)) [] ⌝ }
+    ensures { λ r. ⌜ Placed (λ st. placed 65536 false (e .width) (length (now (items .entry))) (leafIn (movedIn told v) st)) (toldIn told v) (e .width) (now (items .entry)) r (now (items .exit)) ⌝ }
 {
     if e.width == 0 {
         return refusal(10);
@@ -441,7 +443,10 @@ fn lone_value(
 ) -> Out
     requires { ⌜ at + e .width ≤ length (now «record») ⌝ }
     requires { ⌜ told ≤ length (now text) ⌝ }
-    ensures { λ r. ⌜ Met (scalar (kept (now (layout .entry)) page (length (now (text .entry))) deps) (now («record» .entry)) e (e .name) true at (length (now (items .entry))) (state (now (counts .entry)) told (now (text .entry)))) r (now (items .exit)) (now (text .exit)) (now (counts .exit)) ⌝ }
+    ensures { λ r. ⌜ Lone
+        (scalar (kept (now (layout .entry)) page (length (now (text .entry))) deps) (now («record» .entry)) e (e .name) true at (length (now (items .entry)))
+        (state (now (counts .entry)) told (now (text .entry)))) (now (items .entry)) (now (counts .entry)) r (now (items .exit)) (now (text .exit)) (now (counts .exit)) ⌝ }
+    ensures { λ _. ⌜ now (text .exit) ≡ textIn page (now («record» .entry)) e at told (now (text .entry)) ⌝ }
 {
     match read_part(record, text, page, e.kind, e.p, e.q, e.r, e.width, at, told) {
         Decoded::Refused(n) => refusal(n),
@@ -463,7 +468,10 @@ pub fn decode_lone(
     told: usize,
 ) -> Out
     requires { ⌜ told ≤ length (now text) ⌝ }
-    ensures { λ r. ⌜ Met (leafAt (kept (now (layout .entry)) page (length (now (text .entry))) deps) (now («record» .entry)) e (e .name) true at (length (now (items .entry))) (state (now (counts .entry)) told (now (text .entry)))) r (now (items .exit)) (now (text .exit)) (now (counts .exit)) ⌝ }
+    ensures { λ r. ⌜ Lone
+        (leafAt (kept (now (layout .entry)) page (length (now (text .entry))) deps) (now («record» .entry)) e (e .name) true at (length (now (items .entry)))
+        (state (now (counts .entry)) told (now (text .entry)))) (now (items .entry)) (now (counts .entry)) r (now (items .exit)) (now (text .exit)) (now (counts .exit)) ⌝ }
+    ensures { λ _. ⌜ now (text .exit) ≡ textBehind page (now («record» .entry)) e at told (now (text .entry)) ⌝ }
 {
     if !inside_record(record.len(), at, e.width) {
         return refusal(7);
@@ -486,7 +494,9 @@ fn element_value(
 ) -> Out
     requires { ⌜ at + e .width ≤ length (now «record») ⌝ }
     requires { ⌜ told ≤ length (now text) ⌝ }
-    ensures { λ r. ⌜ Element (λ l deps. scalar (kept l page (length (now (text .entry))) deps) (now («record» .entry)) e 65536 false at (length (now (items .entry)))) told (now (text .entry)) r (now (items .exit)) (now (text .exit)) ⌝ }
+    ensures { λ r. ⌜ Element (λ l deps. scalar (kept l page (length (now (text .entry))) deps) (now («record» .entry)) e 65536 false at (length (now (items .entry))))
+        told (now (text .entry)) (now (items .entry)) r (now (items .exit)) (now (text .exit)) ⌝ }
+    ensures { λ _. ⌜ now (text .exit) ≡ textIn page (now («record» .entry)) e at told (now (text .entry)) ⌝ }
 {
     match read_part(record, text, page, e.kind, e.p, e.q, e.r, e.width, at, told) {
         Decoded::Refused(n) => refusal(n),
@@ -505,7 +515,9 @@ pub fn decode_element(
     told: usize,
 ) -> Out
     requires { ⌜ told ≤ length (now text) ⌝ }
-    ensures { λ r. ⌜ Element (λ l deps. leafAt (kept l page (length (now (text .entry))) deps) (now («record» .entry)) e 65536 false at (length (now (items .entry)))) told (now (text .entry)) r (now (items .exit)) (now (text .exit)) ⌝ }
+    ensures { λ r. ⌜ Element (λ l deps. leafAt (kept l page (length (now (text .entry))) deps) (now («record» .entry)) e 65536 false at (length (now (items .entry))))
+        told (now (text .entry)) (now (items .entry)) r (now (items .exit)) (now (text .exit)) ⌝ }
+    ensures { λ _. ⌜ now (text .exit) ≡ textBehind page (now («record» .entry)) e at told (now (text .entry)) ⌝ }
 {
     if !inside_record(record.len(), at, e.width) {
         return refusal(7);
@@ -549,9 +561,9 @@ pub fn clear_counts(counts: &mut [i64])
     }
 }
 
-// Zeros for the counts of a walk, where some table depends on one.
+// Zeros for the counts of a walk, where some table depends on one; else they stay as they were.
 pub fn start_counts(counts: &mut [i64], deps: bool)
-    ensures { λ _. ⌜ (deps ≡ true → now (counts .exit) ≡ replicate (length (now (counts .entry))) (pos 0)) ⌝ }
+    ensures { λ _. ⌜ now (counts .exit) ≡ cond deps (replicate (length (now (counts .entry))) (pos 0)) (now (counts .entry)) ⌝ }
 {
     if deps {
         clear_counts(counts);

@@ -17,7 +17,8 @@ use Rattle.walks.specs.Walk.{single, isPad, Coded, unfit, bytes, Codec}
 use Rattle.walks.specs.Writing.{lay}
 use Rattle.walks.proofs.Single.{single-reserves}
 use Rattle.encode_leaf.specs.Laying.{sat, Laid, refused, laid, Layer, next, coded, leaf, inside, one, settled, elements, table, field, seq, start}
-use Rattle.encode_leaf.specs.Machine.{codec, spread}
+use Rattle.encode_leaf.specs.Machine.{codec}
+use Rattle.encode_leaf.proofs.Inside.{spread}
 use Rattle.encode_leaf.proofs.Leaves.{leaf-pad}
 use Rattle.encode.specs.Order.{lone, valueOf}
 

@@ -15,7 +15,8 @@ use Rattle.walks.specs.Records.{most}
 use Rattle.encode_leaf.specs.declared.Out.{Out}
 use Rattle.encode_leaf.specs.declared.Run.{Run}
 use Rattle.encode_leaf.specs.Laying.{sat, Laid, refused, laid, Layer, group, leaves, one, elements, field, seq, start}
-use Rattle.encode_leaf.specs.Machine.{codec, roomIn, spread, Spreads}
+use Rattle.encode_leaf.specs.Machine.{codec, roomIn, elementsIn}
+use Rattle.encode_leaf.proofs.Inside.{spread, Spreads, spreads}
 use Rattle.encode.specs.declared.Place.{Place}
 use Rattle.encode_leaf.proofs.Elements.{ElementsInv}
 use Rattle.encode.specs.Order.{valueOf, Ahead}
@@ -81,21 +82,24 @@ module _ {masks text : List ℕ} {page : ℕ} {l v b₀ : List ℕ} {lo hi from 
 
 -- ---- the elements of an entry
 
-module _ (masks text : List ℕ) (page : ℕ) (l v b : List ℕ) (e : Entry) (lo hi i to at : ℕ) (small : e .width ≤ 9223372036854775808) (r : Run) (s : Spreads v e (values v i to) r) where
+module _ (masks text : List ℕ) (page : ℕ) (l v b : List ℕ) (e : Entry) (lo hi i to at : ℕ) (small : e .width ≤ 9223372036854775808) (r : Run) (q : r ≡ elementsIn v e i to) where
   -- a group's, or a scalar's or Pad's
   abbrev Elements : Bool → ℕ → Values → Laid
   Elements x n ms = elements (λ vs a c. cond x (groupIn masks text page l b lo hi vs a c) (leaves (codec masks page text) (roomIn b) e vs a c)) n ms at 0 0 b
+
+  law : Spreads v e (values v i to) r
+  law = spreads e v i to r q
 
   spread-is : fieldIn masks text page l b e lo hi (values v i to) at b ≡ spread e (Elements (isGroup e)) (values v i to)
   unfolding one
   spread-is = field-spread (codec masks page text) (roomIn b) e (part l lo hi) small (values v i to) at b
 
   pub field-not : (r .refused ≡ 0 → ⊥) → fieldIn masks text page l b e lo hi (values v i to) at b ≡ refused (r .refused)
-  field-not h = spread-is ∙ s .refuses h (Elements (isGroup e))
+  field-not h = spread-is ∙ law .refuses h (Elements (isGroup e))
 
   module _ (h : r .refused ≡ 0) where
     spread-fine : (x : Bool) → isGroup e ≡ x → fieldIn masks text page l b e lo hi (values v i to) at b ≡ Elements x (r .n) (values v (r .from) (r .end))
-    spread-fine x g = spread-is ∙ s .fine h (Elements (isGroup e)) ∙ ap (λ y. Elements y (r .n) (values v (r .from) (r .end))) g
+    spread-fine x g = spread-is ∙ law .fine h (Elements (isGroup e)) ∙ ap (λ y. Elements y (r .n) (values v (r .from) (r .end))) g
 
     pub field-group : e .kind ≡ 9 → fieldIn masks text page l b e lo hi (values v i to) at b
         ≡ elements (groupIn masks text page l b lo hi) (r .n) (values v (r .from) (r .end)) at 0 0 b

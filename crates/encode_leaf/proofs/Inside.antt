@@ -14,8 +14,9 @@ use Rattle.items.specs.Items.{Values, values, headOf, membersOf}
 use Rattle.items.proofs.Items.{members-is, members-null}
 use Rattle.walks.specs.Walk.{single}
 use Rattle.walks.specs.Writing.{tableLength}
+use Rattle.encode_leaf.specs.declared.Run.{Run}
 use Rattle.encode_leaf.specs.Laying.{Laid, refused, inside}
-use Rattle.encode_leaf.specs.Machine.{taking, spread, Spreads}
+use Rattle.encode_leaf.specs.Machine.{taking, endIn, run, membersIn, elementsIn}
 
 -- ---- the members of a value
 
@@ -40,28 +41,43 @@ module _ (tag : ℕ) (f : Values → Laid) (v : List ℕ) (i to : ℕ) (it : Ite
 
 -- ---- the elements of an entry
 
-module _ (e : Entry) (v : List ℕ) (i to : ℕ) (z : Bool) (y : z ≡ single e) where
-  alone : z ≡ true → (f : ℕ → Values → Laid) → spread e f (values v i to) ≡ f 1 (values v i to)
-  unfolding spread
-  alone h f = rw (sym y ∙ h) refl
+-- f of how many elements an entry has and of what they are: one, the value itself, or the members of a List
+unfoldable pub spread : Entry → (ℕ → Values → Laid) → Values → Laid
+spread e f vs = cond (single e) (f 1 vs) (inside 6 (λ ms. f (tableLength e ms) ms) vs)
 
-  pub run-one : z ≡ true → Spreads v e (values v i to) (record { refused = 0; n = 1; from = i; end = to })
-  run-one h = record { fine = λ _ f. alone h f; refuses = λ n. absurd (n refl) }
+pub record Spreads (v : List ℕ) (e : Entry) (vs : Values) (r : Run) : Type 0 where
+  pub fine : r .refused ≡ 0 → (f : ℕ → Values → Laid) → spread e f vs ≡ f (r .n) (values v (r .from) (r .end))
+  pub refuses : (r .refused ≡ 0 → ⊥) → (f : ℕ → Values → Laid) → spread e f vs ≡ refused (r .refused)
 
-  module _ (h : z ≡ false) (it : Item) (p : it ≡ headOf (values v i to)) (t : Bool) (r : t ≡ taking (it .tag) 6) where
-    table : (f : ℕ → Values → Laid) → spread e f (values v i to) ≡ inside 6 (λ ms. f (tableLength e ms) ms) (values v i to)
-    unfolding spread
-    table f = rw (sym y ∙ h) refl
+module _ (e : Entry) (v : List ℕ) (i to : ℕ) where
+  pub spreads : (r : Run) → r ≡ elementsIn v e i to → Spreads v e (values v i to) r
+  unfolding elementsIn spread
+  spreads r q = rw q (go (single e) refl (taking (headOf (values v i to) .tag) 6) refl)
+    where
+      table : single e ≡ false → (f : ℕ → Values → Laid) → spread e f (values v i to) ≡ inside 6 (λ ms. f (tableLength e ms) ms) (values v i to)
+      table a f = rw a refl
 
-    pub run-not : t ≡ false → (from end : ℕ) → Spreads v e (values v i to) (record { refused = 13; n = 0; from = from; end = end })
-    run-not q from end = record {
-      fine = λ s. absurd (omega (arith, s));
-      refuses = λ _ f. table f ∙ inside-not 6 (λ ms. f (tableLength e ms) ms) v i to it p (sym r ∙ q);
-    }
+      go : (x : Bool) → single e ≡ x → (t : Bool) → taking (headOf (values v i to) .tag) 6 ≡ t → Spreads v e (values v i to) (elementsIn v e i to)
+      go true a t b = rw a (record { fine = λ _ f. rw a refl; refuses = λ n. absurd (n refl) })
+      go false a true b = rw (a, b) (record {
+        fine = λ _ f. table a f ∙ inside-is 6 (λ ms. f (tableLength e ms) ms) v i to (headOf (values v i to)) refl (endIn v i to) (min (endIn v i to) (i + 1)) b refl refl;
+        refuses = λ n. absurd (n refl);
+      })
+      go false a false b = rw (a, b) (record {
+        fine = λ z. absurd (omega (arith, z));
+        refuses = λ _ f. table a f ∙ inside-not 6 (λ ms. f (tableLength e ms) ms) v i to (headOf (values v i to)) refl b;
+      })
 
-    pub run-table : t ≡ true → (end from n : ℕ) → end ≡ endOf (Items.spanOf (headOf (values v i to))) i to → from ≡ min end (i + 1) → n ≡ tableLength e (values v from end)
-        → Spreads v e (values v i to) (record { refused = 0; n = n; from = from; end = end })
-    run-table q end from n u w c = record {
-      fine = λ _ f. table f ∙ inside-is 6 (λ ms. f (tableLength e ms) ms) v i to it p end from (sym r ∙ q) u w ∙ ap (λ x. f x (values v from end)) (sym c);
-      refuses = λ n. absurd (n refl);
-    }
+  module _ (z : Bool) (y : z ≡ single e) where
+    pub run-one : z ≡ true → run 0 1 i to ≡ elementsIn v e i to
+    unfolding elementsIn
+    run-one h = rw (sym y ∙ h) refl
+
+    module _ (h : z ≡ false) (it : Item) (p : it ≡ headOf (values v i to)) (t : Bool) (r : t ≡ taking (it .tag) 6) where
+      pub run-not : t ≡ false → run 13 0 0 0 ≡ elementsIn v e i to
+      unfolding elementsIn
+      run-not q = rw (sym y ∙ h, ← p, sym r ∙ q) refl
+
+      pub run-table : t ≡ true → (end from n : ℕ) → end ≡ endIn v i to → from ≡ min end (i + 1) → n ≡ tableLength e (values v from end) → run 0 n from end ≡ elementsIn v e i to
+      unfolding elementsIn
+      run-table q end from n u w c = rw (c, w, u, sym y ∙ h) (ap (λ x. cond x (membersIn v e (min (endIn v i to) (i + 1)) (endIn v i to)) (run 13 0 0 0)) (sym q ∙ r ∙ ap (λ j. taking (j .tag) 6) p))

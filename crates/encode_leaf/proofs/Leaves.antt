@@ -136,13 +136,17 @@ module _ (masks text : List ℕ) (e : Entry) (it : Item) (x y : List ℕ) (u : x
   pub put-is : (page : ℕ) (part last : List ℕ) → w ≡ length part → (r : ℕ)
       → r ≡ judgedOf (e .kind) (e .p) (e .q) (e .r) (e .s) x w (it .tag) (scalarIn it) y
       → last ≡ partAfter (judgedOf (e .kind) (e .p) (e .q) (e .r) (e .s) x w (it .tag) (scalarIn it) y) (bytesOf (e .kind) (e .p) (e .q) (e .r) x page w (scalarIn it) y) part
-      → (r ≡ judged masks text e it) × (r ≡ 0 → last ≡ bytesIn masks page text e it)
-  put-is page part last k r g h = (judge-is r g, put)
+      → (r ≡ judged masks text e it) × (last ≡ cond (eqb r 0) (bytesIn masks page text e it) part)
+  put-is page part last k r g h = (judge-is r g, h ∙ ap (λ n. partAfter n Written part) (sym g) ∙ put (eqb r 0) refl)
     where
-      put : r ≡ 0 → last ≡ bytesIn masks page text e it
-      put z =
-          let j : judged masks text e it ≡ 0 = sym (judge-is r g) ∙ z in
-          h ∙ ap₂ (λ n bs. partAfter n bs part) (at-width ∙ j)
+      Written : List ℕ
+      Written = bytesOf (e .kind) (e .p) (e .q) (e .r) x page w (scalarIn it) y
+
+      put : (z : Bool) → eqb r 0 ≡ z → partAfter r Written part ≡ cond z (bytesIn masks page text e it) part
+      put false z = rw z refl
+      put true z =
+          let j : judged masks text e it ≡ 0 = sym (judge-is r g) ∙ eqb-true r 0 z in
+          ap₂ (λ n bs. partAfter n bs part) (eqb-true r 0 z)
           (ap₂ (λ i o. bytesOf (e .kind) (e .p) (e .q) (e .r) i page w (scalarIn it) o) u v
           ∙ ap (λ i. bytesOf (e .kind) (e .p) (e .q) (e .r) (maskFor masks e) page i (scalarIn it) (textOf text it)) l
           ∙ same-bytes (e .p) (e .q) (e .r) (e .s) (maskOf masks e) page (e .width) (it .tag) (scalarIn it) (textOf text it) (e .kind))

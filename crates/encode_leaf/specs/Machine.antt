@@ -1,33 +1,60 @@
--- What the writer's inner functions promise, by their own answer: nothing of the buffer after a refusal.
+-- What the writer's inner functions promise, by their own answer.
 use mathlib.Core.Path.{_≡_}
 use mathlib.Core.Bool.{Bool, true, false, _||_, cond}
 use mathlib.Core.List.{List, []}
-use Prim.Native.Nat.{ℕ, min}
+use Prim.Native.Nat.{ℕ, zero, suc, _+_, min}
 use lib.Dec.{eqb, leb}
 use lib.ListN.{length}
 use Rattle.layout.specs.declared.Entry.{Entry}
 use Rattle.items.specs.declared.Item.{Item}
 use Rattle.encode_scalar.specs.Encode.{judgedOf, bytesOf}
-use Rattle.items.specs.Items.{Values, values}
+use Rattle.spans.specs.Tree.{endOf}
+use Rattle.items.specs.Items.{Values, values, headOf, restOf, spanOf}
 use Rattle.walks.specs.Walk.{single, Codec}
 use Rattle.walks.specs.Writing.{tableLength}
 use Rattle.walks.specs.Kinds.{State, kinds, maskOf, textOf, scalarIn}
 use Rattle.walks.specs.Records.{most}
 use Rattle.encode_leaf.specs.declared.Out.{Out}
 use Rattle.encode_leaf.specs.declared.Run.{Run}
-use Rattle.encode_leaf.specs.Laying.{Laid, refused, laid, inside}
+use Rattle.encode_leaf.specs.Laying.{sat, Laid, refused, laid, Layer, settled}
+
+-- an answer that refuses, which has put nothing
+abbrev pub refusing : ℕ → Out
+refusing n = record { refused = n; past = 0; taken = 0 }
 
 pub record Met (o : Laid) (r : Out) (b : List ℕ) : Type 0 where
   pub fine : r .refused ≡ 0 → o ≡ laid b (r .past) (r .taken)
-  pub refuses : (r .refused ≡ 0 → ⊥) → o ≡ refused (r .refused)
+  pub refuses : (r .refused ≡ 0 → ⊥) → (o ≡ refused (r .refused)) × (r ≡ refusing (r .refused))
 
--- f of how many elements an entry has and of what they are: one, the value itself, or the members of a List
-unfoldable pub spread : Entry → (ℕ → Values → Laid) → Values → Laid
-spread e f vs = cond (single e) (f 1 vs) (inside 6 (λ ms. f (tableLength e ms) ms) vs)
+-- the buffer from one put on, or as it was before what is refused
+abbrev pub onward : List ℕ → (List ℕ → ℕ → ℕ → List ℕ) → Laid → List ℕ
+onward b f (refused n) = b
+onward b f (laid b′ past t) = f b′ past t
 
-pub record Spreads (v : List ℕ) (e : Entry) (vs : Values) (r : Run) : Type 0 where
-  pub fine : r .refused ≡ 0 → (f : ℕ → Values → Laid) → spread e f vs ≡ f (r .n) (values v (r .from) (r .end))
-  pub refuses : (r .refused ≡ 0 → ⊥) → (f : ℕ → Values → Laid) → spread e f vs ≡ refused (r .refused)
+-- the buffer behind the elements that are left: those in front of a refused one are in it
+unfoldable pub bufferBehind : Layer → ℕ → Values → ℕ → List ℕ → List ℕ
+bufferBehind f zero vs at b = b
+bufferBehind f (suc n) vs at b = onward b (λ b′ past t. cond (settled vs past t) b′ (bufferBehind f n (restOf vs) (sat (at + t)) b′)) (f vs at b)
+
+-- whether a value of this tag, or Null, is taken
+abbrev pub taking : ℕ → ℕ → Bool
+taking tag wanted = eqb tag wanted || eqb tag 0
+
+-- where the first of the items i up to `to` ends
+abbrev pub endIn : List ℕ → ℕ → ℕ → ℕ
+endIn v i to = endOf (spanOf (headOf (values v i to))) i to
+
+abbrev pub run : ℕ → ℕ → ℕ → ℕ → Run
+run number n from end = record { refused = number; n = n; from = from; end = end }
+
+abbrev pub membersIn : List ℕ → Entry → ℕ → ℕ → Run
+membersIn v e from end = run 0 (tableLength e (values v from end)) from end
+
+-- the elements of an entry by the first of the items i up to `to`: that value alone, or those of a table, the members of a List or Null
+unfoldable pub elementsIn : List ℕ → Entry → ℕ → ℕ → Run
+elementsIn v e i to =
+    cond (single e) (run 0 1 i to)
+    (cond (taking (headOf (values v i to) .tag) 6) (membersIn v e (min (endIn v i to) (i + 1)) (endIn v i to)) (run 13 0 0 0))
 
 -- the writer's codec, and the bytes that the record may have in a buffer
 abbrev pub codec : List ℕ → ℕ → List ℕ → Codec State
@@ -60,7 +87,3 @@ outside judged = cond (eqb judged 0) 16 judged
 
 abbrev pub bytesIn : List ℕ → ℕ → List ℕ → Entry → Item → List ℕ
 bytesIn masks page text e it = bytesOf (e .kind) (e .p) (e .q) (e .r) (maskOf masks e) page (e .width) (scalarIn it) (textOf text it)
-
--- whether a value of this tag, or Null, is taken
-abbrev pub taking : ℕ → ℕ → Bool
-taking tag wanted = eqb tag wanted || eqb tag 0

@@ -18,7 +18,7 @@ ghost use Rattle.walks.specs.Walk.{single};
 ghost use Rattle.walks.specs.Writing.{lay, tableLength};
 ghost use Rattle.walks.specs.Kinds.{textOf};
 ghost use Rattle.encode_leaf.specs.Laying.{sat, leaf, leaves, elements};
-ghost use Rattle.encode_leaf.specs.Machine.{Met, Spreads, codec, roomIn, putWidth, maskFor, judged, outside, bytesIn, taking};
+ghost use Rattle.encode_leaf.specs.Machine.{Met, refusing, bufferBehind, elementsIn, codec, roomIn, putWidth, maskFor, judged, outside, bytesIn, taking};
 
 // What a part of the walk came to: the number that refuses it, or 0 with one more than the furthest end of what was put, 0 where
 // nothing was, and the bytes taken.
@@ -29,7 +29,7 @@ pub struct Out {
 }
 
 pub fn refusal(n: u32) -> Out
-    ensures { λ r. ⌜ r .refused ≡ n ⌝ }
+    ensures { λ r. ⌜ r ≡ refusing n ⌝ }
 {
     Out {
         refused: n,
@@ -102,7 +102,7 @@ pub fn takes(tag: u64, wanted: u64) -> bool
 }
 
 // How many elements a table has: occurs, or under depending as many as the items from..to.
-pub fn table_length(items: &[u64], e: Entry, from: usize, to: usize) -> u64
+fn table_length(items: &[u64], e: Entry, from: usize, to: usize) -> u64
     ensures { λ r. ⌜ r ≡ tableLength e (values (now (items .entry)) from to) ⌝ }
 {
     if e.depending == 4294967295 {
@@ -121,7 +121,7 @@ pub struct Run {
 
 // The elements of an entry by the first of the items i..to: one, that value, or those of a table, the members of a List.
 pub fn elements_of(items: &[u64], e: Entry, i: usize, to: usize) -> Run
-    ensures { λ r. ⌜ Spreads (now (items .entry)) e (values (now (items .entry)) i to) r ⌝ }
+    ensures { λ r. ⌜ r ≡ elementsIn (now (items .entry)) e i to ⌝ }
 {
     if is_single(e) {
         return Run {
@@ -259,7 +259,7 @@ fn judge_leaf(masks: &[u8], text: &[u8], e: Entry, width: u64, it: Item) -> u32
 fn put_leaf(masks: &[u8], page: u32, text: &[u8], part: &mut [u8], e: Entry, it: Item) -> u32
     requires { ⌜ length (now part) ≡ putWidth e ⌝ }
     ensures { λ r. ⌜ r ≡ judged (now (masks .entry)) (now (text .entry)) e it ⌝ }
-    ensures { λ r. ⌜ (r ≡ 0 → now (part .exit) ≡ bytesIn (now (masks .entry)) page (now (text .entry)) e it) ⌝ }
+    ensures { λ r. ⌜ now (part .exit) ≡ cond (eqb r 0) (bytesIn (now (masks .entry)) page (now (text .entry)) e it) (now (part .entry)) ⌝ }
 {
     encode_scalar::encode_scalar(
         part,
@@ -289,7 +289,7 @@ fn no_room(masks: &[u8], text: &[u8], e: Entry, width: u64, it: Item) -> u32
     n
 }
 
-// One scalar or Pad, every entry but a group, by the item of its value.
+// One scalar or Pad, every entry but a group, by the item of its value; a refusal leaves the record as it was.
 pub fn encode_leaf(
     masks: &[u8],
     text: &[u8],
@@ -300,6 +300,7 @@ pub fn encode_leaf(
     at: u64,
 ) -> Out
     ensures { λ r. ⌜ Met (leaf (codec (now (masks .entry)) page (now (text .entry))) (roomIn (now («record» .entry))) e it at (now («record» .entry))) r (now («record» .exit)) ⌝ }
+    ensures { λ r. ⌜ ((r .refused ≡ 0 → ⊥) → now («record» .exit) ≡ now («record» .entry)) ⌝ }
 {
     let width = put_width(e);
     if !inside_room(room_of(record.len()), at, width) {
@@ -331,7 +332,11 @@ pub fn encode_table(
     end: usize,
     at: u64,
 ) -> Out
-    ensures { λ r. ⌜ Met (elements (leaves (codec (now (masks .entry)) page (now (text .entry))) (roomIn (now («record» .entry))) e) n (values (now (items .entry)) from end) at 0 0 (now («record» .entry))) r (now («record» .exit)) ⌝ }
+    ensures { λ r. ⌜ Met
+        (elements (leaves (codec (now (masks .entry)) page (now (text .entry))) (roomIn (now («record» .entry))) e) n (values (now (items .entry)) from end) at 0 0 (now («record» .entry)))
+        r (now («record» .exit)) ⌝ }
+    ensures { λ _. ⌜ now («record» .exit) ≡
+        bufferBehind (leaves (codec (now (masks .entry)) page (now (text .entry))) (roomIn (now («record» .entry))) e) n (values (now (items .entry)) from end) at (now («record» .entry)) ⌝ }
 {
     let mut j = from;
     let mut left = n;

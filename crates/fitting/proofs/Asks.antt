@@ -137,7 +137,7 @@ module _ (l : List ℕ) (e : Entry) (v : List ℕ) (j to : ℕ) (run : List ℤ)
   module _ (t : b ≡ true) (c : Count) (q : Counted (howMany (λ name r. heldIn l name r) e run) c) where
     pub tabled-never : (c .refused ≡ 0 → ⊥) → false ≡ tabled l e (values v j to) run
     unfolding tabled
-    tabled-never h = rw (sym p ∙ t, q .refuses h) refl
+    tabled-never h = rw (sym p ∙ t, q .refuses h .0) refl
 
     pub tabled-times : c .refused ≡ 0 → (en k m : ℕ) → en ≡ endOf (Items.spanOf (headOf (values v j to))) j to → k ≡ min en (j + 1) → m ≡ count (values v k en)
         → eqb (c .n) m ≡ tabled l e (values v j to) run

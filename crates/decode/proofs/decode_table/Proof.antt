@@ -29,7 +29,10 @@ refusal-requires : tie.Need-refusal-requires Inv-loop μ-loop
 refusal-requires c κs = search needs
 
 returns : tie.Need-returns Inv-loop μ-loop
-returns c = record { met = λ deps. refuse (c .before .before .before .how-many .result .refused) (c .refusal .ensures) (c .before .if1 .taken) (ap (λ m. table (c .before .before .before .before .before .before .before .before .args .e) (leafAt (kept (c .before .before .before .before .before .before .before .before .args .layout .now) (c .before .before .before .before .before .before .before .before .args .page) (length (c .before .before .before .before .before .before .before .before .args .text .now)) deps) (c .before .before .before .before .before .before .before .before .args .«record» .now) (c .before .before .before .before .before .before .before .before .args .e) 65536 false) m (c .before .before .before .before .before .before .before .before .args .at) (length (c .before .before .before .before .before .before .before .before .args .items .now)) (state (c .before .before .before .before .before .before .before .before .args .counts .now) (c .before .before .before .before .before .before .before .before .args .told) (c .before .before .before .before .before .before .before .before .args .text .now))) (c .before .before .before .how-many .ensures .refuses (c .before .if1 .taken))) }
+returns c =
+    let at-args = c .before .before .before .before .before .before .before .before .args in
+    let at-how-many = c .before .before .before .how-many in
+    record { met = λ deps. refuse (at-how-many .result .refused) (c .refusal .ensures) (c .before .if1 .taken) (ap (λ m. table (at-args .e) (leafAt (kept (at-args .layout .now) (at-args .page) (length (at-args .text .now)) deps) (at-args .«record» .now) (at-args .e) 65536 false) m (at-args .at) (length (at-args .items .now)) (state (at-args .counts .now) (at-args .told) (at-args .text .now))) (at-how-many .ensures .refuses (c .before .if1 .taken) .0)) }
 
 head-words-requires : tie.Need-head-words-requires Inv-loop μ-loop
 head-words-requires c κs = search needs
@@ -38,13 +41,27 @@ refusal-requires-2 : tie.Need-refusal-requires-2 Inv-loop μ-loop
 refusal-requires-2 c κs = search needs
 
 returns-2 : tie.Need-returns-2 Inv-loop μ-loop
-returns-2 c = record { met = λ deps. refuse 16 (c .refusal2 .ensures) (λ e. omega arith) (ap (λ m. table (c .before .before .before .before .before .before .before .before .before .before .before .args .e) (leafAt (kept (c .before .before .before .before .before .before .before .before .before .before .before .args .layout .now) (c .before .before .before .before .before .before .before .before .before .before .before .args .page) (length (c .before .before .before .before .before .before .before .before .before .before .before .args .text .now)) deps) (c .before .before .before .before .before .before .before .before .before .before .before .args .«record» .now) (c .before .before .before .before .before .before .before .before .before .before .before .args .e) 65536 false) m (c .before .before .before .before .before .before .before .before .before .before .before .args .at) (length (c .before .before .before .before .before .before .before .before .before .before .before .args .items .now)) (state (c .before .before .before .before .before .before .before .before .before .before .before .args .counts .now) (c .before .before .before .before .before .before .before .before .before .before .before .args .told) (c .before .before .before .before .before .before .before .before .before .before .before .args .text .now))) (c .before .before .before .before .before .before .how-many .ensures .fine (c .before .before .before .before .if1 .left)) ∙ table-small (c .before .before .before .before .before .before .before .before .before .before .before .args .e) (leafAt (kept (c .before .before .before .before .before .before .before .before .before .before .before .args .layout .now) (c .before .before .before .before .before .before .before .before .before .before .before .args .page) (length (c .before .before .before .before .before .before .before .before .before .before .before .args .text .now)) deps) (c .before .before .before .before .before .before .before .before .before .before .before .args .«record» .now) (c .before .before .before .before .before .before .before .before .before .before .before .args .e) 65536 false) (c .before .before .before .before .before .before .how-many .result .n) (c .before .before .before .before .before .before .before .before .before .before .before .args .at) (length (c .before .before .before .before .before .before .before .before .before .before .before .args .items .now)) (state (c .before .before .before .before .before .before .before .before .before .before .before .args .counts .now) (c .before .before .before .before .before .before .before .before .before .before .before .args .told) (c .before .before .before .before .before .before .before .before .before .before .before .args .text .now)) (c .before .before .head-words .result) (c .before .before .before .before .before .before .before .before .before .before .before .pre .1) (head-is (c .before .before .before .before .before .before .before .before .before .before .before .args .e) false (c .before .before .head-words .result) (sym (c .before .before .before .before .before .before .before .before .before .before .before .pre .1)) (c .before .before .head-words .ensures)) (c .before .if2 .taken)) }
+returns-2 c =
+    let at-args = c .before .before .before .before .before .before .before .before .before .before .before .args in
+    let at-pre = c .before .before .before .before .before .before .before .before .before .before .before .pre in
+    let at-how-many = c .before .before .before .before .before .before .how-many in
+    let at-if1 = c .before .before .before .before .if1 in
+    let at-head-words = c .before .before .head-words in
+    record {
+      met = λ deps. refuse 16 (c .refusal2 .ensures) (λ e. omega arith) (ap (λ m. table (at-args .e) (leafAt (kept (at-args .layout .now) (at-args .page) (length (at-args .text .now)) deps) (at-args .«record» .now) (at-args .e) 65536 false) m (at-args .at) (length (at-args .items .now)) (state
+          (at-args .counts .now) (at-args .told) (at-args .text .now))) (at-how-many .ensures .fine (at-if1 .left)) ∙ table-small (at-args .e) (leafAt (kept (at-args .layout .now) (at-args .page) (length (at-args .text .now)) deps) (at-args .«record» .now) (at-args .e) 65536 false) (at-how-many .result .n)
+          (at-args .at) (length (at-args .items .now)) (state (at-args .counts .now) (at-args .told) (at-args .text .now)) (at-head-words .result) (at-pre .1) (head-is (at-args .e) false (at-head-words .result) (sym (at-pre .1)) (at-head-words .ensures)) (c .before .if2 .taken));
+    }
 
 loop-holds : tie.Need-loop-holds Inv-loop μ-loop
-loop-holds c = λ deps. turns-starts _ _ _ _ _ _ _ _ _ (c .before .before .before .before .before .before .before .before .before .before .pre .0) (c .if2 .left)
+loop-holds c =
+    let at-pre = c .before .before .before .before .before .before .before .before .before .before .pre in
+    λ deps. turns-starts _ _ _ _ _ _ _ _ _ (at-pre .0) (c .if2 .left)
 
 mul-decode-element : tie.Need-mul-decode-element Inv-loop μ-loop
-mul-decode-element c = omega (arith, c .before .loop .inv true .written .within, c .before .loop .inv true .written .same, c .before .before .before .before .before .before .before .before .before .before .before .before .good .1 .1 .0 .0)
+mul-decode-element c =
+    let at-good = c .before .before .before .before .before .before .before .before .before .before .before .before .good in
+    omega (arith, c .before .loop .inv true .written .within, c .before .loop .inv true .written .same, at-good .1 .1 .0 .0)
 
 sub-decode-element : tie.Need-sub-decode-element Inv-loop μ-loop
 sub-decode-element c = omega (arith, c .before .loop .inv true .written .within, c .before .loop .inv true .written .same)
@@ -56,31 +73,76 @@ part-decode-element-end : tie.Need-part-decode-element-end Inv-loop μ-loop
 part-decode-element-end c = omega arith
 
 decode-element-requires : tie.Need-decode-element-requires Inv-loop μ-loop
-decode-element-requires c κs = c .before .before .before .loop .inv true .fits
+decode-element-requires c κs =
+    let at-loop = c .before .before .before .loop in
+    at-loop .inv true .fits
 
 refusal-requires-3 : tie.Need-refusal-requires-3 Inv-loop μ-loop
 refusal-requires-3 c κs = search needs
 
 same-length : tie.Need-same-length Inv-loop μ-loop
-same-length c = returned-same (c .before .before .before .before .before .before .before .before .before .before .before .loop .inv true .written) (c .before .before .before .before .before .before .before .decode-element .last .1 .0) (c .before .before .before .before .before .before .before .decode-element .kept .1 .0) ∙ c .before .before .before .before .before .before .before .before .before .before .before .loop .inv true .written .same
+same-length c =
+    let at-loop = c .before .before .before .before .before .before .before .before .before .before .before .loop in
+    let at-decode-element = c .before .before .before .before .before .before .before .decode-element in
+    returned-same (at-loop .inv true .written) (at-decode-element .last .1 .0) (at-decode-element .kept .1 .0) ∙ at-loop .inv true .written .same
 
 same-length-2 : tie.Need-same-length-2 Inv-loop μ-loop
-same-length-2 c = (c .before .before .before .before .before .before .before .decode-element .kept .1 .1 .0) ∙ c .before .before .before .before .before .before .before .before .before .before .before .loop .inv true .texts
+same-length-2 c =
+    let at-loop = c .before .before .before .before .before .before .before .before .before .before .before .loop in
+    let at-decode-element = c .before .before .before .before .before .before .before .decode-element in
+    (at-decode-element .kept .1 .1 .0) ∙ at-loop .inv true .texts
 
 returns-3 : tie.Need-returns-3 Inv-loop μ-loop
-returns-3 c = record { met = λ deps. refuse (c .before .before .before .before .before .before .before .decode-element .result .refused) (c .refusal3 .ensures) (c .before .if3 .taken) (ap (λ m. table (c .before .before .before .before .before .before .before .before .before .before .before .before .before .before .before .before .before .before .before .before .before .before .args .e) (leafAt (kept (c .before .before .before .before .before .before .before .before .before .before .before .before .before .before .before .before .before .before .before .before .before .before .args .layout .now) (c .before .before .before .before .before .before .before .before .before .before .before .before .before .before .before .before .before .before .before .before .before .before .args .page) (length (c .before .before .before .before .before .before .before .before .before .before .before .before .before .before .before .before .before .before .before .before .before .before .args .text .now)) deps) (c .before .before .before .before .before .before .before .before .before .before .before .before .before .before .before .before .before .before .before .before .before .before .args .«record» .now) (c .before .before .before .before .before .before .before .before .before .before .before .before .before .before .before .before .before .before .before .before .before .before .args .e) 65536 false) m (c .before .before .before .before .before .before .before .before .before .before .before .before .before .before .before .before .before .before .before .before .before .before .args .at) (length (c .before .before .before .before .before .before .before .before .before .before .before .before .before .before .before .before .before .before .before .before .before .before .args .items .now)) (state (c .before .before .before .before .before .before .before .before .before .before .before .before .before .before .before .before .before .before .before .before .before .before .args .counts .now) (c .before .before .before .before .before .before .before .before .before .before .before .before .before .before .before .before .before .before .before .before .before .before .args .told) (c .before .before .before .before .before .before .before .before .before .before .before .before .before .before .before .before .before .before .before .before .before .before .args .text .now))) (c .before .before .before .before .before .before .before .before .before .before .before .before .before .before .before .before .before .how-many .ensures .fine (c .before .before .before .before .before .before .before .before .before .before .before .before .before .before .before .if1 .left)) ∙ table-refused (c .before .before .before .before .before .before .before .before .before .before .before .before .before .before .before .before .before .before .before .before .before .before .args .e) (leafAt (kept (c .before .before .before .before .before .before .before .before .before .before .before .before .before .before .before .before .before .before .before .before .before .before .args .layout .now) (c .before .before .before .before .before .before .before .before .before .before .before .before .before .before .before .before .before .before .before .before .before .before .args .page) (length (c .before .before .before .before .before .before .before .before .before .before .before .before .before .before .before .before .before .before .before .before .before .before .args .text .now)) deps) (c .before .before .before .before .before .before .before .before .before .before .before .before .before .before .before .before .before .before .before .before .before .before .args .«record» .now) (c .before .before .before .before .before .before .before .before .before .before .before .before .before .before .before .before .before .before .before .before .before .before .args .e) 65536 false) (c .before .before .before .before .before .before .before .before .before .before .before .before .before .before .before .before .before .how-many .result .n) (c .before .before .before .before .before .before .before .before .before .before .before .before .before .before .before .before .before .before .before .before .before .before .args .at) (length (c .before .before .before .before .before .before .before .before .before .before .before .before .before .before .before .before .before .before .before .before .before .before .args .items .now)) (state (c .before .before .before .before .before .before .before .before .before .before .before .before .before .before .before .before .before .before .before .before .before .before .args .counts .now) (c .before .before .before .before .before .before .before .before .before .before .before .before .before .before .before .before .before .before .before .before .before .before .args .told) (c .before .before .before .before .before .before .before .before .before .before .before .before .before .before .before .before .before .before .before .before .before .before .args .text .now)) (c .before .before .before .before .before .before .before .before .before .before .before .before .before .head-words .result) (c .before .before .before .before .before .before .before .before .before .before .before .before .before .before .before .before .before .before .before .before .before .before .pre .1) (head-is (c .before .before .before .before .before .before .before .before .before .before .before .before .before .before .before .before .before .before .before .before .before .before .args .e) false (c .before .before .before .before .before .before .before .before .before .before .before .before .before .head-words .result) (sym (c .before .before .before .before .before .before .before .before .before .before .before .before .before .before .before .before .before .before .before .before .before .before .pre .1)) (c .before .before .before .before .before .before .before .before .before .before .before .before .before .head-words .ensures)) (c .before .before .before .before .before .before .before .before .before .before .before .before .if2 .left) _ (turns-stop (c .before .before .before .before .before .before .before .before .before .before .before .loop .inv deps) (c .before .before .before .before .before .before .before .before .before .before .loop-test .taken) (c .before .before .before .before .before .before .before .decode-element .last .1 .0) (c .before .before .before .before .before .before .before .decode-element .kept .1 .0) _ ((c .before .before .before .before .before .before .before .decode-element .ensures .met (c .before .before .before .before .before .before .before .before .before .before .before .before .before .before .before .before .before .before .before .before .before .before .args .layout .now) deps (c .before .before .before .before .before .before .before .before .before .before .before .before .before .before .before .before .before .before .before .before .before .before .args .counts .now)) .refuses (c .before .if3 .taken)))) }
+returns-3 c =
+    let at-args = c .before .before .before .before .before .before .before .before .before .before .before .before .before .before .before .before .before .before .before .before .before .before .args in
+    let at-pre = c .before .before .before .before .before .before .before .before .before .before .before .before .before .before .before .before .before .before .before .before .before .before .pre in
+    let at-how-many = c .before .before .before .before .before .before .before .before .before .before .before .before .before .before .before .before .before .how-many in
+    let at-if1 = c .before .before .before .before .before .before .before .before .before .before .before .before .before .before .before .if1 in
+    let at-head-words = c .before .before .before .before .before .before .before .before .before .before .before .before .before .head-words in
+    let at-if2 = c .before .before .before .before .before .before .before .before .before .before .before .before .if2 in
+    let at-loop = c .before .before .before .before .before .before .before .before .before .before .before .loop in
+    let at-loop-test = c .before .before .before .before .before .before .before .before .before .before .loop-test in
+    let at-decode-element = c .before .before .before .before .before .before .before .decode-element in
+    record {
+      met = λ deps. refuse (at-decode-element .result .refused) (c .refusal3 .ensures) (c .before .if3 .taken) (ap (λ m. table (at-args .e) (leafAt (kept (at-args .layout .now) (at-args .page) (length (at-args .text .now)) deps) (at-args .«record» .now) (at-args .e) 65536 false) m (at-args .at) (length
+          (at-args .items .now)) (state (at-args .counts .now) (at-args .told) (at-args .text .now))) (at-how-many .ensures .fine (at-if1 .left)) ∙ table-refused (at-args .e) (leafAt (kept (at-args .layout .now) (at-args .page) (length (at-args .text .now)) deps) (at-args .«record» .now) (at-args .e) 65536 false)
+          (at-how-many .result .n) (at-args .at) (length (at-args .items .now)) (state (at-args .counts .now) (at-args .told) (at-args .text .now)) (at-head-words .result) (at-pre .1) (head-is (at-args .e) false (at-head-words .result) (sym (at-pre .1)) (at-head-words .ensures)) (at-if2 .left) _ (turns-stop
+          (at-loop .inv deps) (at-loop-test .taken) (at-decode-element .last .1 .0) (at-decode-element .kept .1 .0) _ ((at-decode-element .ensures .0 .met (at-args .layout .now) deps (at-args .counts .now)) .refuses (c .before .if3 .taken) .0)));
+    }
 
 refusal-requires-4 : tie.Need-refusal-requires-4 Inv-loop μ-loop
 refusal-requires-4 c κs = search needs
 
 same-length-3 : tie.Need-same-length-3 Inv-loop μ-loop
-same-length-3 c = returned-same (c .before .before .before .before .before .before .before .before .before .before .before .before .before .loop .inv true .written) (c .before .before .before .before .before .before .before .before .before .decode-element .last .1 .0) (c .before .before .before .before .before .before .before .before .before .decode-element .kept .1 .0) ∙ c .before .before .before .before .before .before .before .before .before .before .before .before .before .loop .inv true .written .same
+same-length-3 c =
+    let at-loop = c .before .before .before .before .before .before .before .before .before .before .before .before .before .loop in
+    let at-decode-element = c .before .before .before .before .before .before .before .before .before .decode-element in
+    returned-same (at-loop .inv true .written) (at-decode-element .last .1 .0) (at-decode-element .kept .1 .0) ∙ at-loop .inv true .written .same
 
 same-length-4 : tie.Need-same-length-4 Inv-loop μ-loop
-same-length-4 c = (c .before .before .before .before .before .before .before .before .before .decode-element .kept .1 .1 .0) ∙ c .before .before .before .before .before .before .before .before .before .before .before .before .before .loop .inv true .texts
+same-length-4 c =
+    let at-loop = c .before .before .before .before .before .before .before .before .before .before .before .before .before .loop in
+    let at-decode-element = c .before .before .before .before .before .before .before .before .before .decode-element in
+    (at-decode-element .kept .1 .1 .0) ∙ at-loop .inv true .texts
 
 returns-4 : tie.Need-returns-4 Inv-loop μ-loop
-returns-4 c = record { met = λ deps. refuse 10 (c .refusal4 .ensures) (λ e. omega arith) (ap (λ m. table (c .before .before .before .before .before .before .before .before .before .before .before .before .before .before .before .before .before .before .before .before .before .before .before .before .args .e) (leafAt (kept (c .before .before .before .before .before .before .before .before .before .before .before .before .before .before .before .before .before .before .before .before .before .before .before .before .args .layout .now) (c .before .before .before .before .before .before .before .before .before .before .before .before .before .before .before .before .before .before .before .before .before .before .before .before .args .page) (length (c .before .before .before .before .before .before .before .before .before .before .before .before .before .before .before .before .before .before .before .before .before .before .before .before .args .text .now)) deps) (c .before .before .before .before .before .before .before .before .before .before .before .before .before .before .before .before .before .before .before .before .before .before .before .before .args .«record» .now) (c .before .before .before .before .before .before .before .before .before .before .before .before .before .before .before .before .before .before .before .before .before .before .before .before .args .e) 65536 false) m (c .before .before .before .before .before .before .before .before .before .before .before .before .before .before .before .before .before .before .before .before .before .before .before .before .args .at) (length (c .before .before .before .before .before .before .before .before .before .before .before .before .before .before .before .before .before .before .before .before .before .before .before .before .args .items .now)) (state (c .before .before .before .before .before .before .before .before .before .before .before .before .before .before .before .before .before .before .before .before .before .before .before .before .args .counts .now) (c .before .before .before .before .before .before .before .before .before .before .before .before .before .before .before .before .before .before .before .before .before .before .before .before .args .told) (c .before .before .before .before .before .before .before .before .before .before .before .before .before .before .before .before .before .before .before .before .before .before .before .before .args .text .now))) (c .before .before .before .before .before .before .before .before .before .before .before .before .before .before .before .before .before .before .before .how-many .ensures .fine (c .before .before .before .before .before .before .before .before .before .before .before .before .before .before .before .before .before .if1 .left)) ∙ table-refused (c .before .before .before .before .before .before .before .before .before .before .before .before .before .before .before .before .before .before .before .before .before .before .before .before .args .e) (leafAt (kept (c .before .before .before .before .before .before .before .before .before .before .before .before .before .before .before .before .before .before .before .before .before .before .before .before .args .layout .now) (c .before .before .before .before .before .before .before .before .before .before .before .before .before .before .before .before .before .before .before .before .before .before .before .before .args .page) (length (c .before .before .before .before .before .before .before .before .before .before .before .before .before .before .before .before .before .before .before .before .before .before .before .before .args .text .now)) deps) (c .before .before .before .before .before .before .before .before .before .before .before .before .before .before .before .before .before .before .before .before .before .before .before .before .args .«record» .now) (c .before .before .before .before .before .before .before .before .before .before .before .before .before .before .before .before .before .before .before .before .before .before .before .before .args .e) 65536 false) (c .before .before .before .before .before .before .before .before .before .before .before .before .before .before .before .before .before .before .before .how-many .result .n) (c .before .before .before .before .before .before .before .before .before .before .before .before .before .before .before .before .before .before .before .before .before .before .before .before .args .at) (length (c .before .before .before .before .before .before .before .before .before .before .before .before .before .before .before .before .before .before .before .before .before .before .before .before .args .items .now)) (state (c .before .before .before .before .before .before .before .before .before .before .before .before .before .before .before .before .before .before .before .before .before .before .before .before .args .counts .now) (c .before .before .before .before .before .before .before .before .before .before .before .before .before .before .before .before .before .before .before .before .before .before .before .before .args .told) (c .before .before .before .before .before .before .before .before .before .before .before .before .before .before .before .before .before .before .before .before .before .before .before .before .args .text .now)) (c .before .before .before .before .before .before .before .before .before .before .before .before .before .before .before .head-words .result) (c .before .before .before .before .before .before .before .before .before .before .before .before .before .before .before .before .before .before .before .before .before .before .before .before .pre .1) (head-is (c .before .before .before .before .before .before .before .before .before .before .before .before .before .before .before .before .before .before .before .before .before .before .before .before .args .e) false (c .before .before .before .before .before .before .before .before .before .before .before .before .before .before .before .head-words .result) (sym (c .before .before .before .before .before .before .before .before .before .before .before .before .before .before .before .before .before .before .before .before .before .before .before .before .pre .1)) (c .before .before .before .before .before .before .before .before .before .before .before .before .before .before .before .head-words .ensures)) (c .before .before .before .before .before .before .before .before .before .before .before .before .before .before .if2 .left) _ (turns-nothing (c .before .before .before .before .before .before .before .before .before .before .before .before .before .loop .inv deps) (c .before .before .before .before .before .before .before .before .before .before .before .before .loop-test .taken) (c .before .before .before .before .before .before .before .before .before .decode-element .last .1 .0) (c .before .before .before .before .before .before .before .before .before .decode-element .kept .1 .0) (c .before .before .before .before .before .before .before .before .before .decode-element .result) (c .before .before .before .before .before .before .before .before .before .decode-element .last .1 .1 .0) (c .before .before .before .before .before .before .before .before .before .before .before .before .before .before .before .before .before .before .before .before .before .before .before .before .args .counts .now) ((c .before .before .before .before .before .before .before .before .before .decode-element .ensures .met (c .before .before .before .before .before .before .before .before .before .before .before .before .before .before .before .before .before .before .before .before .before .before .before .before .args .layout .now) deps (c .before .before .before .before .before .before .before .before .before .before .before .before .before .before .before .before .before .before .before .before .before .before .before .before .args .counts .now)) .fine (c .before .before .before .if3 .left)) (eqb (c .before .before .before .before .before .before .before .before .before .decode-element .result .taken) 0) refl (eq-eqb (c .before .before .before .before .before .before .before .before .before .decode-element .result .taken) 0 (c .before .if4 .taken)))) }
+returns-4 c =
+    let at-args = c .before .before .before .before .before .before .before .before .before .before .before .before .before .before .before .before .before .before .before .before .before .before .before .before .args in
+    let at-pre = c .before .before .before .before .before .before .before .before .before .before .before .before .before .before .before .before .before .before .before .before .before .before .before .before .pre in
+    let at-how-many = c .before .before .before .before .before .before .before .before .before .before .before .before .before .before .before .before .before .before .before .how-many in
+    let at-if1 = c .before .before .before .before .before .before .before .before .before .before .before .before .before .before .before .before .before .if1 in
+    let at-head-words = c .before .before .before .before .before .before .before .before .before .before .before .before .before .before .before .head-words in
+    let at-if2 = c .before .before .before .before .before .before .before .before .before .before .before .before .before .before .if2 in
+    let at-loop = c .before .before .before .before .before .before .before .before .before .before .before .before .before .loop in
+    let at-loop-test = c .before .before .before .before .before .before .before .before .before .before .before .before .loop-test in
+    let at-decode-element = c .before .before .before .before .before .before .before .before .before .decode-element in
+    let at-if3 = c .before .before .before .if3 in
+    record {
+      met = λ deps. refuse 10 (c .refusal4 .ensures) (λ e. omega arith) (ap (λ m. table (at-args .e) (leafAt (kept (at-args .layout .now) (at-args .page) (length (at-args .text .now)) deps) (at-args .«record» .now) (at-args .e) 65536 false) m (at-args .at) (length (at-args .items .now)) (state
+          (at-args .counts .now) (at-args .told) (at-args .text .now))) (at-how-many .ensures .fine (at-if1 .left)) ∙ table-refused (at-args .e) (leafAt (kept (at-args .layout .now) (at-args .page) (length (at-args .text .now)) deps) (at-args .«record» .now) (at-args .e) 65536 false) (at-how-many .result .n)
+          (at-args .at) (length (at-args .items .now)) (state (at-args .counts .now) (at-args .told) (at-args .text .now)) (at-head-words .result) (at-pre .1) (head-is (at-args .e) false (at-head-words .result) (sym (at-pre .1)) (at-head-words .ensures)) (at-if2 .left) _ (turns-nothing (at-loop .inv deps)
+          (at-loop-test .taken) (at-decode-element .last .1 .0) (at-decode-element .kept .1 .0) (at-decode-element .result) (at-decode-element .last .1 .1 .0) (at-args .counts .now) ((at-decode-element .ensures .0 .met (at-args .layout .now) deps (at-args .counts .now)) .fine (at-if3 .left)) (eqb (at-decode-element .result .taken) 0) refl (eq-eqb (at-decode-element .result .taken) 0 (c .before .if4 .taken))));
+    }
 
 sat-add-requires : tie.Need-sat-add-requires Inv-loop μ-loop
 sat-add-requires c κs = search needs
@@ -89,31 +151,80 @@ sat-add-requires-2 : tie.Need-sat-add-requires-2 Inv-loop μ-loop
 sat-add-requires-2 c κs = search needs
 
 add-used : tie.Need-add-used Inv-loop μ-loop
-add-used c = omega (arith, returned-written (c .before .before .before .before .before .before .before .before .before .before .before .before .before .before .before .loop .inv true .written) (c .before .before .before .before .before .before .before .before .before .before .before .decode-element .last .1 .0) (c .before .before .before .before .before .before .before .before .before .before .before .decode-element .kept .1 .0) _ ((c .before .before .before .before .before .before .before .before .before .before .before .decode-element .ensures .met [] true [] .fine (c .before .before .before .before .before .if3 .left)) .within) .within, c .before .before .before .before .before .before .before .before .before .before .before .before .before .before .before .before .before .before .before .before .before .before .before .before .before .before .good .1 .1 .0 .0)
+add-used c =
+    let at-good = c .before .before .before .before .before .before .before .before .before .before .before .before .before .before .before .before .before .before .before .before .before .before .before .before .before .before .good in
+    let at-loop = c .before .before .before .before .before .before .before .before .before .before .before .before .before .before .before .loop in
+    let at-decode-element = c .before .before .before .before .before .before .before .before .before .before .before .decode-element in
+    let at-if3 = c .before .before .before .before .before .if3 in
+    omega (arith, returned-written (at-loop .inv true .written) (at-decode-element .last .1 .0) (at-decode-element .kept .1 .0) _ ((at-decode-element .ensures .0 .met [] true [] .fine (at-if3 .left)) .within) .within, at-good .1 .1 .0 .0)
 
 add-members : tie.Need-add-members Inv-loop μ-loop
-add-members c = omega (arith, returned-written (c .before .before .before .before .before .before .before .before .before .before .before .before .before .before .before .before .loop .inv true .written) (c .before .before .before .before .before .before .before .before .before .before .before .before .decode-element .last .1 .0) (c .before .before .before .before .before .before .before .before .before .before .before .before .decode-element .kept .1 .0) _ ((c .before .before .before .before .before .before .before .before .before .before .before .before .decode-element .ensures .met [] true [] .fine (c .before .before .before .before .before .before .if3 .left)) .within) .within, c .before .before .before .before .before .before .before .before .before .before .before .before .before .before .before .before .before .before .before .before .before .before .before .before .before .before .before .good .1 .1 .0 .0, c .before .before .before .before .before .before .before .before .before .before .before .before .before .before .before .before .loop .inv true .few, (c .before .before .before .before .before .before .before .before .before .before .before .before .decode-element .ensures .met [] true [] .fine (c .before .before .before .before .before .before .if3 .left)) .few)
+add-members c =
+    let at-good = c .before .before .before .before .before .before .before .before .before .before .before .before .before .before .before .before .before .before .before .before .before .before .before .before .before .before .before .good in
+    let at-loop = c .before .before .before .before .before .before .before .before .before .before .before .before .before .before .before .before .loop in
+    let at-decode-element = c .before .before .before .before .before .before .before .before .before .before .before .before .decode-element in
+    let at-if3 = c .before .before .before .before .before .before .if3 in
+    omega (arith, returned-written (at-loop .inv true .written) (at-decode-element .last .1 .0) (at-decode-element .kept .1 .0) _ ((at-decode-element .ensures .0 .met [] true [] .fine (at-if3 .left)) .within) .within, at-good .1 .1 .0 .0, at-loop .inv true .few, (at-decode-element .ensures .0 .met [] true [] .fine (at-if3 .left)) .few)
 
 add-k : tie.Need-add-k Inv-loop μ-loop
-add-k c = omega (arith, c .before .before .before .before .before .before .before .before .before .before .before .before .before .before .before .loop-test .taken, c .before .before .before .before .before .before .before .before .before .before .before .before .before .before .before .before .before .before .before .before .before .before .how-many .ok)
+add-k c =
+    let at-how-many = c .before .before .before .before .before .before .before .before .before .before .before .before .before .before .before .before .before .before .before .before .before .before .how-many in
+    let at-loop-test = c .before .before .before .before .before .before .before .before .before .before .before .before .before .before .before .loop-test in
+    omega (arith, at-loop-test .taken, at-how-many .ok)
 
 loop-less : tie.Need-loop-less Inv-loop μ-loop
-loop-less c = omega (arith, c .before .before .before .before .before .before .before .before .before .before .before .before .before .before .before .loop-test .taken)
+loop-less c =
+    let at-loop-test = c .before .before .before .before .before .before .before .before .before .before .before .before .before .before .before .loop-test in
+    omega (arith, at-loop-test .taken)
 
 loop-again : tie.Need-loop-again Inv-loop μ-loop
-loop-again c = λ deps. turns-go (c .before .before .before .before .before .before .before .before .before .before .before .before .before .before .before .before .loop .inv deps) (c .before .before .before .before .before .before .before .before .before .before .before .before .before .before .before .loop-test .taken) (c .before .before .before .before .before .before .before .before .before .before .before .before .decode-element .last .1 .0) (c .before .before .before .before .before .before .before .before .before .before .before .before .decode-element .kept .1 .0) (c .before .before .before .before .before .before .before .before .before .before .before .before .decode-element .result) (c .before .before .before .before .before .before .before .before .before .before .before .before .decode-element .last .1 .1 .0) (c .before .before .before .before .before .before .before .before .before .before .before .before .before .before .before .before .before .before .before .before .before .before .before .before .before .before .before .args .counts .now) ((c .before .before .before .before .before .before .before .before .before .before .before .before .decode-element .ensures .met (c .before .before .before .before .before .before .before .before .before .before .before .before .before .before .before .before .before .before .before .before .before .before .before .before .before .before .before .args .layout .now) deps (c .before .before .before .before .before .before .before .before .before .before .before .before .before .before .before .before .before .before .before .before .before .before .before .before .before .before .before .args .counts .now)) .fine (c .before .before .before .before .before .before .if3 .left)) (eqb (c .before .before .before .before .before .before .before .before .before .before .before .before .decode-element .result .taken) 0) refl _ _ (c .before .before .before .before .before .before .before .before .before .before .before .before .decode-element .kept .1 .1 .0) refl (ne-eqb (c .before .before .before .before .before .before .before .before .before .before .before .before .decode-element .result .taken) 0 (c .before .before .before .before .if4 .left)) (c .before .before .before .sat-add .ensures) (c .before .before .sat-add2 .ensures)
+loop-again c =
+    let at-args = c .before .before .before .before .before .before .before .before .before .before .before .before .before .before .before .before .before .before .before .before .before .before .before .before .before .before .before .args in
+    let at-loop = c .before .before .before .before .before .before .before .before .before .before .before .before .before .before .before .before .loop in
+    let at-loop-test = c .before .before .before .before .before .before .before .before .before .before .before .before .before .before .before .loop-test in
+    let at-decode-element = c .before .before .before .before .before .before .before .before .before .before .before .before .decode-element in
+    let at-if3 = c .before .before .before .before .before .before .if3 in
+    let at-if4 = c .before .before .before .before .if4 in
+    let at-sat-add = c .before .before .before .sat-add in
+    let at-sat-add2 = c .before .before .sat-add2 in
+    λ deps. turns-go (at-loop .inv deps) (at-loop-test .taken) (at-decode-element .last .1 .0) (at-decode-element .kept .1 .0) (at-decode-element .result) (at-decode-element .last .1 .1 .0) (at-args .counts .now) ((at-decode-element .ensures .0 .met (at-args .layout .now) deps (at-args .counts .now)) .fine
+    (at-if3 .left)) (eqb (at-decode-element .result .taken) 0) refl _ _ (at-decode-element .kept .1 .1 .0) refl (ne-eqb (at-decode-element .result .taken) 0 (at-if4 .left)) (at-sat-add .ensures) (at-sat-add2 .ensures)
 
 listed-requires : tie.Need-listed-requires Inv-loop μ-loop
-listed-requires c κs = ((head-is (c .before .before .before .before .before .before .before .before .before .before .before .before .before .args .e) false (c .before .before .before .before .head-words .result) (sym (c .before .before .before .before .before .before .before .before .before .before .before .before .before .pre .1)) (c .before .before .before .before .head-words .ensures)), (omega (arith, c .before .before .loop .inv true .few), omega (arith, c .before .before .loop .inv true .written .within, c .before .before .loop .inv true .written .same)))
+listed-requires c κs =
+    let at-args = c .before .before .before .before .before .before .before .before .before .before .before .before .before .args in
+    let at-pre = c .before .before .before .before .before .before .before .before .before .before .before .before .before .pre in
+    let at-head-words = c .before .before .before .before .head-words in
+    let at-loop = c .before .before .loop in
+    ((head-is (at-args .e) false (at-head-words .result) (sym (at-pre .1)) (at-head-words .ensures)), (omega (arith, at-loop .inv true .few), omega (arith, at-loop .inv true .written .within, at-loop .inv true .written .same)))
 
 same-length-5 : tie.Need-same-length-5 Inv-loop μ-loop
-same-length-5 c = c .before .before .listed .kept .0 ∙ c .before .before .before .before .before .loop .inv true .written .same
+same-length-5 c =
+    let at-loop = c .before .before .before .before .before .loop in
+    let at-listed = c .before .before .listed in
+    at-listed .kept .0 ∙ at-loop .inv true .written .same
 
 same-length-6 : tie.Need-same-length-6 Inv-loop μ-loop
-same-length-6 c = c .before .before .before .before .before .loop .inv true .texts
+same-length-6 c =
+    let at-loop = c .before .before .before .before .before .loop in
+    at-loop .inv true .texts
 
 returns-5 : tie.Need-returns-5 Inv-loop μ-loop
-returns-5 c = record { met = λ deps. listed-met (c .before .before .before .before .before .before .before .before .before .before .before .before .before .before .before .before .args .e) (c .before .before .before .before .before .loop .inv deps) (c .before .before .before .before .loop-test .left) (head-is (c .before .before .before .before .before .before .before .before .before .before .before .before .before .before .before .before .args .e) false (c .before .before .before .before .before .before .before .head-words .result) (sym (c .before .before .before .before .before .before .before .before .before .before .before .before .before .before .before .before .pre .1)) (c .before .before .before .before .before .before .before .head-words .ensures)) (ap (λ m. table (c .before .before .before .before .before .before .before .before .before .before .before .before .before .before .before .before .args .e) (leafAt (kept (c .before .before .before .before .before .before .before .before .before .before .before .before .before .before .before .before .args .layout .now) (c .before .before .before .before .before .before .before .before .before .before .before .before .before .before .before .before .args .page) (length (c .before .before .before .before .before .before .before .before .before .before .before .before .before .before .before .before .args .text .now)) deps) (c .before .before .before .before .before .before .before .before .before .before .before .before .before .before .before .before .args .«record» .now) (c .before .before .before .before .before .before .before .before .before .before .before .before .before .before .before .before .args .e) 65536 false) m (c .before .before .before .before .before .before .before .before .before .before .before .before .before .before .before .before .args .at) (length (c .before .before .before .before .before .before .before .before .before .before .before .before .before .before .before .before .args .items .now)) (state (c .before .before .before .before .before .before .before .before .before .before .before .before .before .before .before .before .args .counts .now) (c .before .before .before .before .before .before .before .before .before .before .before .before .before .before .before .before .args .told) (c .before .before .before .before .before .before .before .before .before .before .before .before .before .before .before .before .args .text .now))) (c .before .before .before .before .before .before .before .before .before .before .before .how-many .ensures .fine (c .before .before .before .before .before .before .before .before .before .if1 .left)) ∙ table-is (c .before .before .before .before .before .before .before .before .before .before .before .before .before .before .before .before .args .e) (leafAt (kept (c .before .before .before .before .before .before .before .before .before .before .before .before .before .before .before .before .args .layout .now) (c .before .before .before .before .before .before .before .before .before .before .before .before .before .before .before .before .args .page) (length (c .before .before .before .before .before .before .before .before .before .before .before .before .before .before .before .before .args .text .now)) deps) (c .before .before .before .before .before .before .before .before .before .before .before .before .before .before .before .before .args .«record» .now) (c .before .before .before .before .before .before .before .before .before .before .before .before .before .before .before .before .args .e) 65536 false) (c .before .before .before .before .before .before .before .before .before .before .before .how-many .result .n) (c .before .before .before .before .before .before .before .before .before .before .before .before .before .before .before .before .args .at) (length (c .before .before .before .before .before .before .before .before .before .before .before .before .before .before .before .before .args .items .now)) (state (c .before .before .before .before .before .before .before .before .before .before .before .before .before .before .before .before .args .counts .now) (c .before .before .before .before .before .before .before .before .before .before .before .before .before .before .before .before .args .told) (c .before .before .before .before .before .before .before .before .before .before .before .before .before .before .before .before .args .text .now)) (c .before .before .before .before .before .before .before .head-words .result) (c .before .before .before .before .before .before .before .before .before .before .before .before .before .before .before .before .pre .1) (head-is (c .before .before .before .before .before .before .before .before .before .before .before .before .before .before .before .before .args .e) false (c .before .before .before .before .before .before .before .head-words .result) (sym (c .before .before .before .before .before .before .before .before .before .before .before .before .before .before .before .before .pre .1)) (c .before .before .before .before .before .before .before .head-words .ensures)) (c .before .before .before .before .before .before .if2 .left)) (c .before .before .listed .ensures) }
+returns-5 c =
+    let at-args = c .before .before .before .before .before .before .before .before .before .before .before .before .before .before .before .before .args in
+    let at-pre = c .before .before .before .before .before .before .before .before .before .before .before .before .before .before .before .before .pre in
+    let at-how-many = c .before .before .before .before .before .before .before .before .before .before .before .how-many in
+    let at-if1 = c .before .before .before .before .before .before .before .before .before .if1 in
+    let at-head-words = c .before .before .before .before .before .before .before .head-words in
+    let at-if2 = c .before .before .before .before .before .before .if2 in
+    let at-loop = c .before .before .before .before .before .loop in
+    let at-loop-test = c .before .before .before .before .loop-test in
+    let at-listed = c .before .before .listed in
+    record {
+      met = λ deps. listed-met (at-args .e) (at-loop .inv deps) (at-loop-test .left) (head-is (at-args .e) false (at-head-words .result) (sym (at-pre .1)) (at-head-words .ensures)) (ap (λ m. table (at-args .e) (leafAt (kept (at-args .layout .now) (at-args .page) (length (at-args .text .now)) deps)
+          (at-args .«record» .now) (at-args .e) 65536 false) m (at-args .at) (length (at-args .items .now)) (state (at-args .counts .now) (at-args .told) (at-args .text .now))) (at-how-many .ensures .fine (at-if1 .left)) ∙ table-is (at-args .e) (leafAt (kept (at-args .layout .now) (at-args .page) (length
+          (at-args .text .now)) deps) (at-args .«record» .now) (at-args .e) 65536 false) (at-how-many .result .n) (at-args .at) (length (at-args .items .now)) (state (at-args .counts .now) (at-args .told) (at-args .text .now)) (at-head-words .result) (at-pre .1) (head-is (at-args .e) false (at-head-words .result) (sym (at-pre .1)) (at-head-words .ensures)) (at-if2 .left)) (at-listed .ensures);
+    }
 
 pub decode-table-spec : {M : Type 1} → statement M
 decode-table-spec =

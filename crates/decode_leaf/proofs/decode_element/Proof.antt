@@ -1,3 +1,6 @@
+-- As one that is no element, for any layout and any counts.
+use Rattle.decode_leaf.proofs.Scalars.{text-outside, text-pad, text-scalar}
+use mathlib.Core.Path.{refl}
 use mathlib.Core.Bool.{false}
 use mathlib.Core.List.{[]}
 use Prim.Native.Nat.{_-_}
@@ -14,16 +17,41 @@ refusal-requires : tie.Need-refusal-requires
 refusal-requires c κs = search needs
 
 returns : tie.Need-returns
-returns c = record { met = λ l deps run. leaf-outside l (c .before .before .before .before .before .before .args .«record» .now) (c .before .before .before .before .before .before .args .page) deps (c .before .before .before .before .before .before .args .e) 65536 false (c .before .before .before .before .before .before .args .at) (length (c .before .before .before .before .before .before .args .items .now)) run (c .before .before .before .before .before .before .args .told) (c .before .before .before .before .before .before .args .text .now) (c .before .before .inside-record .result) (c .before .before .inside-record .ensures) (c .before .if1 .taken) (c .refusal .ensures) }
+returns c =
+    let at-args = c .before .before .before .before .before .before .args in
+    let at-inside-record = c .before .before .inside-record in (
+      record {
+        met = λ l deps run. leaf-outside l (at-args .«record» .now) (at-args .page) deps (at-args .e) 65536 false (at-args .at) (length (at-args .items .now)) run (at-args .told) (at-args .text .now) (at-inside-record .result) (at-inside-record .ensures) (c .before .if1 .taken)
+            (c .refusal .ensures);
+        rest = refl;
+      },
+      text-outside (at-args .«record» .now) (at-args .page) (at-args .e) (at-args .at) (at-args .told) (at-args .text .now) (at-inside-record .result) (at-inside-record .ensures) (c .before .if1 .taken),
+    )
 
 passed-requires : tie.Need-passed-requires
 passed-requires c κs = search needs
 
 returns-2 : tie.Need-returns-2
-returns-2 c = record { met = λ l deps run. leaf-pad l (c .before .before .before .before .before .before .before .before .args .«record» .now) (c .before .before .before .before .before .before .before .before .args .page) deps (c .before .before .before .before .before .before .before .before .args .e) 65536 false (c .before .before .before .before .before .before .before .before .args .at) (length (c .before .before .before .before .before .before .before .before .args .items .now)) run (c .before .before .before .before .before .before .before .before .args .told) (c .before .before .before .before .before .before .before .before .args .text .now) (c .before .before .before .before .inside-record .result) (c .before .before .before .before .inside-record .ensures) (c .before .before .before .if1 .left) (c .before .if2 .taken) (c .before .before .before .before .before .before .before .before .pre) (c .passed .ensures) }
+returns-2 c =
+    let at-args = c .before .before .before .before .before .before .before .before .args in
+    let at-pre = c .before .before .before .before .before .before .before .before .pre in
+    let at-inside-record = c .before .before .before .before .inside-record in
+    let at-if1 = c .before .before .before .if1 in (
+      record {
+        met = λ l deps run. leaf-pad l (at-args .«record» .now) (at-args .page) deps (at-args .e) 65536 false (at-args .at) (length (at-args .items .now)) run (at-args .told) (at-args .text .now) (at-inside-record .result) (at-inside-record .ensures) (at-if1 .left) (c .before .if2 .taken) (at-pre)
+            (c .passed .ensures);
+        rest = refl;
+      },
+      text-pad (at-args .«record» .now) (at-args .page) (at-args .e) (at-args .at) (at-args .told) (at-args .text .now) (at-inside-record .result) (at-inside-record .ensures) (at-if1 .left) (c .before .if2 .taken),
+    )
 
 element-value-requires : tie.Need-element-value-requires
-element-value-requires c κs = (leaf-inside [] (c .before .before .before .before .before .before .before .before .before .args .«record» .now) (c .before .before .before .before .before .before .before .before .before .args .page) false (c .before .before .before .before .before .before .before .before .before .args .e) 65536 false (c .before .before .before .before .before .before .before .before .before .args .at) (length (c .before .before .before .before .before .before .before .before .before .args .items .now)) [] (c .before .before .before .before .before .before .before .before .before .args .told) (c .before .before .before .before .before .before .before .before .before .args .text .now) (c .before .before .before .before .before .inside-record .result) (c .before .before .before .before .before .inside-record .ensures) (c .before .before .before .before .if1 .left), c .before .before .before .before .before .before .before .before .before .pre)
+element-value-requires c κs =
+    let at-args = c .before .before .before .before .before .before .before .before .before .args in
+    let at-pre = c .before .before .before .before .before .before .before .before .before .pre in
+    let at-inside-record = c .before .before .before .before .before .inside-record in
+    let at-if1 = c .before .before .before .before .if1 in
+    (leaf-inside [] (at-args .«record» .now) (at-args .page) false (at-args .e) 65536 false (at-args .at) (length (at-args .items .now)) [] (at-args .told) (at-args .text .now) (at-inside-record .result) (at-inside-record .ensures) (at-if1 .left), at-pre)
 
 same-length : tie.Need-same-length
 same-length c = search needs
@@ -32,7 +60,18 @@ same-length-2 : tie.Need-same-length-2
 same-length-2 c = search needs
 
 returns-3 : tie.Need-returns-3
-returns-3 c = record { met = λ l deps run. leaf-scalar l (c .before .before .before .before .before .before .before .before .before .before .before .before .before .before .args .«record» .now) (c .before .before .before .before .before .before .before .before .before .before .before .before .before .before .args .page) deps (c .before .before .before .before .before .before .before .before .before .before .before .before .before .before .args .e) 65536 false (c .before .before .before .before .before .before .before .before .before .before .before .before .before .before .args .at) (length (c .before .before .before .before .before .before .before .before .before .before .before .before .before .before .args .items .now)) run (c .before .before .before .before .before .before .before .before .before .before .before .before .before .before .args .told) (c .before .before .before .before .before .before .before .before .before .before .before .before .before .before .args .text .now) (c .before .before .before .before .before .before .before .before .before .before .inside-record .result) (c .before .before .before .before .before .before .before .before .before .before .inside-record .ensures) (c .before .before .before .before .before .before .before .if2 .left) (c .before .before .before .before .element-value .ensures .met l deps run) }
+returns-3 c =
+    let at-args = c .before .before .before .before .before .before .before .before .before .before .before .before .before .before .args in
+    let at-inside-record = c .before .before .before .before .before .before .before .before .before .before .inside-record in
+    let at-if1 = c .before .before .before .before .before .before .before .before .before .if1 in
+    let at-if2 = c .before .before .before .before .before .before .before .if2 in
+    let at-element-value = c .before .before .before .before .element-value in (
+      record {
+        met = λ l deps run. leaf-scalar l (at-args .«record» .now) (at-args .page) deps (at-args .e) 65536 false (at-args .at) (length (at-args .items .now)) run (at-args .told) (at-args .text .now) (at-inside-record .result) (at-inside-record .ensures) (at-if2 .left) (at-element-value .ensures .0 .met l deps run);
+        rest = at-element-value .ensures .0 .rest;
+      },
+      text-scalar (at-args .«record» .now) (at-args .page) (at-args .e) (at-args .at) (at-args .told) (at-args .text .now) (at-inside-record .result) (at-inside-record .ensures) (at-if1 .left) (at-if2 .left) (at-element-value .ensures .1),
+    )
 
 pub decode-element-spec : {M : Type 1} → statement M
 decode-element-spec =

@@ -1,3 +1,6 @@
+-- Outside the record nothing is written; a Pad writes nothing; any other entry is a scalar inside the record.
+use Rattle.decode_leaf.proofs.Scalars.{text-outside, text-pad, text-scalar}
+use mathlib.Core.Path.{refl}
 use mathlib.Core.Bool.{true}
 use Prim.Native.Nat.{_-_}
 use lib.ListN.{length, take}
@@ -13,16 +16,43 @@ refusal-requires : tie.Need-refusal-requires
 refusal-requires c κs = search needs
 
 returns : tie.Need-returns
-returns c = leaf-outside (c .before .before .before .before .before .before .before .args .layout .now) (c .before .before .before .before .before .before .before .args .«record» .now) (c .before .before .before .before .before .before .before .args .page) (c .before .before .before .before .before .before .before .args .deps) (c .before .before .before .before .before .before .before .args .e) (c .before .before .before .before .before .before .before .args .e .name) true (c .before .before .before .before .before .before .before .args .at) (length (c .before .before .before .before .before .before .before .args .items .now)) (c .before .before .before .before .before .before .before .args .counts .now) (c .before .before .before .before .before .before .before .args .told) (c .before .before .before .before .before .before .before .args .text .now) (c .before .before .inside-record .result) (c .before .before .inside-record .ensures) (c .before .if1 .taken) (c .refusal .ensures)
+returns c =
+    let at-args = c .before .before .before .before .before .before .before .args in
+    let at-inside-record = c .before .before .inside-record in (
+      record {
+        met = leaf-outside (at-args .layout .now) (at-args .«record» .now) (at-args .page) (at-args .deps) (at-args .e) (at-args .e .name) true (at-args .at) (length (at-args .items .now)) (at-args .counts .now) (at-args .told) (at-args .text .now) (at-inside-record .result) (at-inside-record .ensures)
+            (c .before .if1 .taken) (c .refusal .ensures);
+        rest = refl;
+        counts = λ _. refl;
+      },
+      text-outside (at-args .«record» .now) (at-args .page) (at-args .e) (at-args .at) (at-args .told) (at-args .text .now) (at-inside-record .result) (at-inside-record .ensures) (c .before .if1 .taken),
+    )
 
 passed-requires : tie.Need-passed-requires
 passed-requires c κs = search needs
 
 returns-2 : tie.Need-returns-2
-returns-2 c = leaf-pad (c .before .before .before .before .before .before .before .before .before .args .layout .now) (c .before .before .before .before .before .before .before .before .before .args .«record» .now) (c .before .before .before .before .before .before .before .before .before .args .page) (c .before .before .before .before .before .before .before .before .before .args .deps) (c .before .before .before .before .before .before .before .before .before .args .e) (c .before .before .before .before .before .before .before .before .before .args .e .name) true (c .before .before .before .before .before .before .before .before .before .args .at) (length (c .before .before .before .before .before .before .before .before .before .args .items .now)) (c .before .before .before .before .before .before .before .before .before .args .counts .now) (c .before .before .before .before .before .before .before .before .before .args .told) (c .before .before .before .before .before .before .before .before .before .args .text .now) (c .before .before .before .before .inside-record .result) (c .before .before .before .before .inside-record .ensures) (c .before .before .before .if1 .left) (c .before .if2 .taken) (c .before .before .before .before .before .before .before .before .before .pre) (c .passed .ensures)
+returns-2 c =
+    let at-args = c .before .before .before .before .before .before .before .before .before .args in
+    let at-pre = c .before .before .before .before .before .before .before .before .before .pre in
+    let at-inside-record = c .before .before .before .before .inside-record in
+    let at-if1 = c .before .before .before .if1 in (
+      record {
+        met = leaf-pad (at-args .layout .now) (at-args .«record» .now) (at-args .page) (at-args .deps) (at-args .e) (at-args .e .name) true (at-args .at) (length (at-args .items .now)) (at-args .counts .now) (at-args .told) (at-args .text .now) (at-inside-record .result) (at-inside-record .ensures)
+            (at-if1 .left) (c .before .if2 .taken) (at-pre) (c .passed .ensures);
+        rest = refl;
+        counts = λ _. refl;
+      },
+      text-pad (at-args .«record» .now) (at-args .page) (at-args .e) (at-args .at) (at-args .told) (at-args .text .now) (at-inside-record .result) (at-inside-record .ensures) (at-if1 .left) (c .before .if2 .taken),
+    )
 
 lone-value-requires : tie.Need-lone-value-requires
-lone-value-requires c κs = (leaf-inside (c .before .before .before .before .before .before .before .before .before .before .before .args .layout .now) (c .before .before .before .before .before .before .before .before .before .before .before .args .«record» .now) (c .before .before .before .before .before .before .before .before .before .before .before .args .page) (c .before .before .before .before .before .before .before .before .before .before .before .args .deps) (c .before .before .before .before .before .before .before .before .before .before .before .args .e) (c .before .before .before .before .before .before .before .before .before .before .before .args .e .name) true (c .before .before .before .before .before .before .before .before .before .before .before .args .at) (length (c .before .before .before .before .before .before .before .before .before .before .before .args .items .now)) (c .before .before .before .before .before .before .before .before .before .before .before .args .counts .now) (c .before .before .before .before .before .before .before .before .before .before .before .args .told) (c .before .before .before .before .before .before .before .before .before .before .before .args .text .now) (c .before .before .before .before .before .before .inside-record .result) (c .before .before .before .before .before .before .inside-record .ensures) (c .before .before .before .before .before .if1 .left), c .before .before .before .before .before .before .before .before .before .before .before .pre)
+lone-value-requires c κs =
+    let at-args = c .before .before .before .before .before .before .before .before .before .before .before .args in
+    let at-pre = c .before .before .before .before .before .before .before .before .before .before .before .pre in
+    let at-inside-record = c .before .before .before .before .before .before .inside-record in
+    let at-if1 = c .before .before .before .before .before .if1 in
+    (leaf-inside (at-args .layout .now) (at-args .«record» .now) (at-args .page) (at-args .deps) (at-args .e) (at-args .e .name) true (at-args .at) (length (at-args .items .now)) (at-args .counts .now) (at-args .told) (at-args .text .now) (at-inside-record .result) (at-inside-record .ensures) (at-if1 .left), at-pre)
 
 same-length : tie.Need-same-length
 same-length c = search needs
@@ -34,7 +64,19 @@ same-length-3 : tie.Need-same-length-3
 same-length-3 c = search needs
 
 returns-3 : tie.Need-returns-3
-returns-3 c = leaf-scalar (c .before .before .before .before .before .before .before .before .before .before .before .before .before .before .before .before .before .args .layout .now) (c .before .before .before .before .before .before .before .before .before .before .before .before .before .before .before .before .before .args .«record» .now) (c .before .before .before .before .before .before .before .before .before .before .before .before .before .before .before .before .before .args .page) (c .before .before .before .before .before .before .before .before .before .before .before .before .before .before .before .before .before .args .deps) (c .before .before .before .before .before .before .before .before .before .before .before .before .before .before .before .before .before .args .e) (c .before .before .before .before .before .before .before .before .before .before .before .before .before .before .before .before .before .args .e .name) true (c .before .before .before .before .before .before .before .before .before .before .before .before .before .before .before .before .before .args .at) (length (c .before .before .before .before .before .before .before .before .before .before .before .before .before .before .before .before .before .args .items .now)) (c .before .before .before .before .before .before .before .before .before .before .before .before .before .before .before .before .before .args .counts .now) (c .before .before .before .before .before .before .before .before .before .before .before .before .before .before .before .before .before .args .told) (c .before .before .before .before .before .before .before .before .before .before .before .before .before .before .before .before .before .args .text .now) (c .before .before .before .before .before .before .before .before .before .before .before .before .inside-record .result) (c .before .before .before .before .before .before .before .before .before .before .before .before .inside-record .ensures) (c .before .before .before .before .before .before .before .before .before .if2 .left) (c .before .before .before .before .before .lone-value .ensures)
+returns-3 c =
+    let at-args = c .before .before .before .before .before .before .before .before .before .before .before .before .before .before .before .before .before .args in
+    let at-inside-record = c .before .before .before .before .before .before .before .before .before .before .before .before .inside-record in
+    let at-if1 = c .before .before .before .before .before .before .before .before .before .before .before .if1 in
+    let at-if2 = c .before .before .before .before .before .before .before .before .before .if2 in
+    let at-lone-value = c .before .before .before .before .before .lone-value in (
+      record {
+        met = leaf-scalar (at-args .layout .now) (at-args .«record» .now) (at-args .page) (at-args .deps) (at-args .e) (at-args .e .name) true (at-args .at) (length (at-args .items .now)) (at-args .counts .now) (at-args .told) (at-args .text .now) (at-inside-record .result) (at-inside-record .ensures) (at-if2 .left) (at-lone-value .ensures .0 .met);
+        rest = at-lone-value .ensures .0 .rest;
+        counts = at-lone-value .ensures .0 .counts;
+      },
+      text-scalar (at-args .«record» .now) (at-args .page) (at-args .e) (at-args .at) (at-args .told) (at-args .text .now) (at-inside-record .result) (at-inside-record .ensures) (at-if1 .left) (at-if2 .left) (at-lone-value .ensures .1),
+    )
 
 pub decode-lone-spec : {M : Type 1} → statement M
 decode-lone-spec =

@@ -16,7 +16,9 @@ how-many-requires : tie.Need-how-many-requires
 how-many-requires c κs = search needs
 
 returns-2 : tie.Need-returns-2
-returns-2 c = counted-table _ _ _ (sym (c .before .before .is-single .ensures) ∙ c .before .if1 .left) (c .how-many .ensures)
+returns-2 c =
+    let at-is-single = c .before .before .is-single in
+    counted-table _ _ _ (sym (at-is-single .ensures) ∙ c .before .if1 .left) (c .how-many .ensures)
 
 pub element-count-spec : {M : Type 1} → statement M
 element-count-spec = tie.close (tie.spec is-single-requires returns how-many-requires returns-2)

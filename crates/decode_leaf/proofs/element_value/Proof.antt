@@ -1,9 +1,10 @@
+-- As a single scalar, for any layout and any counts, since an element sets none.
+use mathlib.Core.Path.{refl}
 use mathlib.Core.Bool.{false}
 use mathlib.Core.List.{[]}
 use Prim.Native.Nat.{_-_}
 use native.Mathlib.Omega.{arith}
 use lib.ListN.{length}
-use Rattle.decode_leaf.proofs.Meets.{placed-any}
 use Rattle.decode_leaf.proofs.Scalars.{value-refuses, value-read, value-reads, note-none}
 use borrow.Author.Needs.{needs}
 use Rattle.decode_leaf.proofs.element_value.Statement.{statement}
@@ -22,13 +23,24 @@ enum-known-v : tie.Need-enum-known-v
 enum-known-v c = search needs
 
 place-element-requires : tie.Need-place-element-requires
-place-element-requires c κs = omega (arith, value-read [] (c .before .before .before .before .before .before .before .before .before .before .before .args .«record» .now) (c .before .before .before .before .before .before .before .before .before .before .before .args .page) false (c .before .before .before .before .before .before .before .before .before .before .before .args .e) 65536 false (c .before .before .before .before .before .before .before .before .before .before .before .args .at) (length (c .before .before .before .before .before .before .before .before .before .before .before .args .items .now)) [] (c .before .before .before .before .before .before .before .before .before .before .before .args .told) (c .before .before .before .before .before .before .before .before .before .before .before .args .text .now) (c .before .before .before .before .before .before .before .before .before .before .before .pre .0) (c .before .before .before .before .before .before .before .before .before .before .before .pre .1) (c .before .before .before .before .before .before .read-part .result) (c .before .before .before .before .before .before .read-part .ensures .0) _ (c .before .before .v .given .1) (c .before .before .before .before .before .before .read-part .last .1 .0) (c .before .before .before .before .before .before .read-part .ensures .1) .within, value-read [] (c .before .before .before .before .before .before .before .before .before .before .before .args .«record» .now) (c .before .before .before .before .before .before .before .before .before .before .before .args .page) false (c .before .before .before .before .before .before .before .before .before .before .before .args .e) 65536 false (c .before .before .before .before .before .before .before .before .before .before .before .args .at) (length (c .before .before .before .before .before .before .before .before .before .before .before .args .items .now)) [] (c .before .before .before .before .before .before .before .before .before .before .before .args .told) (c .before .before .before .before .before .before .before .before .before .before .before .args .text .now) (c .before .before .before .before .before .before .before .before .before .before .before .pre .0) (c .before .before .before .before .before .before .before .before .before .before .before .pre .1) (c .before .before .before .before .before .before .read-part .result) (c .before .before .before .before .before .before .read-part .ensures .0) _ (c .before .before .v .given .1) (c .before .before .before .before .before .before .read-part .last .1 .0) (c .before .before .before .before .before .before .read-part .ensures .1) .same)
+place-element-requires c κs =
+    let at-args = c .before .before .before .before .before .before .before .before .before .before .before .args in
+    let at-pre = c .before .before .before .before .before .before .before .before .before .before .before .pre in
+    let at-read-part = c .before .before .before .before .before .before .read-part in
+    let at-v = c .before .before .v in
+    let read = value-read [] (at-args .«record» .now) (at-args .page) false (at-args .e) 65536 false (at-args .at) (length (at-args .items .now)) [] (at-args .told) (at-args .text .now) (at-pre .0) (at-pre .1) (at-read-part .result) (at-read-part .ensures .0) _ (at-v .given .1) (at-read-part .last .1 .0) (at-read-part .ensures .1) in
+    omega (arith, read .within, read .same)
 
 same-length : tie.Need-same-length
 same-length c = search needs
 
 returns : tie.Need-returns
-returns c = record { met = λ l deps run. value-refuses l (c .before .before .before .before .before .before .before .before .before .before .before .args .«record» .now) (c .before .before .before .before .before .before .before .before .before .before .before .args .page) deps (c .before .before .before .before .before .before .before .before .before .before .before .args .e) 65536 false (c .before .before .before .before .before .before .before .before .before .before .before .args .at) (length (c .before .before .before .before .before .before .before .before .before .before .before .args .items .now)) run (c .before .before .before .before .before .before .before .before .before .before .before .args .told) (c .before .before .before .before .before .before .before .before .before .before .before .args .text .now) (c .before .before .before .before .before .before .before .before .before .before .before .pre .0) (c .before .before .before .before .before .before .before .before .before .before .before .pre .1) (c .before .before .before .before .before .before .read-part .result) (c .before .before .before .before .before .before .read-part .ensures .0) _ (c .before .before .n .given .1) (c .refusal .ensures) }
+returns c =
+    let at-args = c .before .before .before .before .before .before .before .before .before .before .before .args in
+    let at-pre = c .before .before .before .before .before .before .before .before .before .before .before .pre in
+    let at-read-part = c .before .before .before .before .before .before .read-part in
+    let at-n = c .before .before .n in
+    (record { met = λ l deps run. value-refuses l (at-args .«record» .now) (at-args .page) deps (at-args .e) 65536 false (at-args .at) (length (at-args .items .now)) run (at-args .told) (at-args .text .now) (at-pre .0) (at-pre .1) (at-read-part .result) (at-read-part .ensures .0) _ (at-n .given .1) (c .refusal .ensures); rest = refl }, at-read-part .ensures .1)
 
 same-length-2 : tie.Need-same-length-2
 same-length-2 c = search needs
@@ -37,7 +49,19 @@ same-length-3 : tie.Need-same-length-3
 same-length-3 c = search needs
 
 returns-2 : tie.Need-returns-2
-returns-2 c = record { met = λ l deps run. value-reads l (c .before .before .before .before .before .before .before .before .before .before .before .before .before .before .args .«record» .now) (c .before .before .before .before .before .before .before .before .before .before .before .before .before .before .args .page) deps (c .before .before .before .before .before .before .before .before .before .before .before .before .before .before .args .e) 65536 false (c .before .before .before .before .before .before .before .before .before .before .before .before .before .before .args .at) (length (c .before .before .before .before .before .before .before .before .before .before .before .before .before .before .args .items .now)) run (c .before .before .before .before .before .before .before .before .before .before .before .before .before .before .args .told) (c .before .before .before .before .before .before .before .before .before .before .before .before .before .before .args .text .now) (c .before .before .before .before .before .before .before .before .before .before .before .before .before .before .pre .0) (c .before .before .before .before .before .before .before .before .before .before .before .before .before .before .pre .1) (c .before .before .before .before .before .before .before .before .before .read-part .result) (c .before .before .before .before .before .before .before .before .before .read-part .ensures .0) _ (c .before .before .before .before .before .v .given .1) (c .before .before .before .before .before .before .before .before .before .read-part .last .1 .0) (c .before .before .before .before .before .before .before .before .before .read-part .ensures .1) (placed-any (note-none l deps (c .before .before .before .before .before .before .before .before .before .before .before .before .before .before .args .e) _ run) (c .before .before .place-element .ensures)) }
+returns-2 c =
+    let at-args = c .before .before .before .before .before .before .before .before .before .before .before .before .before .before .args in
+    let at-pre = c .before .before .before .before .before .before .before .before .before .before .before .before .before .before .pre in
+    let at-read-part = c .before .before .before .before .before .before .before .before .before .read-part in
+    let at-v = c .before .before .before .before .before .v in
+    let at-place-element = c .before .before .place-element in (
+      record {
+        met = λ l deps run. value-reads l (at-args .«record» .now) (at-args .page) deps (at-args .e) 65536 false (at-args .at) (length (at-args .items .now)) run (at-args .told) (at-args .text .now) (at-pre .0) (at-pre .1) (at-read-part .result) (at-read-part .ensures .0) _ (at-v .given .1) (at-read-part .last .1 .0) (at-read-part .ensures .1)
+            (λ _. note-none l deps (at-args .e) _ run) (at-place-element .ensures);
+        rest = at-place-element .ensures .rest;
+      },
+      at-read-part .ensures .1,
+    )
 
 pub element-value-spec : {M : Type 1} → statement M
 element-value-spec =

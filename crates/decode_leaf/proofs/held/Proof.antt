@@ -1,4 +1,4 @@
-use mathlib.Core.Path.{refl}
+-- By the first of the two words: no count yet, a negative number, or the second word.
 use Prim.Native.Nat.{_-_}
 use lib.ListN.{take}
 use Rattle.decode_leaf.proofs.Runs.{held-none, held-minus, held-count}
@@ -16,10 +16,17 @@ word-in-requires : tie.Need-word-in-requires
 word-in-requires c κs = search needs
 
 returns : tie.Need-returns
-returns c = held-none (c .before .before .before .before .args .layout .now) (c .before .before .before .before .args .name) (c .before .before .before .before .args .counts .now) (c .before .before .first-of .result) (c .before .word-in .result) (c .before .before .first-of .ensures .0) (c .before .word-in .ensures) (c .if1 .taken) _ refl
+returns c =
+    let at-args = c .before .before .before .before .args in
+    let at-first-of = c .before .before .first-of in
+    held-none (at-args .layout .now) (at-args .name) (at-args .counts .now) (at-first-of .result) (c .before .word-in .result) (at-first-of .ensures .0) (c .before .word-in .ensures) (c .if1 .taken)
 
 returns-2 : tie.Need-returns-2
-returns-2 c = held-minus (c .before .before .before .before .before .args .layout .now) (c .before .before .before .before .before .args .name) (c .before .before .before .before .before .args .counts .now) (c .before .before .before .first-of .result) (c .before .before .word-in .result) (c .before .before .before .first-of .ensures .0) (c .before .before .word-in .ensures) (c .if2 .taken) _ refl
+returns-2 c =
+    let at-args = c .before .before .before .before .before .args in
+    let at-first-of = c .before .before .before .first-of in
+    let at-word-in = c .before .before .word-in in
+    held-minus (at-args .layout .now) (at-args .name) (at-args .counts .now) (at-first-of .result) (at-word-in .result) (at-first-of .ensures .0) (at-word-in .ensures) (c .if2 .taken)
 
 mul-word-in-2 : tie.Need-mul-word-in-2
 mul-word-in-2 c = search needs
@@ -31,7 +38,12 @@ word-in-requires-2 : tie.Need-word-in-requires-2
 word-in-requires-2 c κs = search needs
 
 returns-3 : tie.Need-returns-3
-returns-3 c = held-count (c .before .before .before .before .before .before .args .layout .now) (c .before .before .before .before .before .before .args .name) (c .before .before .before .before .before .before .args .counts .now) (c .before .before .before .before .first-of .result) (c .before .before .before .word-in .result) (c .before .before .before .before .first-of .ensures .0) (c .before .before .before .word-in .ensures) (c .before .before .if1 .left) (c .before .if2 .left) _ (c .word-in2 .ensures)
+returns-3 c =
+    let at-args = c .before .before .before .before .before .before .args in
+    let at-first-of = c .before .before .before .before .first-of in
+    let at-word-in = c .before .before .before .word-in in
+    let at-if1 = c .before .before .if1 in
+    held-count (at-args .layout .now) (at-args .name) (at-args .counts .now) (at-first-of .result) (at-word-in .result) (at-first-of .ensures .0) (at-word-in .ensures) (at-if1 .left) (c .before .if2 .left) _ (c .word-in2 .ensures)
 
 pub held-spec : {M : Type 1} → statement M
 held-spec =

@@ -22,7 +22,11 @@ same-length-2 : tie.Need-same-length-2
 same-length-2 c = search needs
 
 returns : tie.Need-returns
-returns c = with-counts (not-asked (c .before .before .before .before .before .before .before .before .before .before .before .before .before .before .args .layout .now) (c .before .before .before .before .before .before .before .before .before .before .before .before .before .before .args .masks .now) (c .before .before .before .before .before .before .before .before .before .before .before .before .before .before .args .page) (c .before .before .before .before .before .before .before .before .before .before .before .before .before .before .args .items .now) (c .before .before .before .before .before .before .before .before .before .before .before .before .before .before .args .text .now) (length (c .before .before .before .before .before .before .before .before .before .before .before .before .before .before .args .«record» .now)) (length (c .before .before .before .before .before .before .before .before .before .before .before .before .before .before .args .counts .now)) _ (c .before .before .before .before .before .before .before .asked .ensures) (c .if1 .taken) _ (c .before .before .before .before .clear .ensures .0)) (c .before .before .before .before .clear .ensures .1)
+returns c =
+    let at-args = c .before .before .before .before .before .before .before .before .before .before .before .before .before .before .args in
+    let at-asked = c .before .before .before .before .before .before .before .asked in
+    let at-clear = c .before .before .before .before .clear in
+    with-counts (not-asked (at-args .layout .now) (at-args .masks .now) (at-args .page) (at-args .items .now) (at-args .text .now) (length (at-args .«record» .now)) (length (at-args .counts .now)) _ (at-asked .ensures) (c .if1 .taken) _ (at-clear .ensures .0)) (at-clear .ensures .1)
 
 encode-seq-requires : tie.Need-encode-seq-requires
 encode-seq-requires c κs = search needs
@@ -37,7 +41,15 @@ same-length-4 : tie.Need-same-length-4
 same-length-4 c = search needs
 
 returns-2 : tie.Need-returns-2
-returns-2 c = with-counts (not-walked (c .before .before .before .before .before .before .before .before .before .before .before .before .before .before .before .before .before .before .before .before .before .before .before .before .args .layout .now) (c .before .before .before .before .before .before .before .before .before .before .before .before .before .before .before .before .before .before .before .before .before .before .before .before .args .masks .now) (c .before .before .before .before .before .before .before .before .before .before .before .before .before .before .before .before .before .before .before .before .before .before .before .before .args .page) (c .before .before .before .before .before .before .before .before .before .before .before .before .before .before .before .before .before .before .before .before .before .before .before .before .args .items .now) (c .before .before .before .before .before .before .before .before .before .before .before .before .before .before .before .before .before .before .before .before .before .before .before .before .args .text .now) (length (c .before .before .before .before .before .before .before .before .before .before .before .before .before .before .before .before .before .before .before .before .before .before .before .before .args .«record» .now)) (length (c .before .before .before .before .before .before .before .before .before .before .before .before .before .before .before .before .before .before .before .before .before .before .before .before .args .counts .now)) _ (c .before .before .before .before .before .before .before .before .before .before .before .before .before .before .before .before .before .asked .ensures) (c .before .before .before .before .before .before .before .before .before .before .if1 .left) _ (c .before .before .before .before .before .before .before .before .before .before .before .before .before .before .clear .ensures .0) _ (c .before .before .before .before .before .before .before .before .encode-seq .ensures .refuses (c .before .before .before .before .if2 .taken)) _ (c .before .before .fill .ensures ∙ ap (λ n. replicate n 0) (c .before .before .before .before .before .before .before .before .encode-seq .kept .1 .1 .1 .1 .0 ∙ c .before .before .before .before .before .before .before .before .before .before .before .before .before .before .clear .kept .0))) (c .before .before .before .before .before .before .before .before .before .before .before .before .before .before .clear .ensures .1)
+returns-2 c =
+    let at-args = c .before .before .before .before .before .before .before .before .before .before .before .before .before .before .before .before .before .before .before .before .before .before .before .before .args in
+    let at-asked = c .before .before .before .before .before .before .before .before .before .before .before .before .before .before .before .before .before .asked in
+    let at-clear = c .before .before .before .before .before .before .before .before .before .before .before .before .before .before .clear in
+    let at-if1 = c .before .before .before .before .before .before .before .before .before .before .if1 in
+    let at-encode-seq = c .before .before .before .before .before .before .before .before .encode-seq in
+    let at-if2 = c .before .before .before .before .if2 in
+    let at-fill = c .before .before .fill in
+    with-counts (not-walked (at-args .layout .now) (at-args .masks .now) (at-args .page) (at-args .items .now) (at-args .text .now) (length (at-args .«record» .now)) (length (at-args .counts .now)) _ (at-asked .ensures) (at-if1 .left) _ (at-clear .ensures .0) _ (at-encode-seq .ensures .refuses (at-if2 .taken) .0) _ (at-fill .ensures ∙ ap (λ n. replicate n 0) (at-encode-seq .kept .1 .1 .1 .1 .0 ∙ at-clear .kept .0))) (at-clear .ensures .1)
 
 less-requires : tie.Need-less-requires
 less-requires c κs = search needs
@@ -52,7 +64,15 @@ same-length-6 : tie.Need-same-length-6
 same-length-6 c = search needs
 
 returns-3 : tie.Need-returns-3
-returns-3 c = with-counts (all-walked (c .before .before .before .before .before .before .before .before .before .before .before .before .before .before .before .before .before .before .before .before .before .before .args .layout .now) (c .before .before .before .before .before .before .before .before .before .before .before .before .before .before .before .before .before .before .before .before .before .before .args .masks .now) (c .before .before .before .before .before .before .before .before .before .before .before .before .before .before .before .before .before .before .before .before .before .before .args .page) (c .before .before .before .before .before .before .before .before .before .before .before .before .before .before .before .before .before .before .before .before .before .before .args .items .now) (c .before .before .before .before .before .before .before .before .before .before .before .before .before .before .before .before .before .before .before .before .before .before .args .text .now) (length (c .before .before .before .before .before .before .before .before .before .before .before .before .before .before .before .before .before .before .before .before .before .before .args .«record» .now)) (length (c .before .before .before .before .before .before .before .before .before .before .before .before .before .before .before .before .before .before .before .before .before .before .args .counts .now)) _ (c .before .before .before .before .before .before .before .before .before .before .before .before .before .before .before .asked .ensures) (c .before .before .before .before .before .before .before .before .if1 .left) _ (c .before .before .before .before .before .before .before .before .before .before .before .before .clear .ensures .0) _ _ _ _ _ _ (c .before .before .before .before .before .before .encode-seq .ensures .fine (c .before .before .if2 .left)) (c .before .before .before .before .before .before .before .before .before .before .before .before .before .before .before .before .record-length .ensures) (c .before .less .ensures) (c .larger .ensures)) (c .before .before .before .before .before .before .before .before .before .before .before .before .clear .ensures .1)
+returns-3 c =
+    let at-args = c .before .before .before .before .before .before .before .before .before .before .before .before .before .before .before .before .before .before .before .before .before .before .args in
+    let at-record-length = c .before .before .before .before .before .before .before .before .before .before .before .before .before .before .before .before .record-length in
+    let at-asked = c .before .before .before .before .before .before .before .before .before .before .before .before .before .before .before .asked in
+    let at-clear = c .before .before .before .before .before .before .before .before .before .before .before .before .clear in
+    let at-if1 = c .before .before .before .before .before .before .before .before .if1 in
+    let at-encode-seq = c .before .before .before .before .before .before .encode-seq in
+    let at-if2 = c .before .before .if2 in
+    with-counts (all-walked (at-args .layout .now) (at-args .masks .now) (at-args .page) (at-args .items .now) (at-args .text .now) (length (at-args .«record» .now)) (length (at-args .counts .now)) _ (at-asked .ensures) (at-if1 .left) _ (at-clear .ensures .0) _ _ _ _ _ _ (at-encode-seq .ensures .fine (at-if2 .left)) (at-record-length .ensures) (c .before .less .ensures) (c .larger .ensures)) (at-clear .ensures .1)
 
 pub encode-record-spec : {M : Type 1} → statement M
 encode-record-spec =

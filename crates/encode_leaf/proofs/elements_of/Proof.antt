@@ -1,3 +1,4 @@
+-- By cases: one element, a value that is no List, a List or Null.
 use borrow.Author.Tests.{not-true, not-false}
 use Rattle.encode_leaf.proofs.Inside.{run-one, run-not, run-table}
 use borrow.Author.Needs.{needs}
@@ -17,7 +18,11 @@ takes-requires : tie.Need-takes-requires
 takes-requires c κs = search needs
 
 returns-2 : tie.Need-returns-2
-returns-2 c = run-not _ _ _ _ _ (c .before .before .before .before .is-single .ensures) (c .before .before .before .if1 .left) _ (c .before .before .fetch .ensures) _ (c .before .takes .ensures) (not-true _ (c .if2 .taken)) 0 0
+returns-2 c =
+    let at-is-single = c .before .before .before .before .is-single in
+    let at-if1 = c .before .before .before .if1 in
+    let at-fetch = c .before .before .fetch in
+    run-not _ _ _ _ _ (at-is-single .ensures) (at-if1 .left) _ (at-fetch .ensures) _ (c .before .takes .ensures) (not-true _ (c .if2 .taken))
 
 item-end-requires : tie.Need-item-end-requires
 item-end-requires c κs = search needs
@@ -29,7 +34,14 @@ table-length-requires : tie.Need-table-length-requires
 table-length-requires c κs = search needs
 
 returns-3 : tie.Need-returns-3
-returns-3 c = run-table _ _ _ _ _ (c .before .before .before .before .before .before .before .is-single .ensures) (c .before .before .before .before .before .before .if1 .left) _ (c .before .before .before .before .before .fetch .ensures) _ (c .before .before .before .before .takes .ensures) (not-false _ (c .before .before .before .if2 .left)) _ _ _ (c .before .before .item-end .ensures) (c .before .after .ensures) (c .table-length .ensures)
+returns-3 c =
+    let at-is-single = c .before .before .before .before .before .before .before .is-single in
+    let at-if1 = c .before .before .before .before .before .before .if1 in
+    let at-fetch = c .before .before .before .before .before .fetch in
+    let at-takes = c .before .before .before .before .takes in
+    let at-if2 = c .before .before .before .if2 in
+    let at-item-end = c .before .before .item-end in
+    run-table _ _ _ _ _ (at-is-single .ensures) (at-if1 .left) _ (at-fetch .ensures) _ (at-takes .ensures) (not-false _ (at-if2 .left)) _ _ _ (at-item-end .ensures) (c .before .after .ensures) (c .table-length .ensures)
 
 pub elements-of-spec : {M : Type 1} → statement M
 elements-of-spec =

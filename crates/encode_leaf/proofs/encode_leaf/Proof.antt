@@ -1,3 +1,8 @@
+-- Without room the item is judged and refused; with room its stretch is lent, which a refusal leaves as it was.
+use Rattle.lists.proofs.Part.{lift}
+use borrow.Author.Tests.{eq-eqb, ne-eqb}
+use mathlib.Core.List.{[]}
+use mathlib.Core.Path.{refl}
 use mathlib.Core.Path.{sym, _∙_}
 use mathlib.Core.Bool.{true, false}
 use Prim.Native.Nat.{_+_, _-_}
@@ -23,16 +28,31 @@ inside-room-requires : tie.Need-inside-room-requires
 inside-room-requires c κs = search needs
 
 no-room-requires : tie.Need-no-room-requires
-no-room-requires c κs = c .before .before .before .put-width .ensures
+no-room-requires c κs =
+    let at-put-width = c .before .before .before .put-width in
+    at-put-width .ensures
 
 refusal-requires : tie.Need-refusal-requires
 refusal-requires c κs = search needs
 
 returns : tie.Need-returns
-returns c = refuse (c .before .no-room .result) (c .refusal .ensures) (outside-refuses _ (judged (c .before .before .before .before .before .before .before .before .before .args .masks .now) (c .before .before .before .before .before .before .before .before .before .args .text .now) (c .before .before .before .before .before .before .before .before .before .args .e) (c .before .before .before .before .before .before .before .before .before .args .it)) (c .before .no-room .ensures)) (leaf-out (c .before .before .before .before .before .before .before .before .before .args .masks .now) (c .before .before .before .before .before .before .before .before .before .args .text .now) (c .before .before .before .before .before .before .before .before .before .args .page) (c .before .before .before .before .before .before .before .before .before .args .e) (c .before .before .before .before .before .before .before .before .before .args .it) (c .before .before .before .before .before .before .before .before .before .args .at) (c .before .before .before .before .before .before .before .before .before .args .«record» .now) (roomIn (c .before .before .before .before .before .before .before .before .before .args .«record» .now)) _ _ (c .before .before .before .before .before .put-width .ensures) (c .before .before .before .before .room-of .ensures) _ (c .before .before .before .inside-room .ensures) (not-true _ (c .before .before .if1 .taken)) _ (c .before .no-room .ensures))
+returns c =
+    let at-args = c .before .before .before .before .before .before .before .before .before .args in
+    let at-put-width = c .before .before .before .before .before .put-width in
+    let at-room-of = c .before .before .before .before .room-of in
+    let at-inside-room = c .before .before .before .inside-room in
+    let at-if1 = c .before .before .if1 in (
+      refuse (c .before .no-room .result) (c .refusal .ensures) (outside-refuses _ (judged (at-args .masks .now) (at-args .text .now) (at-args .e) (at-args .it)) (c .before .no-room .ensures))
+          (leaf-out (at-args .masks .now) (at-args .text .now) (at-args .page) (at-args .e) (at-args .it) (at-args .at) (at-args .«record» .now) (roomIn (at-args .«record» .now)) _ _ (at-put-width .ensures) (at-room-of .ensures) _ (at-inside-room .ensures) (not-true _ (at-if1 .taken)) _ (c .before .no-room .ensures)),
+      λ _. refl,
+    )
 
 add-end : tie.Need-add-end
-add-end c = omega (arith, c .before .before .room-of .ensures, leb-true (c .before .before .before .before .before .before .before .args .at + c .before .before .before .put-width .result) (c .before .before .room-of .result) (sym (c .before .inside-room .ensures) ∙ not-false _ (c .if1 .left)))
+add-end c =
+    let at-args = c .before .before .before .before .before .before .before .args in
+    let at-put-width = c .before .before .before .put-width in
+    let at-room-of = c .before .before .room-of in
+    omega (arith, at-room-of .ensures, leb-true (at-args .at + at-put-width .result) (at-room-of .result) (sym (c .before .inside-room .ensures) ∙ not-false _ (c .if1 .left)))
 
 sub-put-leaf : tie.Need-sub-put-leaf
 sub-put-leaf c = search needs
@@ -41,7 +61,11 @@ part-put-leaf-start : tie.Need-part-put-leaf-start
 part-put-leaf-start c = search needs
 
 part-put-leaf-end : tie.Need-part-put-leaf-end
-part-put-leaf-end c = omega (arith, c .before .before .room-of .ensures, leb-true (c .before .before .before .before .before .before .before .args .at + c .before .before .before .put-width .result) (c .before .before .room-of .result) (sym (c .before .inside-room .ensures) ∙ not-false _ (c .if1 .left)))
+part-put-leaf-end c =
+    let at-args = c .before .before .before .before .before .before .before .args in
+    let at-put-width = c .before .before .before .put-width in
+    let at-room-of = c .before .before .room-of in
+    omega (arith, at-room-of .ensures, leb-true (at-args .at + at-put-width .result) (at-room-of .result) (sym (c .before .inside-room .ensures) ∙ not-false _ (c .if1 .left)))
 
 put-leaf-requires : tie.Need-put-leaf-requires
 put-leaf-requires c κs = search needs
@@ -53,13 +77,31 @@ same-length : tie.Need-same-length
 same-length c = search needs
 
 returns-2 : tie.Need-returns-2
-returns-2 c = refuse (c .before .before .before .before .put-leaf .result) (c .refusal2 .ensures) (c .before .if2 .taken) (leaf-unfit (c .before .before .before .before .before .before .before .before .before .before .before .before .before .args .masks .now) (c .before .before .before .before .before .before .before .before .before .before .before .before .before .args .text .now) (c .before .before .before .before .before .before .before .before .before .before .before .before .before .args .page) (c .before .before .before .before .before .before .before .before .before .before .before .before .before .args .e) (c .before .before .before .before .before .before .before .before .before .before .before .before .before .args .it) (c .before .before .before .before .before .before .before .before .before .before .before .before .before .args .at) (c .before .before .before .before .before .before .before .before .before .before .before .before .before .args .«record» .now) (roomIn (c .before .before .before .before .before .before .before .before .before .before .before .before .before .args .«record» .now)) _ (c .before .before .before .before .put-leaf .ensures .0) (c .before .if2 .taken))
+returns-2 c =
+    let at-args = c .before .before .before .before .before .before .before .before .before .before .before .before .before .args in
+    let at-put-width = c .before .before .before .before .before .before .before .before .before .put-width in
+    let at-put-leaf = c .before .before .before .before .put-leaf in (
+      refuse (at-put-leaf .result) (c .refusal2 .ensures) (c .before .if2 .taken) (leaf-unfit (at-args .masks .now) (at-args .text .now) (at-args .page) (at-args .e) (at-args .it) (at-args .at) (at-args .«record» .now) (roomIn (at-args .«record» .now)) _ (at-put-leaf .ensures .0) (c .before .if2 .taken)),
+      λ _. lift false (at-args .at) (at-put-width .result) (at-args .«record» .now) [] _ (at-put-leaf .ensures .1 ∙ rw (ne-eqb (at-put-leaf .result) 0 (c .before .if2 .taken)) refl),
+    )
 
 add-t13 : tie.Need-add-t13
-add-t13 c = omega (arith, c .before .before .before .before .before .before .before .room-of .ensures, leb-true (c .before .before .before .before .before .before .before .before .before .before .before .before .args .at + c .before .before .before .before .before .before .before .before .put-width .result) (c .before .before .before .before .before .before .before .room-of .result) (sym (c .before .before .before .before .before .before .inside-room .ensures) ∙ not-false _ (c .before .before .before .before .before .if1 .left)))
+add-t13 c =
+    let at-args = c .before .before .before .before .before .before .before .before .before .before .before .before .args in
+    let at-put-width = c .before .before .before .before .before .before .before .before .put-width in
+    let at-room-of = c .before .before .before .before .before .before .before .room-of in
+    let at-inside-room = c .before .before .before .before .before .before .inside-room in
+    let at-if1 = c .before .before .before .before .before .if1 in
+    omega (arith, at-room-of .ensures, leb-true (at-args .at + at-put-width .result) (at-room-of .result) (sym (at-inside-room .ensures) ∙ not-false _ (at-if1 .left)))
 
 add-t20 : tie.Need-add-t20
-add-t20 c = omega (arith, c .before .before .before .before .before .before .before .room-of .ensures, leb-true (c .before .before .before .before .before .before .before .before .before .before .before .before .args .at + c .before .before .before .before .before .before .before .before .put-width .result) (c .before .before .before .before .before .before .before .room-of .result) (sym (c .before .before .before .before .before .before .inside-room .ensures) ∙ not-false _ (c .before .before .before .before .before .if1 .left)))
+add-t20 c =
+    let at-args = c .before .before .before .before .before .before .before .before .before .before .before .before .args in
+    let at-put-width = c .before .before .before .before .before .before .before .before .put-width in
+    let at-room-of = c .before .before .before .before .before .before .before .room-of in
+    let at-inside-room = c .before .before .before .before .before .before .inside-room in
+    let at-if1 = c .before .before .before .before .before .if1 in
+    omega (arith, at-room-of .ensures, leb-true (at-args .at + at-put-width .result) (at-room-of .result) (sym (at-inside-room .ensures) ∙ not-false _ (at-if1 .left)))
 
 cast-t21 : tie.Need-cast-t21
 cast-t21 c = search needs
@@ -68,7 +110,17 @@ same-length-2 : tie.Need-same-length-2
 same-length-2 c = search needs
 
 returns-3 : tie.Need-returns-3
-returns-3 c = fine _ _ (leaf-put (c .before .before .before .before .before .before .before .before .before .before .before .before .before .args .masks .now) (c .before .before .before .before .before .before .before .before .before .before .before .before .before .args .text .now) (c .before .before .before .before .before .before .before .before .before .before .before .before .before .args .page) (c .before .before .before .before .before .before .before .before .before .before .before .before .before .args .e) (c .before .before .before .before .before .before .before .before .before .before .before .before .before .args .it) (c .before .before .before .before .before .before .before .before .before .before .before .before .before .args .at) (c .before .before .before .before .before .before .before .before .before .before .before .before .before .args .«record» .now) (roomIn (c .before .before .before .before .before .before .before .before .before .before .before .before .before .args .«record» .now)) _ _ (c .before .before .before .before .before .before .before .before .before .put-width .ensures) (c .before .before .before .before .before .before .before .before .room-of .ensures) _ (c .before .before .before .before .before .before .before .inside-room .ensures) (not-false _ (c .before .before .before .before .before .before .if1 .left)) _ (c .before .before .before .before .put-leaf .ensures .0) (c .before .if2 .left) _ (c .before .before .before .before .put-leaf .ensures .1 (c .before .if2 .left)))
+returns-3 c =
+    let at-args = c .before .before .before .before .before .before .before .before .before .before .before .before .before .args in
+    let at-put-width = c .before .before .before .before .before .before .before .before .before .put-width in
+    let at-room-of = c .before .before .before .before .before .before .before .before .room-of in
+    let at-inside-room = c .before .before .before .before .before .before .before .inside-room in
+    let at-if1 = c .before .before .before .before .before .before .if1 in
+    let at-put-leaf = c .before .before .before .before .put-leaf in (
+      fine _ _ (leaf-put (at-args .masks .now) (at-args .text .now) (at-args .page) (at-args .e) (at-args .it) (at-args .at) (at-args .«record» .now) (roomIn (at-args .«record» .now)) _ _ (at-put-width .ensures) (at-room-of .ensures) _ (at-inside-room .ensures) (not-false _ (at-if1 .left)) _ (at-put-leaf .ensures .0) (c .before .if2 .left) _
+          (at-put-leaf .ensures .1 ∙ rw (eq-eqb (at-put-leaf .result) 0 (c .before .if2 .left)) refl)),
+      λ n. absurd (n refl),
+    )
 
 pub encode-leaf-spec : {M : Type 1} → statement M
 encode-leaf-spec =

@@ -1,3 +1,4 @@
+-- What `encode_scalar` judges and writes, at the width that is put and with the mask of an Edited alone.
 use mathlib.Core.Path.{refl}
 use Prim.Native.Nat.{_-_}
 use lib.ListN.{length}
@@ -19,7 +20,13 @@ same-length : tie.Need-same-length
 same-length c = search needs
 
 returns : tie.Need-returns
-returns c = put-is (c .before .before .before .before .before .before .before .before .before .args .masks .now) (c .before .before .before .before .before .before .before .before .before .args .text .now) (c .before .before .before .before .before .before .before .before .before .args .e) (c .before .before .before .before .before .before .before .before .before .args .it) _ _ (c .before .before .before .before .mask-of .ensures) (c .before .before .before .text-of .ensures) _ (c .before .before .before .before .before .before .before .before .before .pre) (c .before .before .before .before .before .before .before .before .before .args .page) (c .before .before .before .before .before .before .before .before .before .args .part .now) _ refl _ (c .before .before .encode-scalar .ensures .0) (c .before .before .encode-scalar .ensures .1)
+returns c =
+    let at-args = c .before .before .before .before .before .before .before .before .before .args in
+    let at-pre = c .before .before .before .before .before .before .before .before .before .pre in
+    let at-mask-of = c .before .before .before .before .mask-of in
+    let at-text-of = c .before .before .before .text-of in
+    let at-encode-scalar = c .before .before .encode-scalar in
+    put-is (at-args .masks .now) (at-args .text .now) (at-args .e) (at-args .it) _ _ (at-mask-of .ensures) (at-text-of .ensures) _ (at-pre) (at-args .page) (at-args .part .now) _ refl _ (at-encode-scalar .ensures .0) (at-encode-scalar .ensures .1)
 
 pub put-leaf-spec : {M : Type 1} → statement M
 put-leaf-spec =

@@ -51,19 +51,32 @@ abbrev pub decode-field-μ-loop : decode-field-lts.MeasureT-loop
 decode-field-μ-loop layout «record» items₀ text₀ counts₀ page deps e lo hi at told once name head n k₀ used₀ members₀ place₀ taken₀ behind₀ items text counts k used members place taken behind = n - k
 
 pub decode-field-decode-table-requires : (t : ℕ) → decode-field-lts.Need-decode-table-requires (decode-field-claims t) (decode-field-at t) decode-field.Post decode-field-Inv-loop decode-field-μ-loop
-decode-field-decode-table-requires t c κs = (c .before .before .before .before .before .before .before .before .before .pre .1 .0, (not-lone (c .before .before .before .before .before .before .before .before .before .args .e) (c .before .before .before .before .before .before .before .before .before .pre .1 .1) (c .before .before .before .if1 .taken)))
+decode-field-decode-table-requires t c κs =
+    let at-args = c .before .before .before .before .before .before .before .before .before .args in
+    let at-pre = c .before .before .before .before .before .before .before .before .before .pre in
+    let at-if1 = c .before .before .before .if1 in
+    (at-pre .1 .0, (not-lone (at-args .e) (at-pre .1 .1) (at-if1 .taken)))
 
 pub decode-field-same-length : (t : ℕ) → decode-field-lts.Need-same-length (decode-field-claims t) (decode-field-at t) decode-field.Post decode-field-Inv-loop decode-field-μ-loop
-decode-field-same-length t c = (c .before .before .before .before .decode-table .kept .1 .1 .0)
+decode-field-same-length t c =
+    let at-decode-table = c .before .before .before .before .decode-table in
+    (at-decode-table .kept .1 .1 .0)
 
 pub decode-field-same-length-2 : (t : ℕ) → decode-field-lts.Need-same-length-2 (decode-field-claims t) (decode-field-at t) decode-field.Post decode-field-Inv-loop decode-field-μ-loop
-decode-field-same-length-2 t c = (c .before .before .before .before .decode-table .kept .1 .1 .1 .0)
+decode-field-same-length-2 t c =
+    let at-decode-table = c .before .before .before .before .decode-table in
+    (at-decode-table .kept .1 .1 .1 .0)
 
 pub decode-field-same-length-3 : (t : ℕ) → decode-field-lts.Need-same-length-3 (decode-field-claims t) (decode-field-at t) decode-field.Post decode-field-Inv-loop decode-field-μ-loop
 decode-field-same-length-3 t c = search needs
 
 pub decode-field-returns : (t : ℕ) → decode-field-lts.Need-returns (decode-field-claims t) (decode-field-at t) decode-field.Post decode-field-Inv-loop decode-field-μ-loop
-decode-field-returns t c = same-as (scalars-table (c .before .before .before .before .before .before .before .before .before .before .before .before .before .before .args .layout .now) (c .before .before .before .before .before .before .before .before .before .before .before .before .before .before .args .page) (c .before .before .before .before .before .before .before .before .before .before .before .before .before .before .args .deps) (c .before .before .before .before .before .before .before .before .before .before .before .before .before .before .args .«record» .now) (c .before .before .before .before .before .before .before .before .before .before .before .before .before .before .args .e) _ (c .before .before .before .before .before .before .before .before .before .before .before .before .before .before .args .at) (length (c .before .before .before .before .before .before .before .before .before .before .before .before .before .before .args .items .now)) (c .before .before .before .before .before .before .before .before .before .before .before .before .before .before .args .counts .now) (c .before .before .before .before .before .before .before .before .before .before .before .before .before .before .args .told) (c .before .before .before .before .before .before .before .before .before .before .before .before .before .before .args .text .now) (c .before .before .before .before .before .before .before .before .if1 .taken) (not-lone (c .before .before .before .before .before .before .before .before .before .before .before .before .before .before .args .e) (c .before .before .before .before .before .before .before .before .before .before .before .before .before .before .pre .1 .1) (c .before .before .before .before .before .before .before .before .if1 .taken))) (c .before .before .before .before .decode-table .ensures .met (c .before .before .before .before .before .before .before .before .before .before .before .before .before .before .args .deps))
+decode-field-returns t c =
+    let at-args = c .before .before .before .before .before .before .before .before .before .before .before .before .before .before .args in
+    let at-pre = c .before .before .before .before .before .before .before .before .before .before .before .before .before .before .pre in
+    let at-if1 = c .before .before .before .before .before .before .before .before .if1 in
+    let at-decode-table = c .before .before .before .before .decode-table in
+    same-as (scalars-table (at-args .layout .now) (at-args .page) (at-args .deps) (at-args .«record» .now) (at-args .e) _ (at-args .at) (length (at-args .items .now)) (at-args .counts .now) (at-args .told) (at-args .text .now) (at-if1 .taken) (not-lone (at-args .e) (at-pre .1 .1) (at-if1 .taken))) (at-decode-table .ensures .met (at-args .deps))
 
 pub decode-field-is-single-requires : (t : ℕ) → decode-field-lts.Need-is-single-requires (decode-field-claims t) (decode-field-at t) decode-field.Post decode-field-Inv-loop decode-field-μ-loop
 decode-field-is-single-requires t c κs = search needs
@@ -81,7 +94,10 @@ pub decode-field-same-length-4 : (t : ℕ) → decode-field-lts.Need-same-length
 decode-field-same-length-4 t c = search needs
 
 pub decode-field-returns-2 : (t : ℕ) → decode-field-lts.Need-returns-2 (decode-field-claims t) (decode-field-at t) decode-field.Post decode-field-Inv-loop decode-field-μ-loop
-decode-field-returns-2 t c = refuse (c .before .before .before .element-count .result .refused) (c .refusal .ensures) (c .before .if2 .taken) (field-never _ _ _ _ _ _ _ _ (counted-is (c .before .before .before .before .before .before .before .before .before .before .before .before .before .args .layout .now) (c .before .before .before .before .before .before .before .before .before .before .before .before .before .args .page) (length (c .before .before .before .before .before .before .before .before .before .before .before .before .before .args .text .now)) (c .before .before .before .before .before .before .before .before .before .before .before .before .before .args .deps) (c .before .before .before .before .before .before .before .before .before .before .before .before .before .args .e) (c .before .before .before .before .before .before .before .before .before .before .before .before .before .args .counts .now) (c .before .before .before .before .before .before .before .before .before .before .before .before .before .args .told) (c .before .before .before .before .before .before .before .before .before .before .before .before .before .args .text .now) ∙ c .before .before .before .element-count .ensures .refuses (c .before .if2 .taken)))
+decode-field-returns-2 t c =
+    let at-args = c .before .before .before .before .before .before .before .before .before .before .before .before .before .args in
+    let at-element-count = c .before .before .before .element-count in
+    refuse (at-element-count .result .refused) (c .refusal .ensures) (c .before .if2 .taken) (field-never _ _ _ _ _ _ _ _ (counted-is (at-args .layout .now) (at-args .page) (length (at-args .text .now)) (at-args .deps) (at-args .e) (at-args .counts .now) (at-args .told) (at-args .text .now) ∙ at-element-count .ensures .refuses (c .before .if2 .taken) .0))
 
 pub decode-field-head-words-requires : (t : ℕ) → decode-field-lts.Need-head-words-requires (decode-field-claims t) (decode-field-at t) decode-field.Post decode-field-Inv-loop decode-field-μ-loop
 decode-field-head-words-requires t c κs = search needs
@@ -93,13 +109,23 @@ pub decode-field-same-length-5 : (t : ℕ) → decode-field-lts.Need-same-length
 decode-field-same-length-5 t c = search needs
 
 pub decode-field-returns-3 : (t : ℕ) → decode-field-lts.Need-returns-3 (decode-field-claims t) (decode-field-at t) decode-field.Post decode-field-Inv-loop decode-field-μ-loop
-decode-field-returns-3 t c = refuse 16 (c .refusal2 .ensures) (λ e. omega arith) (field-small _ _ _ _ _ _ _ _ (head-is (c .before .before .before .before .before .before .before .before .before .before .before .before .before .before .before .before .args .e) (c .before .before .before .before .before .before .before .before .before .is-single .result) (c .before .before .head-words .result) (c .before .before .before .before .before .before .before .before .before .is-single .ensures) (c .before .before .head-words .ensures)) _ (counted-is (c .before .before .before .before .before .before .before .before .before .before .before .before .before .before .before .before .args .layout .now) (c .before .before .before .before .before .before .before .before .before .before .before .before .before .before .before .before .args .page) (length (c .before .before .before .before .before .before .before .before .before .before .before .before .before .before .before .before .args .text .now)) (c .before .before .before .before .before .before .before .before .before .before .before .before .before .before .before .before .args .deps) (c .before .before .before .before .before .before .before .before .before .before .before .before .before .before .before .before .args .e) (c .before .before .before .before .before .before .before .before .before .before .before .before .before .before .before .before .args .counts .now) (c .before .before .before .before .before .before .before .before .before .before .before .before .before .before .before .before .args .told) (c .before .before .before .before .before .before .before .before .before .before .before .before .before .before .before .before .args .text .now) ∙ c .before .before .before .before .before .before .element-count .ensures .fine (c .before .before .before .before .if2 .left)) (c .before .if3 .taken))
+decode-field-returns-3 t c =
+    let at-args = c .before .before .before .before .before .before .before .before .before .before .before .before .before .before .before .before .args in
+    let at-is-single = c .before .before .before .before .before .before .before .before .before .is-single in
+    let at-element-count = c .before .before .before .before .before .before .element-count in
+    let at-if2 = c .before .before .before .before .if2 in
+    let at-head-words = c .before .before .head-words in
+    refuse 16 (c .refusal2 .ensures) (λ e. omega arith) (field-small _ _ _ _ _ _ _ _ (head-is (at-args .e) (at-is-single .result) (at-head-words .result) (at-is-single .ensures) (at-head-words .ensures)) _ (counted-is (at-args .layout .now) (at-args .page) (length (at-args .text .now)) (at-args .deps) (at-args .e) (at-args .counts .now) (at-args .told) (at-args .text .now) ∙ at-element-count .ensures .fine (at-if2 .left)) (c .before .if3 .taken))
 
 pub decode-field-loop-holds : (t : ℕ) → decode-field-lts.Need-loop-holds (decode-field-claims t) (decode-field-at t) decode-field.Post decode-field-Inv-loop decode-field-μ-loop
-decode-field-loop-holds t c = turns-starts _ _ _ _ _ _ _ _ _ (c .before .before .before .before .before .before .before .before .before .before .before .before .before .before .before .pre .1 .0) (c .if3 .left)
+decode-field-loop-holds t c =
+    let at-pre = c .before .before .before .before .before .before .before .before .before .before .before .before .before .before .before .pre in
+    turns-starts _ _ _ _ _ _ _ _ _ (at-pre .1 .0) (c .if3 .left)
 
 pub decode-field-mul-decode-one : (t : ℕ) → decode-field-lts.Need-mul-decode-one (decode-field-claims t) (decode-field-at t) decode-field.Post decode-field-Inv-loop decode-field-μ-loop
-decode-field-mul-decode-one t c = omega (arith, c .before .loop .inv .written .within, c .before .loop .inv .written .same, c .before .before .before .before .before .before .before .before .before .before .before .before .before .before .before .before .before .good .1 .1 .0 .0, c .before .before .before .before .before .before .before .before .before .before .before .before .before .before .before .before .before .good .1 .1 .0 .1)
+decode-field-mul-decode-one t c =
+    let at-good = c .before .before .before .before .before .before .before .before .before .before .before .before .before .before .before .before .before .good in
+    omega (arith, c .before .loop .inv .written .within, c .before .loop .inv .written .same, at-good .1 .1 .0 .0, at-good .1 .1 .0 .1)
 
 pub decode-field-sub-decode-one : (t : ℕ) → decode-field-lts.Need-sub-decode-one (decode-field-claims t) (decode-field-at t) decode-field.Post decode-field-Inv-loop decode-field-μ-loop
 decode-field-sub-decode-one t c = omega (arith, c .before .loop .inv .written .within, c .before .loop .inv .written .same)
@@ -111,22 +137,49 @@ pub decode-field-part-decode-one-end : (t : ℕ) → decode-field-lts.Need-part-
 decode-field-part-decode-one-end t c = omega arith
 
 pub decode-field-decode-one-requires : (t : ℕ) → decode-field-lts.Need-decode-one-requires (decode-field-claims t) (decode-field-at t) decode-field.Post decode-field-Inv-loop decode-field-μ-loop
-decode-field-decode-one-requires t c κs = (omega (arith, c .before .before .before .before .before .before .before .before .before .before .before .before .before .before .before .before .before .before .before .before .pre .0), c .before .before .before .before .loop .inv .fits)
+decode-field-decode-one-requires t c κs =
+    let at-pre = c .before .before .before .before .before .before .before .before .before .before .before .before .before .before .before .before .before .before .before .before .pre in
+    let at-loop = c .before .before .before .before .loop in
+    (omega (arith, at-pre .0), at-loop .inv .fits)
 
 pub decode-field-refusal-requires-3 : (t : ℕ) → decode-field-lts.Need-refusal-requires-3 (decode-field-claims t) (decode-field-at t) decode-field.Post decode-field-Inv-loop decode-field-μ-loop
 decode-field-refusal-requires-3 t c κs = search needs
 
 pub decode-field-same-length-6 : (t : ℕ) → decode-field-lts.Need-same-length-6 (decode-field-claims t) (decode-field-at t) decode-field.Post decode-field-Inv-loop decode-field-μ-loop
-decode-field-same-length-6 t c = returned-same (c .before .before .before .before .before .before .before .before .before .before .before .before .before .loop .inv .written) (c .before .before .before .before .before .before .before .before .decode-one .last .1 .1 .0) (c .before .before .before .before .before .before .before .before .decode-one .kept .1 .1 .0) ∙ c .before .before .before .before .before .before .before .before .before .before .before .before .before .loop .inv .written .same
+decode-field-same-length-6 t c =
+    let at-loop = c .before .before .before .before .before .before .before .before .before .before .before .before .before .loop in
+    let at-decode-one = c .before .before .before .before .before .before .before .before .decode-one in
+    returned-same (at-loop .inv .written) (at-decode-one .last .1 .1 .0) (at-decode-one .kept .1 .1 .0) ∙ at-loop .inv .written .same
 
 pub decode-field-same-length-7 : (t : ℕ) → decode-field-lts.Need-same-length-7 (decode-field-claims t) (decode-field-at t) decode-field.Post decode-field-Inv-loop decode-field-μ-loop
-decode-field-same-length-7 t c = (c .before .before .before .before .before .before .before .before .decode-one .kept .1 .1 .1 .0) ∙ c .before .before .before .before .before .before .before .before .before .before .before .before .before .loop .inv .texts
+decode-field-same-length-7 t c =
+    let at-loop = c .before .before .before .before .before .before .before .before .before .before .before .before .before .loop in
+    let at-decode-one = c .before .before .before .before .before .before .before .before .decode-one in
+    (at-decode-one .kept .1 .1 .1 .0) ∙ at-loop .inv .texts
 
 pub decode-field-same-length-8 : (t : ℕ) → decode-field-lts.Need-same-length-8 (decode-field-claims t) (decode-field-at t) decode-field.Post decode-field-Inv-loop decode-field-μ-loop
-decode-field-same-length-8 t c = (c .before .before .before .before .before .before .before .before .decode-one .kept .1 .1 .1 .1 .0) ∙ c .before .before .before .before .before .before .before .before .before .before .before .before .before .loop .inv .kept
+decode-field-same-length-8 t c =
+    let at-loop = c .before .before .before .before .before .before .before .before .before .before .before .before .before .loop in
+    let at-decode-one = c .before .before .before .before .before .before .before .before .decode-one in
+    (at-decode-one .kept .1 .1 .1 .1 .0) ∙ at-loop .inv .kept
 
 pub decode-field-returns-4 : (t : ℕ) → decode-field-lts.Need-returns-4 (decode-field-claims t) (decode-field-at t) decode-field.Post decode-field-Inv-loop decode-field-μ-loop
-decode-field-returns-4 t c = refuse (c .before .before .before .before .before .before .before .before .decode-one .result .refused) (c .refusal3 .ensures) (c .before .if4 .taken) (entry-refused _ _ _ _ _ _ _ _ (head-is (c .before .before .before .before .before .before .before .before .before .before .before .before .before .before .before .before .before .before .before .before .before .before .before .before .before .before .before .before .before .args .e) (c .before .before .before .before .before .before .before .before .before .before .before .before .before .before .before .before .before .before .before .before .before .before .is-single .result) (c .before .before .before .before .before .before .before .before .before .before .before .before .before .before .before .head-words .result) (c .before .before .before .before .before .before .before .before .before .before .before .before .before .before .before .before .before .before .before .before .before .before .is-single .ensures) (c .before .before .before .before .before .before .before .before .before .before .before .before .before .before .before .head-words .ensures)) _ (counted-is (c .before .before .before .before .before .before .before .before .before .before .before .before .before .before .before .before .before .before .before .before .before .before .before .before .before .before .before .before .before .args .layout .now) (c .before .before .before .before .before .before .before .before .before .before .before .before .before .before .before .before .before .before .before .before .before .before .before .before .before .before .before .before .before .args .page) (length (c .before .before .before .before .before .before .before .before .before .before .before .before .before .before .before .before .before .before .before .before .before .before .before .before .before .before .before .before .before .args .text .now)) (c .before .before .before .before .before .before .before .before .before .before .before .before .before .before .before .before .before .before .before .before .before .before .before .before .before .before .before .before .before .args .deps) (c .before .before .before .before .before .before .before .before .before .before .before .before .before .before .before .before .before .before .before .before .before .before .before .before .before .before .before .before .before .args .e) (c .before .before .before .before .before .before .before .before .before .before .before .before .before .before .before .before .before .before .before .before .before .before .before .before .before .before .before .before .before .args .counts .now) (c .before .before .before .before .before .before .before .before .before .before .before .before .before .before .before .before .before .before .before .before .before .before .before .before .before .before .before .before .before .args .told) (c .before .before .before .before .before .before .before .before .before .before .before .before .before .before .before .before .before .before .before .before .before .before .before .before .before .before .before .before .before .args .text .now) ∙ c .before .before .before .before .before .before .before .before .before .before .before .before .before .before .before .before .before .before .before .element-count .ensures .fine (c .before .before .before .before .before .before .before .before .before .before .before .before .before .before .before .before .before .if2 .left)) _ (c .before .before .before .before .before .before .before .before .before .before .before .before .before .before .before .before .before .before .before .before .before .before .is-single .ensures) (c .before .before .before .before .before .before .before .before .before .before .before .before .before .before .if3 .left) (omega (arith, c .before .before .before .before .before .before .before .before .before .before .before .before .before .before .before .before .struct-known3 .given .1 .1 .0)) _ (turns-stop (c .before .before .before .before .before .before .before .before .before .before .before .before .before .loop .inv) (c .before .before .before .before .before .before .before .before .before .before .before .before .loop-test .taken) (c .before .before .before .before .before .before .before .before .decode-one .last .1 .1 .0) (c .before .before .before .before .before .before .before .before .decode-one .kept .1 .1 .0) _ ((same-as (one-group _ _ _ _ _ _ _ _ _ (c .before .before .before .before .before .before .before .before .before .before .before .before .before .before .before .before .before .before .before .before .before .before .before .if1 .left) (c .before .before .before .before .before .before .before .before .before .before .before .before .before .before .before .before .before .before .before .before .before .element-name .ensures)) (c .before .before .before .before .before .before .before .before .decode-one .ensures)) .refuses (c .before .if4 .taken))))
+decode-field-returns-4 t c =
+    let at-args = c .before .before .before .before .before .before .before .before .before .before .before .before .before .before .before .before .before .before .before .before .before .before .before .before .before .before .before .before .before .args in
+    let at-if1 = c .before .before .before .before .before .before .before .before .before .before .before .before .before .before .before .before .before .before .before .before .before .before .before .if1 in
+    let at-is-single = c .before .before .before .before .before .before .before .before .before .before .before .before .before .before .before .before .before .before .before .before .before .before .is-single in
+    let at-element-name = c .before .before .before .before .before .before .before .before .before .before .before .before .before .before .before .before .before .before .before .before .before .element-name in
+    let at-element-count = c .before .before .before .before .before .before .before .before .before .before .before .before .before .before .before .before .before .before .before .element-count in
+    let at-struct-known3 = c .before .before .before .before .before .before .before .before .before .before .before .before .before .before .before .before .struct-known3 in
+    let at-if2 = c .before .before .before .before .before .before .before .before .before .before .before .before .before .before .before .before .before .if2 in
+    let at-head-words = c .before .before .before .before .before .before .before .before .before .before .before .before .before .before .before .head-words in
+    let at-if3 = c .before .before .before .before .before .before .before .before .before .before .before .before .before .before .if3 in
+    let at-loop = c .before .before .before .before .before .before .before .before .before .before .before .before .before .loop in
+    let at-loop-test = c .before .before .before .before .before .before .before .before .before .before .before .before .loop-test in
+    let at-decode-one = c .before .before .before .before .before .before .before .before .decode-one in
+    refuse (at-decode-one .result .refused) (c .refusal3 .ensures) (c .before .if4 .taken) (entry-refused _ _ _ _ _ _ _ _ (head-is (at-args .e) (at-is-single .result) (at-head-words .result) (at-is-single .ensures) (at-head-words .ensures)) _ (counted-is (at-args .layout .now) (at-args .page) (length
+    (at-args .text .now)) (at-args .deps) (at-args .e) (at-args .counts .now) (at-args .told) (at-args .text .now) ∙ at-element-count .ensures .fine (at-if2 .left)) _ (at-is-single .ensures) (at-if3 .left) (omega (arith, at-struct-known3 .given .1 .1 .0)) _ (turns-stop (at-loop .inv) (at-loop-test .taken)
+    (at-decode-one .last .1 .1 .0) (at-decode-one .kept .1 .1 .0) _ ((same-as (one-group _ _ _ _ _ _ _ _ _ (at-if1 .left) (at-element-name .ensures)) (at-decode-one .ensures)) .refuses (c .before .if4 .taken) .0)))
 
 pub decode-field-took-none-requires : (t : ℕ) → decode-field-lts.Need-took-none-requires (decode-field-claims t) (decode-field-at t) decode-field.Post decode-field-Inv-loop decode-field-μ-loop
 decode-field-took-none-requires t c κs = search needs
@@ -135,16 +188,42 @@ pub decode-field-refusal-requires-4 : (t : ℕ) → decode-field-lts.Need-refusa
 decode-field-refusal-requires-4 t c κs = search needs
 
 pub decode-field-same-length-9 : (t : ℕ) → decode-field-lts.Need-same-length-9 (decode-field-claims t) (decode-field-at t) decode-field.Post decode-field-Inv-loop decode-field-μ-loop
-decode-field-same-length-9 t c = returned-same (c .before .before .before .before .before .before .before .before .before .before .before .before .before .before .before .loop .inv .written) (c .before .before .before .before .before .before .before .before .before .before .decode-one .last .1 .1 .0) (c .before .before .before .before .before .before .before .before .before .before .decode-one .kept .1 .1 .0) ∙ c .before .before .before .before .before .before .before .before .before .before .before .before .before .before .before .loop .inv .written .same
+decode-field-same-length-9 t c =
+    let at-loop = c .before .before .before .before .before .before .before .before .before .before .before .before .before .before .before .loop in
+    let at-decode-one = c .before .before .before .before .before .before .before .before .before .before .decode-one in
+    returned-same (at-loop .inv .written) (at-decode-one .last .1 .1 .0) (at-decode-one .kept .1 .1 .0) ∙ at-loop .inv .written .same
 
 pub decode-field-same-length-10 : (t : ℕ) → decode-field-lts.Need-same-length-10 (decode-field-claims t) (decode-field-at t) decode-field.Post decode-field-Inv-loop decode-field-μ-loop
-decode-field-same-length-10 t c = (c .before .before .before .before .before .before .before .before .before .before .decode-one .kept .1 .1 .1 .0) ∙ c .before .before .before .before .before .before .before .before .before .before .before .before .before .before .before .loop .inv .texts
+decode-field-same-length-10 t c =
+    let at-loop = c .before .before .before .before .before .before .before .before .before .before .before .before .before .before .before .loop in
+    let at-decode-one = c .before .before .before .before .before .before .before .before .before .before .decode-one in
+    (at-decode-one .kept .1 .1 .1 .0) ∙ at-loop .inv .texts
 
 pub decode-field-same-length-11 : (t : ℕ) → decode-field-lts.Need-same-length-11 (decode-field-claims t) (decode-field-at t) decode-field.Post decode-field-Inv-loop decode-field-μ-loop
-decode-field-same-length-11 t c = (c .before .before .before .before .before .before .before .before .before .before .decode-one .kept .1 .1 .1 .1 .0) ∙ c .before .before .before .before .before .before .before .before .before .before .before .before .before .before .before .loop .inv .kept
+decode-field-same-length-11 t c =
+    let at-loop = c .before .before .before .before .before .before .before .before .before .before .before .before .before .before .before .loop in
+    let at-decode-one = c .before .before .before .before .before .before .before .before .before .before .decode-one in
+    (at-decode-one .kept .1 .1 .1 .1 .0) ∙ at-loop .inv .kept
 
 pub decode-field-returns-5 : (t : ℕ) → decode-field-lts.Need-returns-5 (decode-field-claims t) (decode-field-at t) decode-field.Post decode-field-Inv-loop decode-field-μ-loop
-decode-field-returns-5 t c = refuse 10 (c .refusal4 .ensures) (λ e. omega arith) (entry-refused _ _ _ _ _ _ _ _ (head-is (c .before .before .before .before .before .before .before .before .before .before .before .before .before .before .before .before .before .before .before .before .before .before .before .before .before .before .before .before .before .before .before .args .e) (c .before .before .before .before .before .before .before .before .before .before .before .before .before .before .before .before .before .before .before .before .before .before .before .before .is-single .result) (c .before .before .before .before .before .before .before .before .before .before .before .before .before .before .before .before .before .head-words .result) (c .before .before .before .before .before .before .before .before .before .before .before .before .before .before .before .before .before .before .before .before .before .before .before .before .is-single .ensures) (c .before .before .before .before .before .before .before .before .before .before .before .before .before .before .before .before .before .head-words .ensures)) _ (counted-is (c .before .before .before .before .before .before .before .before .before .before .before .before .before .before .before .before .before .before .before .before .before .before .before .before .before .before .before .before .before .before .before .args .layout .now) (c .before .before .before .before .before .before .before .before .before .before .before .before .before .before .before .before .before .before .before .before .before .before .before .before .before .before .before .before .before .before .before .args .page) (length (c .before .before .before .before .before .before .before .before .before .before .before .before .before .before .before .before .before .before .before .before .before .before .before .before .before .before .before .before .before .before .before .args .text .now)) (c .before .before .before .before .before .before .before .before .before .before .before .before .before .before .before .before .before .before .before .before .before .before .before .before .before .before .before .before .before .before .before .args .deps) (c .before .before .before .before .before .before .before .before .before .before .before .before .before .before .before .before .before .before .before .before .before .before .before .before .before .before .before .before .before .before .before .args .e) (c .before .before .before .before .before .before .before .before .before .before .before .before .before .before .before .before .before .before .before .before .before .before .before .before .before .before .before .before .before .before .before .args .counts .now) (c .before .before .before .before .before .before .before .before .before .before .before .before .before .before .before .before .before .before .before .before .before .before .before .before .before .before .before .before .before .before .before .args .told) (c .before .before .before .before .before .before .before .before .before .before .before .before .before .before .before .before .before .before .before .before .before .before .before .before .before .before .before .before .before .before .before .args .text .now) ∙ c .before .before .before .before .before .before .before .before .before .before .before .before .before .before .before .before .before .before .before .before .before .element-count .ensures .fine (c .before .before .before .before .before .before .before .before .before .before .before .before .before .before .before .before .before .before .before .if2 .left)) _ (c .before .before .before .before .before .before .before .before .before .before .before .before .before .before .before .before .before .before .before .before .before .before .before .before .is-single .ensures) (c .before .before .before .before .before .before .before .before .before .before .before .before .before .before .before .before .if3 .left) (omega (arith, c .before .before .before .before .before .before .before .before .before .before .before .before .before .before .before .before .before .before .struct-known3 .given .1 .1 .0)) _ (turns-nothing (c .before .before .before .before .before .before .before .before .before .before .before .before .before .before .before .loop .inv) (c .before .before .before .before .before .before .before .before .before .before .before .before .before .before .loop-test .taken) (c .before .before .before .before .before .before .before .before .before .before .decode-one .last .1 .1 .0) (c .before .before .before .before .before .before .before .before .before .before .decode-one .kept .1 .1 .0) (c .before .before .before .before .before .before .before .before .before .before .decode-one .result) (c .before .before .before .before .before .before .before .before .before .before .decode-one .last .1 .1 .1 .0) (c .before .before .before .before .before .before .before .before .before .before .decode-one .last .1 .1 .1 .1 .0) ((same-as (one-group _ _ _ _ _ _ _ _ _ (c .before .before .before .before .before .before .before .before .before .before .before .before .before .before .before .before .before .before .before .before .before .before .before .before .before .if1 .left) (c .before .before .before .before .before .before .before .before .before .before .before .before .before .before .before .before .before .before .before .before .before .before .before .element-name .ensures)) (c .before .before .before .before .before .before .before .before .before .before .decode-one .ensures)) .fine (c .before .before .before .if4 .left)) (c .before .before .took-none .result) (c .before .before .took-none .ensures) (c .before .if5 .taken)))
+decode-field-returns-5 t c =
+    let at-args = c .before .before .before .before .before .before .before .before .before .before .before .before .before .before .before .before .before .before .before .before .before .before .before .before .before .before .before .before .before .before .before .args in
+    let at-if1 = c .before .before .before .before .before .before .before .before .before .before .before .before .before .before .before .before .before .before .before .before .before .before .before .before .before .if1 in
+    let at-is-single = c .before .before .before .before .before .before .before .before .before .before .before .before .before .before .before .before .before .before .before .before .before .before .before .before .is-single in
+    let at-element-name = c .before .before .before .before .before .before .before .before .before .before .before .before .before .before .before .before .before .before .before .before .before .before .before .element-name in
+    let at-element-count = c .before .before .before .before .before .before .before .before .before .before .before .before .before .before .before .before .before .before .before .before .before .element-count in
+    let at-struct-known3 = c .before .before .before .before .before .before .before .before .before .before .before .before .before .before .before .before .before .before .struct-known3 in
+    let at-if2 = c .before .before .before .before .before .before .before .before .before .before .before .before .before .before .before .before .before .before .before .if2 in
+    let at-head-words = c .before .before .before .before .before .before .before .before .before .before .before .before .before .before .before .before .before .head-words in
+    let at-if3 = c .before .before .before .before .before .before .before .before .before .before .before .before .before .before .before .before .if3 in
+    let at-loop = c .before .before .before .before .before .before .before .before .before .before .before .before .before .before .before .loop in
+    let at-loop-test = c .before .before .before .before .before .before .before .before .before .before .before .before .before .before .loop-test in
+    let at-decode-one = c .before .before .before .before .before .before .before .before .before .before .decode-one in
+    let at-if4 = c .before .before .before .if4 in
+    let at-took-none = c .before .before .took-none in
+    refuse 10 (c .refusal4 .ensures) (λ e. omega arith) (entry-refused _ _ _ _ _ _ _ _ (head-is (at-args .e) (at-is-single .result) (at-head-words .result) (at-is-single .ensures) (at-head-words .ensures)) _ (counted-is (at-args .layout .now) (at-args .page) (length (at-args .text .now)) (at-args .deps) (at-args .e)
+    (at-args .counts .now) (at-args .told) (at-args .text .now) ∙ at-element-count .ensures .fine (at-if2 .left)) _ (at-is-single .ensures) (at-if3 .left) (omega (arith, at-struct-known3 .given .1 .1 .0)) _ (turns-nothing (at-loop .inv) (at-loop-test .taken) (at-decode-one .last .1 .1 .0)
+    (at-decode-one .kept .1 .1 .0) (at-decode-one .result) (at-decode-one .last .1 .1 .1 .0) (at-decode-one .last .1 .1 .1 .1 .0) ((same-as (one-group _ _ _ _ _ _ _ _ _ (at-if1 .left) (at-element-name .ensures)) (at-decode-one .ensures)) .fine (at-if4 .left)) (at-took-none .result) (at-took-none .ensures) (c .before .if5 .taken)))
 
 pub decode-field-sat-add-requires : (t : ℕ) → decode-field-lts.Need-sat-add-requires (decode-field-claims t) (decode-field-at t) decode-field.Post decode-field-Inv-loop decode-field-μ-loop
 decode-field-sat-add-requires t c κs = search needs
@@ -153,31 +232,82 @@ pub decode-field-sat-add-requires-2 : (t : ℕ) → decode-field-lts.Need-sat-ad
 decode-field-sat-add-requires-2 t c κs = search needs
 
 pub decode-field-add-used : (t : ℕ) → decode-field-lts.Need-add-used (decode-field-claims t) (decode-field-at t) decode-field.Post decode-field-Inv-loop decode-field-μ-loop
-decode-field-add-used t c = omega (arith, returned-written (c .before .before .before .before .before .before .before .before .before .before .before .before .before .before .before .before .before .loop .inv .written) (c .before .before .before .before .before .before .before .before .before .before .before .before .decode-one .last .1 .1 .0) (c .before .before .before .before .before .before .before .before .before .before .before .before .decode-one .kept .1 .1 .0) _ ((c .before .before .before .before .before .before .before .before .before .before .before .before .decode-one .ensures .fine (c .before .before .before .before .before .if4 .left)) .within) .within, c .before .before .before .before .before .before .before .before .before .before .before .before .before .before .before .before .before .before .before .before .before .before .before .before .before .before .before .before .before .before .before .before .before .good .1 .1 .0 .0)
+decode-field-add-used t c =
+    let at-good = c .before .before .before .before .before .before .before .before .before .before .before .before .before .before .before .before .before .before .before .before .before .before .before .before .before .before .before .before .before .before .before .before .before .good in
+    let at-loop = c .before .before .before .before .before .before .before .before .before .before .before .before .before .before .before .before .before .loop in
+    let at-decode-one = c .before .before .before .before .before .before .before .before .before .before .before .before .decode-one in
+    let at-if4 = c .before .before .before .before .before .if4 in
+    omega (arith, returned-written (at-loop .inv .written) (at-decode-one .last .1 .1 .0) (at-decode-one .kept .1 .1 .0) _ ((at-decode-one .ensures .fine (at-if4 .left)) .within) .within, at-good .1 .1 .0 .0)
 
 pub decode-field-add-members : (t : ℕ) → decode-field-lts.Need-add-members (decode-field-claims t) (decode-field-at t) decode-field.Post decode-field-Inv-loop decode-field-μ-loop
-decode-field-add-members t c = omega (arith, returned-written (c .before .before .before .before .before .before .before .before .before .before .before .before .before .before .before .before .before .before .loop .inv .written) (c .before .before .before .before .before .before .before .before .before .before .before .before .before .decode-one .last .1 .1 .0) (c .before .before .before .before .before .before .before .before .before .before .before .before .before .decode-one .kept .1 .1 .0) _ ((c .before .before .before .before .before .before .before .before .before .before .before .before .before .decode-one .ensures .fine (c .before .before .before .before .before .before .if4 .left)) .within) .within, c .before .before .before .before .before .before .before .before .before .before .before .before .before .before .before .before .before .before .before .before .before .before .before .before .before .before .before .before .before .before .before .before .before .before .good .1 .1 .0 .0, c .before .before .before .before .before .before .before .before .before .before .before .before .before .before .before .before .before .before .loop .inv .few, (c .before .before .before .before .before .before .before .before .before .before .before .before .before .decode-one .ensures .fine (c .before .before .before .before .before .before .if4 .left)) .few)
+decode-field-add-members t c =
+    let at-good = c .before .before .before .before .before .before .before .before .before .before .before .before .before .before .before .before .before .before .before .before .before .before .before .before .before .before .before .before .before .before .before .before .before .before .good in
+    let at-loop = c .before .before .before .before .before .before .before .before .before .before .before .before .before .before .before .before .before .before .loop in
+    let at-decode-one = c .before .before .before .before .before .before .before .before .before .before .before .before .before .decode-one in
+    let at-if4 = c .before .before .before .before .before .before .if4 in
+    omega (arith, returned-written (at-loop .inv .written) (at-decode-one .last .1 .1 .0) (at-decode-one .kept .1 .1 .0) _ ((at-decode-one .ensures .fine (at-if4 .left)) .within) .within, at-good .1 .1 .0 .0, at-loop .inv .few, (at-decode-one .ensures .fine (at-if4 .left)) .few)
 
 pub decode-field-add-k : (t : ℕ) → decode-field-lts.Need-add-k (decode-field-claims t) (decode-field-at t) decode-field.Post decode-field-Inv-loop decode-field-μ-loop
-decode-field-add-k t c = omega (arith, c .before .before .before .before .before .before .before .before .before .before .before .before .before .before .before .before .before .loop-test .taken, c .before .before .before .before .before .before .before .before .before .before .before .before .before .before .before .before .before .before .before .before .before .before .before .before .element-count .ok)
+decode-field-add-k t c =
+    let at-element-count = c .before .before .before .before .before .before .before .before .before .before .before .before .before .before .before .before .before .before .before .before .before .before .before .before .element-count in
+    let at-loop-test = c .before .before .before .before .before .before .before .before .before .before .before .before .before .before .before .before .before .loop-test in
+    omega (arith, at-loop-test .taken, at-element-count .ok)
 
 pub decode-field-loop-less : (t : ℕ) → decode-field-lts.Need-loop-less (decode-field-claims t) (decode-field-at t) decode-field.Post decode-field-Inv-loop decode-field-μ-loop
-decode-field-loop-less t c = omega (arith, c .before .before .before .before .before .before .before .before .before .before .before .before .before .before .before .before .before .loop-test .taken)
+decode-field-loop-less t c =
+    let at-loop-test = c .before .before .before .before .before .before .before .before .before .before .before .before .before .before .before .before .before .loop-test in
+    omega (arith, at-loop-test .taken)
 
 pub decode-field-loop-again : (t : ℕ) → decode-field-lts.Need-loop-again (decode-field-claims t) (decode-field-at t) decode-field.Post decode-field-Inv-loop decode-field-μ-loop
-decode-field-loop-again t c = turns-go (c .before .before .before .before .before .before .before .before .before .before .before .before .before .before .before .before .before .before .loop .inv) (c .before .before .before .before .before .before .before .before .before .before .before .before .before .before .before .before .before .loop-test .taken) (c .before .before .before .before .before .before .before .before .before .before .before .before .before .decode-one .last .1 .1 .0) (c .before .before .before .before .before .before .before .before .before .before .before .before .before .decode-one .kept .1 .1 .0) (c .before .before .before .before .before .before .before .before .before .before .before .before .before .decode-one .result) (c .before .before .before .before .before .before .before .before .before .before .before .before .before .decode-one .last .1 .1 .1 .0) (c .before .before .before .before .before .before .before .before .before .before .before .before .before .decode-one .last .1 .1 .1 .1 .0) ((same-as (one-group _ _ _ _ _ _ _ _ _ (c .before .before .before .before .before .before .before .before .before .before .before .before .before .before .before .before .before .before .before .before .before .before .before .before .before .before .before .before .if1 .left) (c .before .before .before .before .before .before .before .before .before .before .before .before .before .before .before .before .before .before .before .before .before .before .before .before .before .before .element-name .ensures)) (c .before .before .before .before .before .before .before .before .before .before .before .before .before .decode-one .ensures)) .fine (c .before .before .before .before .before .before .if4 .left)) (c .before .before .before .before .before .took-none .result) (c .before .before .before .before .before .took-none .ensures) _ _ (c .before .before .before .before .before .before .before .before .before .before .before .before .before .decode-one .kept .1 .1 .1 .0) (c .before .before .before .before .before .before .before .before .before .before .before .before .before .decode-one .kept .1 .1 .1 .1 .0) (c .before .before .before .before .if5 .left) (c .before .before .before .sat-add .ensures) (c .before .before .sat-add2 .ensures)
+decode-field-loop-again t c =
+    let at-if1 = c .before .before .before .before .before .before .before .before .before .before .before .before .before .before .before .before .before .before .before .before .before .before .before .before .before .before .before .before .if1 in
+    let at-element-name = c .before .before .before .before .before .before .before .before .before .before .before .before .before .before .before .before .before .before .before .before .before .before .before .before .before .before .element-name in
+    let at-loop = c .before .before .before .before .before .before .before .before .before .before .before .before .before .before .before .before .before .before .loop in
+    let at-loop-test = c .before .before .before .before .before .before .before .before .before .before .before .before .before .before .before .before .before .loop-test in
+    let at-decode-one = c .before .before .before .before .before .before .before .before .before .before .before .before .before .decode-one in
+    let at-if4 = c .before .before .before .before .before .before .if4 in
+    let at-took-none = c .before .before .before .before .before .took-none in
+    let at-if5 = c .before .before .before .before .if5 in
+    let at-sat-add = c .before .before .before .sat-add in
+    let at-sat-add2 = c .before .before .sat-add2 in
+    turns-go (at-loop .inv) (at-loop-test .taken) (at-decode-one .last .1 .1 .0) (at-decode-one .kept .1 .1 .0) (at-decode-one .result) (at-decode-one .last .1 .1 .1 .0) (at-decode-one .last .1 .1 .1 .1 .0) ((same-as (one-group _ _ _ _ _ _ _ _ _ (at-if1 .left) (at-element-name .ensures))
+    (at-decode-one .ensures)) .fine (at-if4 .left)) (at-took-none .result) (at-took-none .ensures) _ _ (at-decode-one .kept .1 .1 .1 .0) (at-decode-one .kept .1 .1 .1 .1 .0) (at-if5 .left) (at-sat-add .ensures) (at-sat-add2 .ensures)
 
 pub decode-field-listed-requires : (t : ℕ) → decode-field-lts.Need-listed-requires (decode-field-claims t) (decode-field-at t) decode-field.Post decode-field-Inv-loop decode-field-μ-loop
-decode-field-listed-requires t c κs = ((head-is (c .before .before .before .before .before .before .before .before .before .before .before .before .before .before .before .before .before .before .args .e) (c .before .before .before .before .before .before .before .before .before .before .before .is-single .result) (c .before .before .before .before .head-words .result) (c .before .before .before .before .before .before .before .before .before .before .before .is-single .ensures) (c .before .before .before .before .head-words .ensures)), (omega (arith, c .before .before .loop .inv .few), omega (arith, c .before .before .loop .inv .written .within, c .before .before .loop .inv .written .same)))
+decode-field-listed-requires t c κs =
+    let at-args = c .before .before .before .before .before .before .before .before .before .before .before .before .before .before .before .before .before .before .args in
+    let at-is-single = c .before .before .before .before .before .before .before .before .before .before .before .is-single in
+    let at-head-words = c .before .before .before .before .head-words in
+    let at-loop = c .before .before .loop in
+    ((head-is (at-args .e) (at-is-single .result) (at-head-words .result) (at-is-single .ensures) (at-head-words .ensures)), (omega (arith, at-loop .inv .few), omega (arith, at-loop .inv .written .within, at-loop .inv .written .same)))
 
 pub decode-field-same-length-12 : (t : ℕ) → decode-field-lts.Need-same-length-12 (decode-field-claims t) (decode-field-at t) decode-field.Post decode-field-Inv-loop decode-field-μ-loop
-decode-field-same-length-12 t c = c .before .before .listed .kept .0 ∙ c .before .before .before .before .before .loop .inv .written .same
+decode-field-same-length-12 t c =
+    let at-loop = c .before .before .before .before .before .loop in
+    let at-listed = c .before .before .listed in
+    at-listed .kept .0 ∙ at-loop .inv .written .same
 
 pub decode-field-same-length-13 : (t : ℕ) → decode-field-lts.Need-same-length-13 (decode-field-claims t) (decode-field-at t) decode-field.Post decode-field-Inv-loop decode-field-μ-loop
-decode-field-same-length-13 t c = c .before .before .before .before .before .loop .inv .texts
+decode-field-same-length-13 t c =
+    let at-loop = c .before .before .before .before .before .loop in
+    at-loop .inv .texts
 
 pub decode-field-same-length-14 : (t : ℕ) → decode-field-lts.Need-same-length-14 (decode-field-claims t) (decode-field-at t) decode-field.Post decode-field-Inv-loop decode-field-μ-loop
-decode-field-same-length-14 t c = c .before .before .before .before .before .loop .inv .kept
+decode-field-same-length-14 t c =
+    let at-loop = c .before .before .before .before .before .loop in
+    at-loop .inv .kept
 
 pub decode-field-returns-6 : (t : ℕ) → decode-field-lts.Need-returns-6 (decode-field-claims t) (decode-field-at t) decode-field.Post decode-field-Inv-loop decode-field-μ-loop
-decode-field-returns-6 t c = listed-met (c .before .before .before .before .before .before .before .before .before .before .before .before .before .before .before .before .before .before .before .before .before .args .e) (c .before .before .before .before .before .loop .inv) (c .before .before .before .before .loop-test .left) (head-is (c .before .before .before .before .before .before .before .before .before .before .before .before .before .before .before .before .before .before .before .before .before .args .e) (c .before .before .before .before .before .before .before .before .before .before .before .before .before .before .is-single .result) (c .before .before .before .before .before .before .before .head-words .result) (c .before .before .before .before .before .before .before .before .before .before .before .before .before .before .is-single .ensures) (c .before .before .before .before .before .before .before .head-words .ensures)) (entry-is _ _ _ _ _ _ _ _ (head-is (c .before .before .before .before .before .before .before .before .before .before .before .before .before .before .before .before .before .before .before .before .before .args .e) (c .before .before .before .before .before .before .before .before .before .before .before .before .before .before .is-single .result) (c .before .before .before .before .before .before .before .head-words .result) (c .before .before .before .before .before .before .before .before .before .before .before .before .before .before .is-single .ensures) (c .before .before .before .before .before .before .before .head-words .ensures)) _ (counted-is (c .before .before .before .before .before .before .before .before .before .before .before .before .before .before .before .before .before .before .before .before .before .args .layout .now) (c .before .before .before .before .before .before .before .before .before .before .before .before .before .before .before .before .before .before .before .before .before .args .page) (length (c .before .before .before .before .before .before .before .before .before .before .before .before .before .before .before .before .before .before .before .before .before .args .text .now)) (c .before .before .before .before .before .before .before .before .before .before .before .before .before .before .before .before .before .before .before .before .before .args .deps) (c .before .before .before .before .before .before .before .before .before .before .before .before .before .before .before .before .before .before .before .before .before .args .e) (c .before .before .before .before .before .before .before .before .before .before .before .before .before .before .before .before .before .before .before .before .before .args .counts .now) (c .before .before .before .before .before .before .before .before .before .before .before .before .before .before .before .before .before .before .before .before .before .args .told) (c .before .before .before .before .before .before .before .before .before .before .before .before .before .before .before .before .before .before .before .before .before .args .text .now) ∙ c .before .before .before .before .before .before .before .before .before .before .before .element-count .ensures .fine (c .before .before .before .before .before .before .before .before .before .if2 .left)) _ (c .before .before .before .before .before .before .before .before .before .before .before .before .before .before .is-single .ensures) (c .before .before .before .before .before .before .if3 .left) (omega (arith, c .before .before .before .before .before .before .before .before .struct-known3 .given .1 .1 .0))) (c .before .before .listed .ensures)
+decode-field-returns-6 t c =
+    let at-args = c .before .before .before .before .before .before .before .before .before .before .before .before .before .before .before .before .before .before .before .before .before .args in
+    let at-is-single = c .before .before .before .before .before .before .before .before .before .before .before .before .before .before .is-single in
+    let at-element-count = c .before .before .before .before .before .before .before .before .before .before .before .element-count in
+    let at-struct-known3 = c .before .before .before .before .before .before .before .before .struct-known3 in
+    let at-if2 = c .before .before .before .before .before .before .before .before .before .if2 in
+    let at-head-words = c .before .before .before .before .before .before .before .head-words in
+    let at-if3 = c .before .before .before .before .before .before .if3 in
+    let at-loop = c .before .before .before .before .before .loop in
+    let at-loop-test = c .before .before .before .before .loop-test in
+    let at-listed = c .before .before .listed in
+    listed-met (at-args .e) (at-loop .inv) (at-loop-test .left) (head-is (at-args .e) (at-is-single .result) (at-head-words .result) (at-is-single .ensures) (at-head-words .ensures)) (entry-is _ _ _ _ _ _ _ _ (head-is (at-args .e) (at-is-single .result) (at-head-words .result) (at-is-single .ensures)
+    (at-head-words .ensures)) _ (counted-is (at-args .layout .now) (at-args .page) (length (at-args .text .now)) (at-args .deps) (at-args .e) (at-args .counts .now) (at-args .told) (at-args .text .now) ∙ at-element-count .ensures .fine (at-if2 .left)) _ (at-is-single .ensures) (at-if3 .left) (omega (arith, at-struct-known3 .given .1 .1 .0))) (at-listed .ensures)

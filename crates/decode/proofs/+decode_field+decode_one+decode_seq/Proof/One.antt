@@ -24,7 +24,7 @@ use Rattle.layout.proofs.load.Reads as load-reads
 use Rattle.layout.proofs.reserved_width.Reads as reserved-width-reads
 use Rattle.spans.proofs.end_of.Reads as end-of-reads
 use Rattle.decode.proofs.+decode_field+decode_one+decode_seq.Proof.Common.{decode-one-at, decode-seq-below}
-use mathlib.Core.Path.{refl, _∙_}
+use mathlib.Core.Path.{_∙_, refl}
 use Prim.Native.Nat.{_-_}
 use native.Mathlib.Omega.{arith}
 use borrow.Author.Needs.{needs}
@@ -56,37 +56,75 @@ pub decode-one-part-decode-seq-end : (t : ℕ) → decode-one-lts.Need-part-deco
 decode-one-part-decode-seq-end t c = omega arith
 
 pub decode-one-decode-seq-requires : (t : ℕ) → decode-one-lts.Need-decode-seq-requires (decode-one-claims t) (decode-one-at t) decode-one.Post
-decode-one-decode-seq-requires t c κs = (omega (arith, c .before .before .before .before .before .before .before .before .pre .0), c .before .before .before .before .before .before .before .before .pre .1)
+decode-one-decode-seq-requires t c κs =
+    let at-pre = c .before .before .before .before .before .before .before .before .pre in
+    (omega (arith, at-pre .0), at-pre .1)
 
 pub decode-one-refusal-requires-2 : (t : ℕ) → decode-one-lts.Need-refusal-requires-2 (decode-one-claims t) (decode-one-at t) decode-one.Post
 decode-one-refusal-requires-2 t c κs = search needs
 
 pub decode-one-same-length : (t : ℕ) → decode-one-lts.Need-same-length (decode-one-claims t) (decode-one-at t) decode-one.Post
-decode-one-same-length t c = header-same (c .before .before .before .before .before .before .before .before .before .before .before .before .before .before .before .before .before .args .items .now) (c .before .before .before .before .before .before .before .before .before .before .before .before .if1 .left) (c .before .before .before .before .before .before .before .before .decode-seq .last .1 .1 .0) (c .before .before .before .before .before .before .before .before .decode-seq .kept .1 .1 .0)
+decode-one-same-length t c =
+    let at-args = c .before .before .before .before .before .before .before .before .before .before .before .before .before .before .before .before .before .args in
+    let at-if1 = c .before .before .before .before .before .before .before .before .before .before .before .before .if1 in
+    let at-decode-seq = c .before .before .before .before .before .before .before .before .decode-seq in
+    header-same (at-args .items .now) (at-if1 .left) (at-decode-seq .last .1 .1 .0) (at-decode-seq .kept .1 .1 .0)
 
 pub decode-one-same-length-2 : (t : ℕ) → decode-one-lts.Need-same-length-2 (decode-one-claims t) (decode-one-at t) decode-one.Post
-decode-one-same-length-2 t c = (c .before .before .before .before .before .before .before .before .decode-seq .kept .1 .1 .1 .0)
+decode-one-same-length-2 t c =
+    let at-decode-seq = c .before .before .before .before .before .before .before .before .decode-seq in
+    (at-decode-seq .kept .1 .1 .1 .0)
 
 pub decode-one-same-length-3 : (t : ℕ) → decode-one-lts.Need-same-length-3 (decode-one-claims t) (decode-one-at t) decode-one.Post
-decode-one-same-length-3 t c = (c .before .before .before .before .before .before .before .before .decode-seq .kept .1 .1 .1 .1 .0)
+decode-one-same-length-3 t c =
+    let at-decode-seq = c .before .before .before .before .before .before .before .before .decode-seq in
+    (at-decode-seq .kept .1 .1 .1 .1 .0)
 
 pub decode-one-returns-2 : (t : ℕ) → decode-one-lts.Need-returns-2 (decode-one-claims t) (decode-one-at t) decode-one.Post
-decode-one-returns-2 t c = refuse (c .before .before .before .before .before .before .before .before .decode-seq .result .refused) (c .refusal2 .ensures) (c .before .if2 .taken) (inside-stops (c .before .before .before .before .before .before .before .before .before .before .before .before .before .before .before .before .before .args .items .now) (c .before .before .before .before .before .before .before .before .before .before .before .before .if1 .left) (c .before .before .before .before .before .before .before .before .decode-seq .last .1 .1 .0) (c .before .before .before .before .before .before .before .before .decode-seq .kept .1 .1 .0) _ _ _ _ _ (c .before .before .before .before .before .before .before .before .decode-seq .ensures .refuses (c .before .if2 .taken)))
+decode-one-returns-2 t c =
+    let at-args = c .before .before .before .before .before .before .before .before .before .before .before .before .before .before .before .before .before .args in
+    let at-if1 = c .before .before .before .before .before .before .before .before .before .before .before .before .if1 in
+    let at-decode-seq = c .before .before .before .before .before .before .before .before .decode-seq in
+    refuse (at-decode-seq .result .refused) (c .refusal2 .ensures) (c .before .if2 .taken) (inside-stops (at-args .items .now) (at-if1 .left) (at-decode-seq .last .1 .1 .0) (at-decode-seq .kept .1 .1 .0) _ _ _ _ _ (at-decode-seq .ensures .refuses (c .before .if2 .taken) .0))
 
 pub decode-one-add-used : (t : ℕ) → decode-one-lts.Need-add-used (decode-one-claims t) (decode-one-at t) decode-one.Post
-decode-one-add-used t c = omega (arith, used-fits (c .before .before .before .before .before .before .before .before .before .before .before .before .before .before .before .before .before .args .items .now) (c .before .before .before .before .before .before .before .before .before .before .before .before .if1 .left) (c .before .before .before .before .before .before .before .before .decode-seq .last .1 .1 .0) (c .before .before .before .before .before .before .before .before .decode-seq .kept .1 .1 .0) ((c .before .before .before .before .before .before .before .before .decode-seq .ensures .fine (c .before .if2 .left)) .within), c .before .before .before .before .before .before .before .before .before .before .before .before .before .before .before .before .before .good .1 .1 .0 .0)
+decode-one-add-used t c =
+    let at-args = c .before .before .before .before .before .before .before .before .before .before .before .before .before .before .before .before .before .args in
+    let at-good = c .before .before .before .before .before .before .before .before .before .before .before .before .before .before .before .before .before .good in
+    let at-if1 = c .before .before .before .before .before .before .before .before .before .before .before .before .if1 in
+    let at-decode-seq = c .before .before .before .before .before .before .before .before .decode-seq in
+    omega (arith, used-fits (at-args .items .now) (at-if1 .left) (at-decode-seq .last .1 .1 .0) (at-decode-seq .kept .1 .1 .0) ((at-decode-seq .ensures .fine (c .before .if2 .left)) .within), at-good .1 .1 .0 .0)
 
 pub decode-one-put-header-requires : (t : ℕ) → decode-one-lts.Need-put-header-requires (decode-one-claims t) (decode-one-at t) decode-one.Post
-decode-one-put-header-requires t c κs = omega (arith, header-same (c .before .before .before .before .before .before .before .before .before .before .before .before .before .before .before .before .before .before .args .items .now) (c .before .before .before .before .before .before .before .before .before .before .before .before .before .if1 .left) (c .before .before .before .before .before .before .before .before .before .decode-seq .last .1 .1 .0) (c .before .before .before .before .before .before .before .before .before .decode-seq .kept .1 .1 .0), c .before .before .before .before .before .before .before .before .before .before .before .before .before .if1 .left)
+decode-one-put-header-requires t c κs =
+    let at-args = c .before .before .before .before .before .before .before .before .before .before .before .before .before .before .before .before .before .before .args in
+    let at-if1 = c .before .before .before .before .before .before .before .before .before .before .before .before .before .if1 in
+    let at-decode-seq = c .before .before .before .before .before .before .before .before .before .decode-seq in
+    omega (arith, header-same (at-args .items .now) (at-if1 .left) (at-decode-seq .last .1 .1 .0) (at-decode-seq .kept .1 .1 .0), at-if1 .left)
 
 pub decode-one-same-length-4 : (t : ℕ) → decode-one-lts.Need-same-length-4 (decode-one-claims t) (decode-one-at t) decode-one.Post
-decode-one-same-length-4 t c = c .before .before .put-header .kept .0 ∙ header-same (c .before .before .before .before .before .before .before .before .before .before .before .before .before .before .before .before .before .before .before .before .before .args .items .now) (c .before .before .before .before .before .before .before .before .before .before .before .before .before .before .before .before .if1 .left) (c .before .before .before .before .before .before .before .before .before .before .before .before .decode-seq .last .1 .1 .0) (c .before .before .before .before .before .before .before .before .before .before .before .before .decode-seq .kept .1 .1 .0)
+decode-one-same-length-4 t c =
+    let at-args = c .before .before .before .before .before .before .before .before .before .before .before .before .before .before .before .before .before .before .before .before .before .args in
+    let at-if1 = c .before .before .before .before .before .before .before .before .before .before .before .before .before .before .before .before .if1 in
+    let at-decode-seq = c .before .before .before .before .before .before .before .before .before .before .before .before .decode-seq in
+    let at-put-header = c .before .before .put-header in
+    at-put-header .kept .0 ∙ header-same (at-args .items .now) (at-if1 .left) (at-decode-seq .last .1 .1 .0) (at-decode-seq .kept .1 .1 .0)
 
 pub decode-one-same-length-5 : (t : ℕ) → decode-one-lts.Need-same-length-5 (decode-one-claims t) (decode-one-at t) decode-one.Post
-decode-one-same-length-5 t c = (c .before .before .before .before .before .before .before .before .before .before .before .before .decode-seq .kept .1 .1 .1 .0)
+decode-one-same-length-5 t c =
+    let at-decode-seq = c .before .before .before .before .before .before .before .before .before .before .before .before .decode-seq in
+    (at-decode-seq .kept .1 .1 .1 .0)
 
 pub decode-one-same-length-6 : (t : ℕ) → decode-one-lts.Need-same-length-6 (decode-one-claims t) (decode-one-at t) decode-one.Post
-decode-one-same-length-6 t c = (c .before .before .before .before .before .before .before .before .before .before .before .before .decode-seq .kept .1 .1 .1 .1 .0)
+decode-one-same-length-6 t c =
+    let at-decode-seq = c .before .before .before .before .before .before .before .before .before .before .before .before .decode-seq in
+    (at-decode-seq .kept .1 .1 .1 .1 .0)
 
 pub decode-one-returns-3 : (t : ℕ) → decode-one-lts.Need-returns-3 (decode-one-claims t) (decode-one-at t) decode-one.Post
-decode-one-returns-3 t c = inside-done (c .before .before .before .before .before .before .before .before .before .before .before .before .before .before .before .before .before .before .before .before .before .args .items .now) (c .before .before .before .before .before .before .before .before .before .before .before .before .before .before .before .before .if1 .left) (c .before .before .before .before .before .before .before .before .before .before .before .before .decode-seq .last .1 .1 .0) (c .before .before .before .before .before .before .before .before .before .before .before .before .decode-seq .kept .1 .1 .0) _ _ _ _ refl (c .before .before .before .before .before .before .before .before .before .before .before .before .decode-seq .ensures .fine (c .before .before .before .before .before .if2 .left)) (c .before .before .put-header .ensures) refl
+decode-one-returns-3 t c =
+    let at-args = c .before .before .before .before .before .before .before .before .before .before .before .before .before .before .before .before .before .before .before .before .before .args in
+    let at-if1 = c .before .before .before .before .before .before .before .before .before .before .before .before .before .before .before .before .if1 in
+    let at-decode-seq = c .before .before .before .before .before .before .before .before .before .before .before .before .decode-seq in
+    let at-if2 = c .before .before .before .before .before .if2 in
+    let at-put-header = c .before .before .put-header in
+    inside-done (at-args .items .now) (at-if1 .left) (at-decode-seq .last .1 .1 .0) (at-decode-seq .kept .1 .1 .0) _ _ _ _ refl (at-decode-seq .ensures .fine (at-if2 .left)) (at-put-header .ensures) refl

@@ -26,7 +26,7 @@ use Rattle.layout.proofs.load.Reads as load-reads
 use Rattle.layout.proofs.reserved_width.Reads as reserved-width-reads
 use Rattle.spans.proofs.end_of.Reads as end-of-reads
 use Rattle.decode.proofs.+decode_field+decode_one+decode_seq.Proof.Common.{decode-field-below, decode-seq-at}
-use mathlib.Core.Path.{sym, _∙_}
+use mathlib.Core.Path.{_∙_, sym}
 use Prim.Native.Nat.{_-_}
 use native.Mathlib.Omega.{arith}
 use borrow.Author.Needs.{needs}
@@ -36,7 +36,7 @@ use Rattle.walks.specs.Reading.{one}
 use Rattle.decode_leaf.specs.Capped.{seq}
 use Rattle.decode_leaf.specs.Machine.{kept}
 use Rattle.decode_leaf.proofs.Meets.{refuse, same-as}
-use Rattle.decode.proofs.Turns.{SeqInv, seq-starts, seq-stops, seq-goes, seq-passes, seq-done, returned-same, returned-written}
+use Rattle.decode.proofs.Turns.{returned-same, returned-written, SeqInv, seq-starts, seq-stops, seq-goes, seq-passes, seq-done}
 use Rattle.decode.proofs.Around.{field-lone, lone-is, lone-kind}
 
 abbrev pub decode-seq-claims : ℕ → decode-seq-lts.Claims
@@ -49,7 +49,9 @@ abbrev pub decode-seq-μ-loop : decode-seq-lts.MeasureT-loop
 decode-seq-μ-loop layout «record» items₀ text₀ counts₀ page deps lo hi base told i₀ used₀ members₀ shift₀ far₀ behind₀ items text counts i used members shift far behind = hi - i
 
 pub decode-seq-loop-holds : (t : ℕ) → decode-seq-lts.Need-loop-holds (decode-seq-claims t) (decode-seq-at t) decode-seq.Post decode-seq-Inv-loop decode-seq-μ-loop
-decode-seq-loop-holds t c = seq-starts _ _ _ _ _ _ _ _ _ _ (c .before .before .before .before .pre .1)
+decode-seq-loop-holds t c =
+    let at-pre = c .before .before .before .before .pre in
+    seq-starts _ _ _ _ _ _ _ _ _ _ (at-pre .1)
 
 pub decode-seq-load-requires : (t : ℕ) → decode-seq-lts.Need-load-requires (decode-seq-claims t) (decode-seq-at t) decode-seq.Post decode-seq-Inv-loop decode-seq-μ-loop
 decode-seq-load-requires t c κs = search needs
@@ -73,34 +75,63 @@ pub decode-seq-is-lone-requires : (t : ℕ) → decode-seq-lts.Need-is-lone-requ
 decode-seq-is-lone-requires t c κs = search needs
 
 pub decode-seq-mul-decode-lone : (t : ℕ) → decode-seq-lts.Need-mul-decode-lone (decode-seq-claims t) (decode-seq-at t) decode-seq.Post decode-seq-Inv-loop decode-seq-μ-loop
-decode-seq-mul-decode-lone t c = omega (arith, c .before .before .before .before .before .before .before .before .before .loop .inv .written .within, c .before .before .before .before .before .before .before .before .before .loop .inv .written .same, c .before .before .before .before .before .before .before .before .before .before .before .before .before .before .good .1 .1 .0 .0, c .before .before .before .before .before .before .before .before .before .before .before .before .before .before .good .1 .1 .0 .1)
+decode-seq-mul-decode-lone t c =
+    let at-good = c .before .before .before .before .before .before .before .before .before .before .before .before .before .before .good in
+    let at-loop = c .before .before .before .before .before .before .before .before .before .loop in
+    omega (arith, at-loop .inv .written .within, at-loop .inv .written .same, at-good .1 .1 .0 .0, at-good .1 .1 .0 .1)
 
 pub decode-seq-sub-decode-lone : (t : ℕ) → decode-seq-lts.Need-sub-decode-lone (decode-seq-claims t) (decode-seq-at t) decode-seq.Post decode-seq-Inv-loop decode-seq-μ-loop
-decode-seq-sub-decode-lone t c = omega (arith, c .before .before .before .before .before .before .before .before .before .loop .inv .written .within, c .before .before .before .before .before .before .before .before .before .loop .inv .written .same)
+decode-seq-sub-decode-lone t c =
+    let at-loop = c .before .before .before .before .before .before .before .before .before .loop in
+    omega (arith, at-loop .inv .written .within, at-loop .inv .written .same)
 
 pub decode-seq-part-decode-lone-start : (t : ℕ) → decode-seq-lts.Need-part-decode-lone-start (decode-seq-claims t) (decode-seq-at t) decode-seq.Post decode-seq-Inv-loop decode-seq-μ-loop
-decode-seq-part-decode-lone-start t c = omega (arith, c .before .before .before .before .before .before .before .before .before .loop .inv .written .within, c .before .before .before .before .before .before .before .before .before .loop .inv .written .same)
+decode-seq-part-decode-lone-start t c =
+    let at-loop = c .before .before .before .before .before .before .before .before .before .loop in
+    omega (arith, at-loop .inv .written .within, at-loop .inv .written .same)
 
 pub decode-seq-part-decode-lone-end : (t : ℕ) → decode-seq-lts.Need-part-decode-lone-end (decode-seq-claims t) (decode-seq-at t) decode-seq.Post decode-seq-Inv-loop decode-seq-μ-loop
 decode-seq-part-decode-lone-end t c = omega arith
 
 pub decode-seq-decode-lone-requires : (t : ℕ) → decode-seq-lts.Need-decode-lone-requires (decode-seq-claims t) (decode-seq-at t) decode-seq.Post decode-seq-Inv-loop decode-seq-μ-loop
-decode-seq-decode-lone-requires t c κs = c .before .before .before .before .before .before .before .before .before .before .before .before .loop .inv .fits
+decode-seq-decode-lone-requires t c κs =
+    let at-loop = c .before .before .before .before .before .before .before .before .before .before .before .before .loop in
+    at-loop .inv .fits
 
 pub decode-seq-refusal-requires : (t : ℕ) → decode-seq-lts.Need-refusal-requires (decode-seq-claims t) (decode-seq-at t) decode-seq.Post decode-seq-Inv-loop decode-seq-μ-loop
 decode-seq-refusal-requires t c κs = search needs
 
 pub decode-seq-same-length : (t : ℕ) → decode-seq-lts.Need-same-length (decode-seq-claims t) (decode-seq-at t) decode-seq.Post decode-seq-Inv-loop decode-seq-μ-loop
-decode-seq-same-length t c = returned-same (c .before .before .before .before .before .before .before .before .before .before .before .before .before .before .before .before .before .before .before .before .before .loop .inv .written) (c .before .before .before .before .before .before .before .before .decode-lone .last .1 .1 .0) (c .before .before .before .before .before .before .before .before .decode-lone .kept .1 .1 .0) ∙ c .before .before .before .before .before .before .before .before .before .before .before .before .before .before .before .before .before .before .before .before .before .loop .inv .written .same
+decode-seq-same-length t c =
+    let at-loop = c .before .before .before .before .before .before .before .before .before .before .before .before .before .before .before .before .before .before .before .before .before .loop in
+    let at-decode-lone = c .before .before .before .before .before .before .before .before .decode-lone in
+    returned-same (at-loop .inv .written) (at-decode-lone .last .1 .1 .0) (at-decode-lone .kept .1 .1 .0) ∙ at-loop .inv .written .same
 
 pub decode-seq-same-length-2 : (t : ℕ) → decode-seq-lts.Need-same-length-2 (decode-seq-claims t) (decode-seq-at t) decode-seq.Post decode-seq-Inv-loop decode-seq-μ-loop
-decode-seq-same-length-2 t c = (c .before .before .before .before .before .before .before .before .decode-lone .kept .1 .1 .1 .0) ∙ c .before .before .before .before .before .before .before .before .before .before .before .before .before .before .before .before .before .before .before .before .before .loop .inv .texts
+decode-seq-same-length-2 t c =
+    let at-loop = c .before .before .before .before .before .before .before .before .before .before .before .before .before .before .before .before .before .before .before .before .before .loop in
+    let at-decode-lone = c .before .before .before .before .before .before .before .before .decode-lone in
+    (at-decode-lone .kept .1 .1 .1 .0) ∙ at-loop .inv .texts
 
 pub decode-seq-same-length-3 : (t : ℕ) → decode-seq-lts.Need-same-length-3 (decode-seq-claims t) (decode-seq-at t) decode-seq.Post decode-seq-Inv-loop decode-seq-μ-loop
-decode-seq-same-length-3 t c = (c .before .before .before .before .before .before .before .before .decode-lone .kept .1 .1 .1 .1 .0) ∙ c .before .before .before .before .before .before .before .before .before .before .before .before .before .before .before .before .before .before .before .before .before .loop .inv .kept
+decode-seq-same-length-3 t c =
+    let at-loop = c .before .before .before .before .before .before .before .before .before .before .before .before .before .before .before .before .before .before .before .before .before .loop in
+    let at-decode-lone = c .before .before .before .before .before .before .before .before .decode-lone in
+    (at-decode-lone .kept .1 .1 .1 .1 .0) ∙ at-loop .inv .kept
 
 pub decode-seq-returns : (t : ℕ) → decode-seq-lts.Need-returns (decode-seq-claims t) (decode-seq-at t) decode-seq.Post decode-seq-Inv-loop decode-seq-μ-loop
-decode-seq-returns t c = refuse (c .before .before .before .before .before .before .before .before .decode-lone .result .refused) (c .refusal .ensures) (c .before .if2 .taken) (seq-stops (c .before .before .before .before .before .before .before .before .before .before .before .before .before .before .before .before .before .before .before .before .before .loop .inv) _ _ _ _ (c .before .before .before .before .before .before .before .before .before .before .before .before .before .before .before .before .before .before .before .before .loop-test .taken) (c .before .before .before .before .before .before .before .before .before .before .before .before .before .before .before .before .before .before .before .load .ensures) (c .before .before .before .before .before .before .before .before .before .before .before .before .before .before .before .before .before .end-of .ensures) (c .before .before .before .before .before .before .before .before .before .before .before .before .before .before .before .sat-add .ensures) (c .before .before .before .before .before .before .before .before .before .before .before .before .before .before .sat-add2 .ensures) (c .before .before .before .before .before .before .before .before .decode-lone .last .1 .1 .0) (c .before .before .before .before .before .before .before .before .decode-lone .kept .1 .1 .0) _ ((same-as (field-lone _ _ _ _ _ _ _ (lone-kind (c .before .before .before .before .before .before .before .before .before .before .before .before .before .before .before .before .before .before .before .load .result) (c .before .before .before .before .before .before .before .before .before .before .before .before .before .is-lone .ensures) (c .before .before .before .before .before .before .before .before .before .before .before .before .if1 .taken)) (lone-is (c .before .before .before .before .before .before .before .before .before .before .before .before .before .before .before .before .before .before .before .load .result) (c .before .before .before .before .before .before .before .before .before .before .before .before .before .is-lone .ensures) (c .before .before .before .before .before .before .before .before .before .before .before .before .if1 .taken))) (c .before .before .before .before .before .before .before .before .decode-lone .ensures)) .refuses (c .before .if2 .taken)))
+decode-seq-returns t c =
+    let at-loop = c .before .before .before .before .before .before .before .before .before .before .before .before .before .before .before .before .before .before .before .before .before .loop in
+    let at-loop-test = c .before .before .before .before .before .before .before .before .before .before .before .before .before .before .before .before .before .before .before .before .loop-test in
+    let at-load = c .before .before .before .before .before .before .before .before .before .before .before .before .before .before .before .before .before .before .before .load in
+    let at-end-of = c .before .before .before .before .before .before .before .before .before .before .before .before .before .before .before .before .before .end-of in
+    let at-sat-add = c .before .before .before .before .before .before .before .before .before .before .before .before .before .before .before .sat-add in
+    let at-sat-add2 = c .before .before .before .before .before .before .before .before .before .before .before .before .before .before .sat-add2 in
+    let at-is-lone = c .before .before .before .before .before .before .before .before .before .before .before .before .before .is-lone in
+    let at-if1 = c .before .before .before .before .before .before .before .before .before .before .before .before .if1 in
+    let at-decode-lone = c .before .before .before .before .before .before .before .before .decode-lone in
+    refuse (at-decode-lone .result .refused) (c .refusal .ensures) (c .before .if2 .taken) (seq-stops (at-loop .inv) _ _ _ _ (at-loop-test .taken) (at-load .ensures) (at-end-of .ensures) (at-sat-add .ensures) (at-sat-add2 .ensures) (at-decode-lone .last .1 .1 .0) (at-decode-lone .kept .1 .1 .0) _ ((same-as
+    (field-lone _ _ _ _ _ _ _ (lone-kind (at-load .result) (at-is-lone .ensures) (at-if1 .taken)) (lone-is (at-load .result) (at-is-lone .ensures) (at-if1 .taken))) (at-decode-lone .ensures .0 .met)) .refuses (c .before .if2 .taken) .0))
 
 pub decode-seq-sat-add-requires-3 : (t : ℕ) → decode-seq-lts.Need-sat-add-requires-3 (decode-seq-claims t) (decode-seq-at t) decode-seq.Post decode-seq-Inv-loop decode-seq-μ-loop
 decode-seq-sat-add-requires-3 t c κs = search needs
@@ -109,49 +140,111 @@ pub decode-seq-larger-requires : (t : ℕ) → decode-seq-lts.Need-larger-requir
 decode-seq-larger-requires t c κs = search needs
 
 pub decode-seq-add-used : (t : ℕ) → decode-seq-lts.Need-add-used (decode-seq-claims t) (decode-seq-at t) decode-seq.Post decode-seq-Inv-loop decode-seq-μ-loop
-decode-seq-add-used t c = omega (arith, returned-written (c .before .before .before .before .before .before .before .before .before .before .before .before .before .before .before .before .before .before .before .before .before .before .before .loop .inv .written) (c .before .before .before .before .before .before .before .before .before .before .decode-lone .last .1 .1 .0) (c .before .before .before .before .before .before .before .before .before .before .decode-lone .kept .1 .1 .0) _ ((c .before .before .before .before .before .before .before .before .before .before .decode-lone .ensures .fine (c .before .before .before .if2 .left)) .within) .within, c .before .before .before .before .before .before .before .before .before .before .before .before .before .before .before .before .before .before .before .before .before .before .before .before .before .before .before .before .good .1 .1 .0 .0)
+decode-seq-add-used t c =
+    let at-good = c .before .before .before .before .before .before .before .before .before .before .before .before .before .before .before .before .before .before .before .before .before .before .before .before .before .before .before .before .good in
+    let at-loop = c .before .before .before .before .before .before .before .before .before .before .before .before .before .before .before .before .before .before .before .before .before .before .before .loop in
+    let at-decode-lone = c .before .before .before .before .before .before .before .before .before .before .decode-lone in
+    let at-if2 = c .before .before .before .if2 in
+    omega (arith, returned-written (at-loop .inv .written) (at-decode-lone .last .1 .1 .0) (at-decode-lone .kept .1 .1 .0) _ ((at-decode-lone .ensures .0 .met .fine (at-if2 .left)) .within) .within, at-good .1 .1 .0 .0)
 
 pub decode-seq-add-members : (t : ℕ) → decode-seq-lts.Need-add-members (decode-seq-claims t) (decode-seq-at t) decode-seq.Post decode-seq-Inv-loop decode-seq-μ-loop
-decode-seq-add-members t c = omega (arith, returned-written (c .before .before .before .before .before .before .before .before .before .before .before .before .before .before .before .before .before .before .before .before .before .before .before .before .loop .inv .written) (c .before .before .before .before .before .before .before .before .before .before .before .decode-lone .last .1 .1 .0) (c .before .before .before .before .before .before .before .before .before .before .before .decode-lone .kept .1 .1 .0) _ ((c .before .before .before .before .before .before .before .before .before .before .before .decode-lone .ensures .fine (c .before .before .before .before .if2 .left)) .within) .within, c .before .before .before .before .before .before .before .before .before .before .before .before .before .before .before .before .before .before .before .before .before .before .before .before .before .before .before .before .before .good .1 .1 .0 .0, c .before .before .before .before .before .before .before .before .before .before .before .before .before .before .before .before .before .before .before .before .before .before .before .before .loop .inv .few, (c .before .before .before .before .before .before .before .before .before .before .before .decode-lone .ensures .fine (c .before .before .before .before .if2 .left)) .few)
+decode-seq-add-members t c =
+    let at-good = c .before .before .before .before .before .before .before .before .before .before .before .before .before .before .before .before .before .before .before .before .before .before .before .before .before .before .before .before .before .good in
+    let at-loop = c .before .before .before .before .before .before .before .before .before .before .before .before .before .before .before .before .before .before .before .before .before .before .before .before .loop in
+    let at-decode-lone = c .before .before .before .before .before .before .before .before .before .before .before .decode-lone in
+    let at-if2 = c .before .before .before .before .if2 in
+    omega (arith, returned-written (at-loop .inv .written) (at-decode-lone .last .1 .1 .0) (at-decode-lone .kept .1 .1 .0) _ ((at-decode-lone .ensures .0 .met .fine (at-if2 .left)) .within) .within, at-good .1 .1 .0 .0, at-loop .inv .few, (at-decode-lone .ensures .0 .met .fine (at-if2 .left)) .few)
 
 pub decode-seq-loop-less : (t : ℕ) → decode-seq-lts.Need-loop-less (decode-seq-claims t) (decode-seq-at t) decode-seq.Post decode-seq-Inv-loop decode-seq-μ-loop
-decode-seq-loop-less t c = omega (arith, c .before .before .before .before .before .before .before .before .before .before .before .before .before .before .before .before .before .before .before .before .end-of .ensures, c .before .before .before .before .before .before .before .before .before .before .before .before .before .before .before .before .before .before .before .before .before .before .before .loop-test .taken)
+decode-seq-loop-less t c =
+    let at-loop-test = c .before .before .before .before .before .before .before .before .before .before .before .before .before .before .before .before .before .before .before .before .before .before .before .loop-test in
+    let at-end-of = c .before .before .before .before .before .before .before .before .before .before .before .before .before .before .before .before .before .before .before .before .end-of in
+    omega (arith, at-end-of .ensures, at-loop-test .taken)
 
 pub decode-seq-loop-again : (t : ℕ) → decode-seq-lts.Need-loop-again (decode-seq-claims t) (decode-seq-at t) decode-seq.Post decode-seq-Inv-loop decode-seq-μ-loop
-decode-seq-loop-again t c = seq-passes (c .before .before .before .before .before .before .before .before .before .before .before .before .before .before .before .before .before .before .before .before .before .before .before .before .loop .inv) _ _ _ _ (c .before .before .before .before .before .before .before .before .before .before .before .before .before .before .before .before .before .before .before .before .before .before .before .loop-test .taken) (c .before .before .before .before .before .before .before .before .before .before .before .before .before .before .before .before .before .before .before .before .before .before .load .ensures) (c .before .before .before .before .before .before .before .before .before .before .before .before .before .before .before .before .before .before .before .before .end-of .ensures) (c .before .before .before .before .before .before .before .before .before .before .before .before .before .before .before .before .before .before .sat-add .ensures) (c .before .before .before .before .before .before .before .before .before .before .before .before .before .before .before .before .before .sat-add2 .ensures) (c .before .before .before .before .before .before .before .before .before .before .before .decode-lone .last .1 .1 .0) (c .before .before .before .before .before .before .before .before .before .before .before .decode-lone .kept .1 .1 .0) (c .before .before .before .before .before .before .before .before .before .before .before .decode-lone .result) (c .before .before .before .before .before .before .before .before .before .before .before .decode-lone .last .1 .1 .1 .0) (c .before .before .before .before .before .before .before .before .before .before .before .decode-lone .last .1 .1 .1 .1 .0) ((same-as (field-lone _ _ _ _ _ _ _ (lone-kind (c .before .before .before .before .before .before .before .before .before .before .before .before .before .before .before .before .before .before .before .before .before .before .load .result) (c .before .before .before .before .before .before .before .before .before .before .before .before .before .before .before .before .is-lone .ensures) (c .before .before .before .before .before .before .before .before .before .before .before .before .before .before .before .if1 .taken)) (lone-is (c .before .before .before .before .before .before .before .before .before .before .before .before .before .before .before .before .before .before .before .before .before .before .load .result) (c .before .before .before .before .before .before .before .before .before .before .before .before .before .before .before .before .is-lone .ensures) (c .before .before .before .before .before .before .before .before .before .before .before .before .before .before .before .if1 .taken))) (c .before .before .before .before .before .before .before .before .before .before .before .decode-lone .ensures)) .fine (c .before .before .before .before .if2 .left)) (lone-is (c .before .before .before .before .before .before .before .before .before .before .before .before .before .before .before .before .before .before .before .before .before .before .load .result) (c .before .before .before .before .before .before .before .before .before .before .before .before .before .before .before .before .is-lone .ensures) (c .before .before .before .before .before .before .before .before .before .before .before .before .before .before .before .if1 .taken)) (field-lone _ _ _ _ _ _ _ (lone-kind (c .before .before .before .before .before .before .before .before .before .before .before .before .before .before .before .before .before .before .before .before .before .before .load .result) (c .before .before .before .before .before .before .before .before .before .before .before .before .before .before .before .before .is-lone .ensures) (c .before .before .before .before .before .before .before .before .before .before .before .before .before .before .before .if1 .taken)) (lone-is (c .before .before .before .before .before .before .before .before .before .before .before .before .before .before .before .before .before .before .before .before .before .before .load .result) (c .before .before .before .before .before .before .before .before .before .before .before .before .before .before .before .before .is-lone .ensures) (c .before .before .before .before .before .before .before .before .before .before .before .before .before .before .before .if1 .taken))) _ _ (c .before .before .before .before .before .before .before .before .before .before .before .decode-lone .kept .1 .1 .1 .0) (c .before .before .before .before .before .before .before .before .before .before .before .decode-lone .kept .1 .1 .1 .1 .0) (c .before .before .before .sat-add3 .ensures) (c .before .before .larger .ensures)
+decode-seq-loop-again t c =
+    let at-loop = c .before .before .before .before .before .before .before .before .before .before .before .before .before .before .before .before .before .before .before .before .before .before .before .before .loop in
+    let at-loop-test = c .before .before .before .before .before .before .before .before .before .before .before .before .before .before .before .before .before .before .before .before .before .before .before .loop-test in
+    let at-load = c .before .before .before .before .before .before .before .before .before .before .before .before .before .before .before .before .before .before .before .before .before .before .load in
+    let at-end-of = c .before .before .before .before .before .before .before .before .before .before .before .before .before .before .before .before .before .before .before .before .end-of in
+    let at-sat-add = c .before .before .before .before .before .before .before .before .before .before .before .before .before .before .before .before .before .before .sat-add in
+    let at-sat-add2 = c .before .before .before .before .before .before .before .before .before .before .before .before .before .before .before .before .before .sat-add2 in
+    let at-is-lone = c .before .before .before .before .before .before .before .before .before .before .before .before .before .before .before .before .is-lone in
+    let at-if1 = c .before .before .before .before .before .before .before .before .before .before .before .before .before .before .before .if1 in
+    let at-decode-lone = c .before .before .before .before .before .before .before .before .before .before .before .decode-lone in
+    let at-if2 = c .before .before .before .before .if2 in
+    let at-sat-add3 = c .before .before .before .sat-add3 in
+    let at-larger = c .before .before .larger in
+    seq-passes (at-loop .inv) _ _ _ _ (at-loop-test .taken) (at-load .ensures) (at-end-of .ensures) (at-sat-add .ensures) (at-sat-add2 .ensures) (at-decode-lone .last .1 .1 .0) (at-decode-lone .kept .1 .1 .0) (at-decode-lone .result) (at-decode-lone .last .1 .1 .1 .0) (at-decode-lone .last .1 .1 .1 .1 .0) ((same-as
+    (field-lone _ _ _ _ _ _ _ (lone-kind (at-load .result) (at-is-lone .ensures) (at-if1 .taken)) (lone-is (at-load .result) (at-is-lone .ensures) (at-if1 .taken))) (at-decode-lone .ensures .0 .met)) .fine (at-if2 .left)) (lone-is (at-load .result) (at-is-lone .ensures) (at-if1 .taken)) (field-lone _ _ _ _ _ _ _
+    (lone-kind (at-load .result) (at-is-lone .ensures) (at-if1 .taken)) (lone-is (at-load .result) (at-is-lone .ensures) (at-if1 .taken))) _ _ (at-decode-lone .kept .1 .1 .1 .0) (at-decode-lone .kept .1 .1 .1 .1 .0) (at-sat-add3 .ensures) (at-larger .ensures)
 
 pub decode-seq-mul-decode-field : (t : ℕ) → decode-seq-lts.Need-mul-decode-field (decode-seq-claims t) (decode-seq-at t) decode-seq.Post decode-seq-Inv-loop decode-seq-μ-loop
-decode-seq-mul-decode-field t c = omega (arith, c .before .before .before .before .before .before .before .before .before .loop .inv .written .within, c .before .before .before .before .before .before .before .before .before .loop .inv .written .same, c .before .before .before .before .before .before .before .before .before .before .before .before .before .before .good .1 .1 .0 .0, c .before .before .before .before .before .before .before .before .before .before .before .before .before .before .good .1 .1 .0 .1)
+decode-seq-mul-decode-field t c =
+    let at-good = c .before .before .before .before .before .before .before .before .before .before .before .before .before .before .good in
+    let at-loop = c .before .before .before .before .before .before .before .before .before .loop in
+    omega (arith, at-loop .inv .written .within, at-loop .inv .written .same, at-good .1 .1 .0 .0, at-good .1 .1 .0 .1)
 
 pub decode-seq-sub-decode-field : (t : ℕ) → decode-seq-lts.Need-sub-decode-field (decode-seq-claims t) (decode-seq-at t) decode-seq.Post decode-seq-Inv-loop decode-seq-μ-loop
-decode-seq-sub-decode-field t c = omega (arith, c .before .before .before .before .before .before .before .before .before .loop .inv .written .within, c .before .before .before .before .before .before .before .before .before .loop .inv .written .same)
+decode-seq-sub-decode-field t c =
+    let at-loop = c .before .before .before .before .before .before .before .before .before .loop in
+    omega (arith, at-loop .inv .written .within, at-loop .inv .written .same)
 
 pub decode-seq-part-decode-field-start : (t : ℕ) → decode-seq-lts.Need-part-decode-field-start (decode-seq-claims t) (decode-seq-at t) decode-seq.Post decode-seq-Inv-loop decode-seq-μ-loop
-decode-seq-part-decode-field-start t c = omega (arith, c .before .before .before .before .before .before .before .before .before .loop .inv .written .within, c .before .before .before .before .before .before .before .before .before .loop .inv .written .same)
+decode-seq-part-decode-field-start t c =
+    let at-loop = c .before .before .before .before .before .before .before .before .before .loop in
+    omega (arith, at-loop .inv .written .within, at-loop .inv .written .same)
 
 pub decode-seq-part-decode-field-end : (t : ℕ) → decode-seq-lts.Need-part-decode-field-end (decode-seq-claims t) (decode-seq-at t) decode-seq.Post decode-seq-Inv-loop decode-seq-μ-loop
 decode-seq-part-decode-field-end t c = omega arith
 
 pub decode-seq-add-decode-field : (t : ℕ) → decode-seq-lts.Need-add-decode-field (decode-seq-claims t) (decode-seq-at t) decode-seq.Post decode-seq-Inv-loop decode-seq-μ-loop
-decode-seq-add-decode-field t c = omega (arith, c .before .before .before .before .before .before .before .before .before .before .before .loop-test .taken, c .before .before .before .before .before .before .before .before .before .before .before .before .before .before .before .before .before .fits .hi)
+decode-seq-add-decode-field t c =
+    let at-fits = c .before .before .before .before .before .before .before .before .before .before .before .before .before .before .before .before .before .fits in
+    let at-loop-test = c .before .before .before .before .before .before .before .before .before .before .before .loop-test in
+    omega (arith, at-loop-test .taken, at-fits .hi)
 
 pub decode-seq-decode-field-requires : (t : ℕ) → decode-seq-lts.Need-decode-field-requires (decode-seq-claims t) (decode-seq-at t) decode-seq.Post decode-seq-Inv-loop decode-seq-μ-loop
-decode-seq-decode-field-requires t c κs = (omega (arith, c .before .before .before .before .before .before .before .before .before .before .before .before .before .before .before .before .before .pre .0, c .before .before .before .before .before .before .before .before .before .before .before .before .loop .inv .past, c .before .before .before .before .before .before .before .before .before .before .before .loop-test .taken, c .before .before .before .before .before .before .before .before .end-of .ensures), (c .before .before .before .before .before .before .before .before .before .before .before .before .loop .inv .fits, sym (c .before .before .before .before .is-lone .ensures) ∙ c .before .before .before .if1 .left))
+decode-seq-decode-field-requires t c κs =
+    let at-pre = c .before .before .before .before .before .before .before .before .before .before .before .before .before .before .before .before .before .pre in
+    let at-loop = c .before .before .before .before .before .before .before .before .before .before .before .before .loop in
+    let at-loop-test = c .before .before .before .before .before .before .before .before .before .before .before .loop-test in
+    let at-end-of = c .before .before .before .before .before .before .before .before .end-of in
+    let at-is-lone = c .before .before .before .before .is-lone in
+    let at-if1 = c .before .before .before .if1 in
+    (omega (arith, at-pre .0, at-loop .inv .past, at-loop-test .taken, at-end-of .ensures), (at-loop .inv .fits, sym (at-is-lone .ensures) ∙ at-if1 .left))
 
 pub decode-seq-refusal-requires-2 : (t : ℕ) → decode-seq-lts.Need-refusal-requires-2 (decode-seq-claims t) (decode-seq-at t) decode-seq.Post decode-seq-Inv-loop decode-seq-μ-loop
 decode-seq-refusal-requires-2 t c κs = search needs
 
 pub decode-seq-same-length-4 : (t : ℕ) → decode-seq-lts.Need-same-length-4 (decode-seq-claims t) (decode-seq-at t) decode-seq.Post decode-seq-Inv-loop decode-seq-μ-loop
-decode-seq-same-length-4 t c = returned-same (c .before .before .before .before .before .before .before .before .before .before .before .before .before .before .before .before .before .before .before .before .before .loop .inv .written) (c .before .before .before .before .before .before .before .before .decode-field .last .1 .1 .0) (c .before .before .before .before .before .before .before .before .decode-field .kept .1 .1 .0) ∙ c .before .before .before .before .before .before .before .before .before .before .before .before .before .before .before .before .before .before .before .before .before .loop .inv .written .same
+decode-seq-same-length-4 t c =
+    let at-loop = c .before .before .before .before .before .before .before .before .before .before .before .before .before .before .before .before .before .before .before .before .before .loop in
+    let at-decode-field = c .before .before .before .before .before .before .before .before .decode-field in
+    returned-same (at-loop .inv .written) (at-decode-field .last .1 .1 .0) (at-decode-field .kept .1 .1 .0) ∙ at-loop .inv .written .same
 
 pub decode-seq-same-length-5 : (t : ℕ) → decode-seq-lts.Need-same-length-5 (decode-seq-claims t) (decode-seq-at t) decode-seq.Post decode-seq-Inv-loop decode-seq-μ-loop
-decode-seq-same-length-5 t c = (c .before .before .before .before .before .before .before .before .decode-field .kept .1 .1 .1 .0) ∙ c .before .before .before .before .before .before .before .before .before .before .before .before .before .before .before .before .before .before .before .before .before .loop .inv .texts
+decode-seq-same-length-5 t c =
+    let at-loop = c .before .before .before .before .before .before .before .before .before .before .before .before .before .before .before .before .before .before .before .before .before .loop in
+    let at-decode-field = c .before .before .before .before .before .before .before .before .decode-field in
+    (at-decode-field .kept .1 .1 .1 .0) ∙ at-loop .inv .texts
 
 pub decode-seq-same-length-6 : (t : ℕ) → decode-seq-lts.Need-same-length-6 (decode-seq-claims t) (decode-seq-at t) decode-seq.Post decode-seq-Inv-loop decode-seq-μ-loop
-decode-seq-same-length-6 t c = (c .before .before .before .before .before .before .before .before .decode-field .kept .1 .1 .1 .1 .0) ∙ c .before .before .before .before .before .before .before .before .before .before .before .before .before .before .before .before .before .before .before .before .before .loop .inv .kept
+decode-seq-same-length-6 t c =
+    let at-loop = c .before .before .before .before .before .before .before .before .before .before .before .before .before .before .before .before .before .before .before .before .before .loop in
+    let at-decode-field = c .before .before .before .before .before .before .before .before .decode-field in
+    (at-decode-field .kept .1 .1 .1 .1 .0) ∙ at-loop .inv .kept
 
 pub decode-seq-returns-2 : (t : ℕ) → decode-seq-lts.Need-returns-2 (decode-seq-claims t) (decode-seq-at t) decode-seq.Post decode-seq-Inv-loop decode-seq-μ-loop
-decode-seq-returns-2 t c = refuse (c .before .before .before .before .before .before .before .before .decode-field .result .refused) (c .refusal2 .ensures) (c .before .if3 .taken) (seq-stops (c .before .before .before .before .before .before .before .before .before .before .before .before .before .before .before .before .before .before .before .before .before .loop .inv) _ _ _ _ (c .before .before .before .before .before .before .before .before .before .before .before .before .before .before .before .before .before .before .before .before .loop-test .taken) (c .before .before .before .before .before .before .before .before .before .before .before .before .before .before .before .before .before .before .before .load .ensures) (c .before .before .before .before .before .before .before .before .before .before .before .before .before .before .before .before .before .end-of .ensures) (c .before .before .before .before .before .before .before .before .before .before .before .before .before .before .before .sat-add .ensures) (c .before .before .before .before .before .before .before .before .before .before .before .before .before .before .sat-add2 .ensures) (c .before .before .before .before .before .before .before .before .decode-field .last .1 .1 .0) (c .before .before .before .before .before .before .before .before .decode-field .kept .1 .1 .0) _ (c .before .before .before .before .before .before .before .before .decode-field .ensures .refuses (c .before .if3 .taken)))
+decode-seq-returns-2 t c =
+    let at-loop = c .before .before .before .before .before .before .before .before .before .before .before .before .before .before .before .before .before .before .before .before .before .loop in
+    let at-loop-test = c .before .before .before .before .before .before .before .before .before .before .before .before .before .before .before .before .before .before .before .before .loop-test in
+    let at-load = c .before .before .before .before .before .before .before .before .before .before .before .before .before .before .before .before .before .before .before .load in
+    let at-end-of = c .before .before .before .before .before .before .before .before .before .before .before .before .before .before .before .before .before .end-of in
+    let at-sat-add = c .before .before .before .before .before .before .before .before .before .before .before .before .before .before .before .sat-add in
+    let at-sat-add2 = c .before .before .before .before .before .before .before .before .before .before .before .before .before .before .sat-add2 in
+    let at-decode-field = c .before .before .before .before .before .before .before .before .decode-field in
+    refuse (at-decode-field .result .refused) (c .refusal2 .ensures) (c .before .if3 .taken) (seq-stops (at-loop .inv) _ _ _ _ (at-loop-test .taken) (at-load .ensures) (at-end-of .ensures) (at-sat-add .ensures) (at-sat-add2 .ensures) (at-decode-field .last .1 .1 .0) (at-decode-field .kept .1 .1 .0) _ (at-decode-field .ensures .refuses (c .before .if3 .taken) .0))
 
 pub decode-seq-reserved-width-requires : (t : ℕ) → decode-seq-lts.Need-reserved-width-requires (decode-seq-claims t) (decode-seq-at t) decode-seq.Post decode-seq-Inv-loop decode-seq-μ-loop
 decode-seq-reserved-width-requires t c κs = search needs
@@ -169,16 +262,44 @@ pub decode-seq-larger-requires-2 : (t : ℕ) → decode-seq-lts.Need-larger-requ
 decode-seq-larger-requires-2 t c κs = search needs
 
 pub decode-seq-add-used-2 : (t : ℕ) → decode-seq-lts.Need-add-used-2 (decode-seq-claims t) (decode-seq-at t) decode-seq.Post decode-seq-Inv-loop decode-seq-μ-loop
-decode-seq-add-used-2 t c = omega (arith, returned-written (c .before .before .before .before .before .before .before .before .before .before .before .before .before .before .before .before .before .before .before .before .before .before .before .before .before .before .loop .inv .written) (c .before .before .before .before .before .before .before .before .before .before .before .before .before .decode-field .last .1 .1 .0) (c .before .before .before .before .before .before .before .before .before .before .before .before .before .decode-field .kept .1 .1 .0) _ ((c .before .before .before .before .before .before .before .before .before .before .before .before .before .decode-field .ensures .fine (c .before .before .before .before .before .before .if3 .left)) .within) .within, c .before .before .before .before .before .before .before .before .before .before .before .before .before .before .before .before .before .before .before .before .before .before .before .before .before .before .before .before .before .before .before .good .1 .1 .0 .0)
+decode-seq-add-used-2 t c =
+    let at-good = c .before .before .before .before .before .before .before .before .before .before .before .before .before .before .before .before .before .before .before .before .before .before .before .before .before .before .before .before .before .before .before .good in
+    let at-loop = c .before .before .before .before .before .before .before .before .before .before .before .before .before .before .before .before .before .before .before .before .before .before .before .before .before .before .loop in
+    let at-decode-field = c .before .before .before .before .before .before .before .before .before .before .before .before .before .decode-field in
+    let at-if3 = c .before .before .before .before .before .before .if3 in
+    omega (arith, returned-written (at-loop .inv .written) (at-decode-field .last .1 .1 .0) (at-decode-field .kept .1 .1 .0) _ ((at-decode-field .ensures .fine (at-if3 .left)) .within) .within, at-good .1 .1 .0 .0)
 
 pub decode-seq-add-members-2 : (t : ℕ) → decode-seq-lts.Need-add-members-2 (decode-seq-claims t) (decode-seq-at t) decode-seq.Post decode-seq-Inv-loop decode-seq-μ-loop
-decode-seq-add-members-2 t c = omega (arith, returned-written (c .before .before .before .before .before .before .before .before .before .before .before .before .before .before .before .before .before .before .before .before .before .before .before .before .before .before .before .loop .inv .written) (c .before .before .before .before .before .before .before .before .before .before .before .before .before .before .decode-field .last .1 .1 .0) (c .before .before .before .before .before .before .before .before .before .before .before .before .before .before .decode-field .kept .1 .1 .0) _ ((c .before .before .before .before .before .before .before .before .before .before .before .before .before .before .decode-field .ensures .fine (c .before .before .before .before .before .before .before .if3 .left)) .within) .within, c .before .before .before .before .before .before .before .before .before .before .before .before .before .before .before .before .before .before .before .before .before .before .before .before .before .before .before .before .before .before .before .before .good .1 .1 .0 .0, c .before .before .before .before .before .before .before .before .before .before .before .before .before .before .before .before .before .before .before .before .before .before .before .before .before .before .before .loop .inv .few, (c .before .before .before .before .before .before .before .before .before .before .before .before .before .before .decode-field .ensures .fine (c .before .before .before .before .before .before .before .if3 .left)) .few)
+decode-seq-add-members-2 t c =
+    let at-good = c .before .before .before .before .before .before .before .before .before .before .before .before .before .before .before .before .before .before .before .before .before .before .before .before .before .before .before .before .before .before .before .before .good in
+    let at-loop = c .before .before .before .before .before .before .before .before .before .before .before .before .before .before .before .before .before .before .before .before .before .before .before .before .before .before .before .loop in
+    let at-decode-field = c .before .before .before .before .before .before .before .before .before .before .before .before .before .before .decode-field in
+    let at-if3 = c .before .before .before .before .before .before .before .if3 in
+    omega (arith, returned-written (at-loop .inv .written) (at-decode-field .last .1 .1 .0) (at-decode-field .kept .1 .1 .0) _ ((at-decode-field .ensures .fine (at-if3 .left)) .within) .within, at-good .1 .1 .0 .0, at-loop .inv .few, (at-decode-field .ensures .fine (at-if3 .left)) .few)
 
 pub decode-seq-loop-less-2 : (t : ℕ) → decode-seq-lts.Need-loop-less-2 (decode-seq-claims t) (decode-seq-at t) decode-seq.Post decode-seq-Inv-loop decode-seq-μ-loop
-decode-seq-loop-less-2 t c = omega (arith, c .before .before .before .before .before .before .before .before .before .before .before .before .before .before .before .before .before .before .before .before .before .before .before .end-of .ensures, c .before .before .before .before .before .before .before .before .before .before .before .before .before .before .before .before .before .before .before .before .before .before .before .before .before .before .loop-test .taken)
+decode-seq-loop-less-2 t c =
+    let at-loop-test = c .before .before .before .before .before .before .before .before .before .before .before .before .before .before .before .before .before .before .before .before .before .before .before .before .before .before .loop-test in
+    let at-end-of = c .before .before .before .before .before .before .before .before .before .before .before .before .before .before .before .before .before .before .before .before .before .before .before .end-of in
+    omega (arith, at-end-of .ensures, at-loop-test .taken)
 
 pub decode-seq-loop-again-2 : (t : ℕ) → decode-seq-lts.Need-loop-again-2 (decode-seq-claims t) (decode-seq-at t) decode-seq.Post decode-seq-Inv-loop decode-seq-μ-loop
-decode-seq-loop-again-2 t c = seq-goes (c .before .before .before .before .before .before .before .before .before .before .before .before .before .before .before .before .before .before .before .before .before .before .before .before .before .before .before .loop .inv) _ _ _ _ (c .before .before .before .before .before .before .before .before .before .before .before .before .before .before .before .before .before .before .before .before .before .before .before .before .before .before .loop-test .taken) (c .before .before .before .before .before .before .before .before .before .before .before .before .before .before .before .before .before .before .before .before .before .before .before .before .before .load .ensures) (c .before .before .before .before .before .before .before .before .before .before .before .before .before .before .before .before .before .before .before .before .before .before .before .end-of .ensures) (c .before .before .before .before .before .before .before .before .before .before .before .before .before .before .before .before .before .before .before .before .before .sat-add .ensures) (c .before .before .before .before .before .before .before .before .before .before .before .before .before .before .before .before .before .before .before .before .sat-add2 .ensures) (c .before .before .before .before .before .before .before .before .before .before .before .before .before .before .decode-field .last .1 .1 .0) (c .before .before .before .before .before .before .before .before .before .before .before .before .before .before .decode-field .kept .1 .1 .0) (c .before .before .before .before .before .before .before .before .before .before .before .before .before .before .decode-field .result) (c .before .before .before .before .before .before .before .before .before .before .before .before .before .before .decode-field .last .1 .1 .1 .0) (c .before .before .before .before .before .before .before .before .before .before .before .before .before .before .decode-field .last .1 .1 .1 .1 .0) (c .before .before .before .before .before .before .before .before .before .before .before .before .before .before .decode-field .ensures .fine (c .before .before .before .before .before .before .before .if3 .left)) _ _ _ _ _ (c .before .before .before .before .before .before .before .before .before .before .before .before .before .before .decode-field .kept .1 .1 .1 .0) (c .before .before .before .before .before .before .before .before .before .before .before .before .before .before .decode-field .kept .1 .1 .1 .1 .0) (c .before .before .before .before .before .before .reserved-width .ensures) (c .before .before .before .before .before .less .ensures) (c .before .before .before .before .sat-add4 .ensures) (c .before .before .before .sat-add5 .ensures) (c .before .before .larger2 .ensures)
+decode-seq-loop-again-2 t c =
+    let at-loop = c .before .before .before .before .before .before .before .before .before .before .before .before .before .before .before .before .before .before .before .before .before .before .before .before .before .before .before .loop in
+    let at-loop-test = c .before .before .before .before .before .before .before .before .before .before .before .before .before .before .before .before .before .before .before .before .before .before .before .before .before .before .loop-test in
+    let at-load = c .before .before .before .before .before .before .before .before .before .before .before .before .before .before .before .before .before .before .before .before .before .before .before .before .before .load in
+    let at-end-of = c .before .before .before .before .before .before .before .before .before .before .before .before .before .before .before .before .before .before .before .before .before .before .before .end-of in
+    let at-sat-add = c .before .before .before .before .before .before .before .before .before .before .before .before .before .before .before .before .before .before .before .before .before .sat-add in
+    let at-sat-add2 = c .before .before .before .before .before .before .before .before .before .before .before .before .before .before .before .before .before .before .before .before .sat-add2 in
+    let at-decode-field = c .before .before .before .before .before .before .before .before .before .before .before .before .before .before .decode-field in
+    let at-reserved-width = c .before .before .before .before .before .before .reserved-width in
+    let at-if3 = c .before .before .before .before .before .before .before .if3 in
+    let at-less = c .before .before .before .before .before .less in
+    let at-sat-add4 = c .before .before .before .before .sat-add4 in
+    let at-sat-add5 = c .before .before .before .sat-add5 in
+    let at-larger2 = c .before .before .larger2 in
+    seq-goes (at-loop .inv) _ _ _ _ (at-loop-test .taken) (at-load .ensures) (at-end-of .ensures) (at-sat-add .ensures) (at-sat-add2 .ensures) (at-decode-field .last .1 .1 .0) (at-decode-field .kept .1 .1 .0) (at-decode-field .result) (at-decode-field .last .1 .1 .1 .0) (at-decode-field .last .1 .1 .1 .1 .0)
+    (at-decode-field .ensures .fine (at-if3 .left)) _ _ _ _ _ (at-decode-field .kept .1 .1 .1 .0) (at-decode-field .kept .1 .1 .1 .1 .0) (at-reserved-width .ensures) (at-less .ensures) (at-sat-add4 .ensures) (at-sat-add5 .ensures) (at-larger2 .ensures)
 
 pub decode-seq-same-length-7 : (t : ℕ) → decode-seq-lts.Need-same-length-7 (decode-seq-claims t) (decode-seq-at t) decode-seq.Post decode-seq-Inv-loop decode-seq-μ-loop
 decode-seq-same-length-7 t c = c .before .loop .inv .written .same

@@ -4,22 +4,23 @@ use mathlib.Core.Bool.{Bool, true, false, _&&_, _||_, cond}
 use mathlib.Core.List.{List, [], _++_}
 use Prim.Native.Nat.{ℕ, _+_, _-_, _≤_}
 use native.Mathlib.Omega.{arith}
-use lib.Dec.{eqb, leb}
+use lib.Dec.{leb}
 use lib.IntN.{ℤ, pos}
 use lib.ListN.{length, take, replicate}
 use lib.Seq.{length-take-le}
-use borrow.Author.Tests.{eq-eqb, ne-eqb, leb-true, eqb-true}
-use Rattle.layout.specs.Layout.{entries, checkedOf, recordLength, dependsIn}
+use borrow.Author.Tests.{leb-true}
+use Rattle.layout.specs.Layout.{workFor, entries, checkedOf, recordLength, dependsIn, layoutAsks}
+use Rattle.layout.proofs.Laws.{asked-lawful}
 use Rattle.walks.specs.Kinds.{State, start, kinds}
 use Rattle.walks.specs.Reading as R
-use Rattle.walks.specs.Records.{Decoded, refused, decoded, most, workFor, outcome, decodeRecord, numberOf, itemsOf, textsOf, filled}
+use Rattle.walks.specs.Records.{Decoded, refused, decoded, most, outcome, decodeRecord, RecordRead, asking, recordAsks}
+use Rattle.walks.proofs.Asked.{asking-both, asking-none, asking-some, both-passed}
 use Rattle.decode_leaf.specs.declared.Out.{Out}
 use Rattle.decode_leaf.specs.Machine.{Held, kept}
 use Rattle.decode_leaf.specs.Capped as C
 use Rattle.decode_walk.proofs.Stands.{stands-none}
 use Rattle.decode_walk.proofs.Alike.{Alike, both-refused, both-read, level}
 use Rattle.decode_walk.proofs.Joined.{Rel, joined}
-use Rattle.decode.specs.declared.Reading.{Reading}
 use Rattle.decode.specs.Asked.{askedOf}
 
 -- ---- outcomes that are alike
@@ -52,44 +53,36 @@ module _ (l masks : List ℕ) (page : ℕ) (bytes : List ℕ) (items text work :
   abbrev Number : ℕ
   Number = askedOf l masks page (length bytes) work deps
 
-  asked-is : Whole ≡ cond (eqb Number 0) (outcome Walk) (refused Number)
+  asked-is : Whole ≡ asking refused Number (outcome Walk)
   unfolding decodeRecord askedOf
-  asked-is = rw (← d) (go (eqb (checkedOf l masks page) 0) refl (leb (workFor l) work) (leb (length bytes) most && (deps || leb (recordLength l) (length bytes))))
-    where
-      go : (a : Bool) → eqb (checkedOf l masks page) 0 ≡ a → (b c : Bool)
-          → cond a (cond b (cond c (outcome Walk) (refused 4)) (refused 16)) (refused (checkedOf l masks page))
-          ≡ cond (eqb (cond a (cond b (cond c 0 4) 16) (checkedOf l masks page)) 0) (outcome Walk) (refused (cond a (cond b (cond c 0 4) 16) (checkedOf l masks page)))
-      go false e b c = rw e refl
-      go true e false c = refl
-      go true e true false = refl
-      go true e true true = refl
+  asked-is = rw (← d) (asking-both refused (outcome Walk) (layoutAsks l masks page work) (recordAsks l (length bytes) deps))
 
   module _ (n : ℕ) (p : n ≡ Number) where
     pub not-asked : (n ≡ 0 → ⊥) → Whole ≡ refused n
-    not-asked f = asked-is ∙ rw (← p, ne-eqb n 0 f) refl
+    not-asked f = asked-is ∙ rw (← p) (asking-some refused (outcome Walk) n f)
 
     module _ (z : n ≡ 0) where
       walk-is : Whole ≡ outcome Walk
-      walk-is = asked-is ∙ rw (← p, z) refl
+      walk-is = asked-is ∙ asking-none refused (outcome Walk) Number (sym p ∙ z)
 
-      lawful : (checkedOf l masks page ≡ 0) × ((workFor l ≤ work) × (length bytes ≤ 65536))
+      passed : (layoutAsks l masks page work ≡ 0) × (recordAsks l (length bytes) deps ≡ 0)
       unfolding askedOf
-      lawful = go (eqb (checkedOf l masks page) 0) refl (leb (workFor l) work) refl (leb (length bytes) most) refl (deps || leb (recordLength l) (length bytes)) (sym p ∙ z)
+      passed = both-passed (layoutAsks l masks page work) (recordAsks l (length bytes) deps) (sym p ∙ z)
+
+      not-long : length bytes ≤ most
+      not-long = go (leb (length bytes) most) refl (deps || leb (recordLength l) (length bytes)) (passed .1)
         where
-          go : (a : Bool) → eqb (checkedOf l masks page) 0 ≡ a → (b : Bool) → leb (workFor l) work ≡ b → (c : Bool) → leb (length bytes) most ≡ c → (f : Bool)
-              → cond a (cond b (cond (c && f) 0 4) 16) (checkedOf l masks page) ≡ 0 → (checkedOf l masks page ≡ 0) × ((workFor l ≤ work) × (length bytes ≤ 65536))
-          go true x true y true w f e = (eqb-true (checkedOf l masks page) 0 x, (leb-true (workFor l) work y, leb-true (length bytes) most w))
-          go true x true y false w f e = absurd (omega (arith, e))
-          go true x false y c w f e = absurd (omega (arith, e))
-          go false x b y c w f e = absurd (go′ x e)
-            where
-              go′ : eqb (checkedOf l masks page) 0 ≡ false → checkedOf l masks page ≡ 0 → ⊥
-              go′ x e = let u : eqb (checkedOf l masks page) 0 ≡ true = eq-eqb (checkedOf l masks page) 0 e in omega (arith, ap (λ b. cond {A = ℕ} b 1 0) (sym u ∙ x))
+          go : (c : Bool) → leb (length bytes) most ≡ c → (f : Bool) → _≡_ {A = ℕ} (cond (c && f) 0 4) 0 → length bytes ≤ most
+          go true w f e = leb-true (length bytes) most w
+          go false w f e = absurd (omega (arith, e))
+
+      layout-lawful : (checkedOf l masks page ≡ 0) × (workFor l ≤ work)
+      layout-lawful = asked-lawful l masks page work (passed .0)
 
       -- only a layout with depending looks at the counts
       module _ (run before : List ℤ) (started : run ≡ cond deps (replicate work (pos 0)) before) where
         alike : Alike (Rel l masks page text deps) (level (Rel l masks page text deps) 8) (C.seq (kept l page text deps) bytes (entries l) 0 0 items (record { run = run; text = [] })) Walk
-        alike = joined l masks page text deps (lawful .0) d bytes (lawful .1 .1) items run (λ q. rw (started, q) (stands-none l work (lawful .1 .0)))
+        alike = joined l masks page text deps (layout-lawful .0) d bytes not-long items run (λ q. rw (started, q) (stands-none l work (layout-lawful .1)))
 
         pub walk-refused : (m : ℕ) → C.seq (kept l page text deps) bytes (entries l) 0 0 items (record { run = run; text = [] }) ≡ R.refused m → Whole ≡ refused m
         walk-refused m e = walk-is ∙ alike-refused alike m e
@@ -99,31 +92,31 @@ module _ (l masks : List ℕ) (page : ℕ) (bytes : List ℕ) (items text work :
 
 -- ---- the answers and the buffers
 
-module _ (D : Decoded) (items text work : ℕ) where
-  abbrev pub Answered : Reading → List ℕ → List ℕ → List ℤ → Type 0
-  Answered r is ts cs = (r .number ≡ numberOf D) × ((r .items ≡ length (itemsOf D)) × ((r .text ≡ length (textsOf D)) × ((is ≡ filled items (itemsOf D)) × ((ts ≡ filled text (textsOf D)) × (cs ≡ replicate work (pos 0))))))
+module _ (D : Decoded) (items text : List ℕ) (counts : List ℤ) where
+  pub refused-all : (n : ℕ) → D ≡ refused n → (i t : List ℕ) → length i ≡ length items → length t ≡ length text → {is ts : List ℕ} {cs : List ℤ}
+      → is ≡ take 0 i ++ replicate (length i - 0) 0 → ts ≡ take 0 t ++ replicate (length t - 0) 0 → cs ≡ replicate (length counts) (pos 0)
+      → RecordRead D n 0 0 items is text ts counts cs
+  refused-all n e i t a b p q c = record {
+    numbered = rw e refl;
+    itemWords = rw e refl;
+    textBytes = rw e refl;
+    itemsLeft = rw e (p ∙ ap (λ m. replicate (m - 0) 0) a);
+    textLeft = rw e (q ∙ ap (λ m. replicate (m - 0) 0) b);
+    countsLeft = c;
+  }
 
-  pub refused-all : (n : ℕ) → D ≡ refused n → (i t : List ℕ) → length i ≡ items → length t ≡ text → {is ts : List ℕ} {cs : List ℤ}
-      → is ≡ take 0 i ++ replicate (length i - 0) 0 → ts ≡ take 0 t ++ replicate (length t - 0) 0 → cs ≡ replicate work (pos 0)
-      → Answered (record { number = n; items = 0; text = 0 }) is ts cs
-  refused-all n e i t a b p q c = rw e (refl, (refl, (refl, (p ∙ ap (λ m. replicate (m - 0) 0) a, (q ∙ ap (λ m. replicate (m - 0) 0) b, c)))))
-
-  pub read-all : (i t : List ℕ) (used told : ℕ) → D ≡ decoded (take used i) (take told t) → used ≤ length i → told ≤ length t → length i ≡ items → length t ≡ text → {is ts : List ℕ} {cs : List ℤ}
-      → is ≡ take used i ++ replicate (length i - used) 0 → ts ≡ take told t ++ replicate (length t - told) 0 → cs ≡ replicate work (pos 0)
-      → Answered (record { number = 0; items = used; text = told }) is ts cs
+  pub read-all : (i t : List ℕ) (used told : ℕ) → D ≡ decoded (take used i) (take told t) → used ≤ length i → told ≤ length t
+      → length i ≡ length items → length t ≡ length text → {is ts : List ℕ} {cs : List ℤ}
+      → is ≡ take used i ++ replicate (length i - used) 0 → ts ≡ take told t ++ replicate (length t - told) 0 → cs ≡ replicate (length counts) (pos 0)
+      → RecordRead D 0 used told items is text ts counts cs
   read-all i t used told e g h a b p q c =
       let u : length (take used i) ≡ used = length-take-le used i g in
       let v : length (take told t) ≡ told = length-take-le told t h in
-      rw e (
-        refl,
-        (
-          sym u,
-          (
-            sym v,
-            (
-              p ∙ ap₂ (λ m k. take used i ++ replicate (m - k) 0) a (sym u),
-              (q ∙ ap₂ (λ m k. take told t ++ replicate (m - k) 0) b (sym v), c),
-            ),
-          ),
-        ),
-      )
+      record {
+        numbered = rw e refl;
+        itemWords = rw e (sym u);
+        textBytes = rw e (sym v);
+        itemsLeft = rw e (p ∙ ap₂ (λ m k. take used i ++ replicate (m - k) 0) a (sym u));
+        textLeft = rw e (q ∙ ap₂ (λ m k. take told t ++ replicate (m - k) 0) b (sym v));
+        countsLeft = c;
+      }

@@ -19,7 +19,7 @@ use decode_leaf::sat_add;
 use decode_leaf::start_counts;
 use decode_leaf::took_none;
 use layout::Entry;
-use layout::check_layout;
+use layout::ask_layout;
 use layout::has_depending_on;
 use layout::load;
 use layout::record_length;
@@ -35,7 +35,7 @@ ghost use lib.ListN.{length, replicate};
 ghost use Rattle.layout.specs.Layout.{part};
 ghost use Rattle.walks.specs.Walk.{single, howMany};
 ghost use Rattle.walks.specs.Reading.{inside};
-ghost use Rattle.walks.specs.Records.{decodeRecord, numberOf, itemsOf, textsOf, filled};
+ghost use Rattle.walks.specs.Records.{recordAsks, readInto, RecordRead};
 ghost use Rattle.decode_leaf.specs.Capped.{seq, field, table};
 ghost use Rattle.decode_leaf.specs.Counts.{heldIn};
 ghost use Rattle.decode_leaf.specs.Machine.{kept, state, leafAt, Met, Elements};
@@ -310,17 +310,10 @@ fn decode_one(
     }
 }
 
-// The questions before the walk: the number of the first that fails, or 0.
-fn asked(layout: &[u32], masks: &[u8], page: u32, bytes: usize, work: usize, deps: bool) -> u32
-    ensures { λ r. ⌜ r ≡ askedOf (now (layout .entry)) (now (masks .entry)) page bytes work deps ⌝ }
+// The number of the question on the record itself that fails, or 0.
+fn ask_record(layout: &[u32], bytes: usize, deps: bool) -> u32
+    ensures { λ r. ⌜ r ≡ recordAsks (now (layout .entry)) bytes deps ⌝ }
 {
-    let number = check_layout(layout, masks, page);
-    if number != 0 {
-        return number;
-    }
-    if work < layout.len() / 12 * 2 {
-        return 16;
-    }
     if 65536 < bytes {
         return 4;
     }
@@ -333,6 +326,17 @@ fn asked(layout: &[u32], masks: &[u8], page: u32, bytes: usize, work: usize, dep
     0
 }
 
+// The questions before the walk: the number of the first that fails, or 0.
+fn asked(layout: &[u32], masks: &[u8], page: u32, bytes: usize, work: usize, deps: bool) -> u32
+    ensures { λ r. ⌜ r ≡ askedOf (now (layout .entry)) (now (masks .entry)) page bytes work deps ⌝ }
+{
+    let number = ask_layout(layout, masks, page, work);
+    if number != 0 {
+        return number;
+    }
+    ask_record(layout, bytes, deps)
+}
+
 // Reads a record by a layout: the items and their texts, and zeros behind them; zeros alone after a refusal.
 pub fn decode_record(
     layout: &[u32],
@@ -343,12 +347,9 @@ pub fn decode_record(
     text: &mut [u8],
     counts: &mut [i64],
 ) -> Reading
-    ensures { λ r. ⌜ r .number ≡ numberOf (decodeRecord (now (layout .entry)) (now (masks .entry)) page (now («record» .entry)) (length (now (items .entry))) (length (now (text .entry))) (length (now (counts .entry)))) ⌝ }
-    ensures { λ r. ⌜ r .items ≡ length (itemsOf (decodeRecord (now (layout .entry)) (now (masks .entry)) page (now («record» .entry)) (length (now (items .entry))) (length (now (text .entry))) (length (now (counts .entry))))) ⌝ }
-    ensures { λ r. ⌜ r .text ≡ length (textsOf (decodeRecord (now (layout .entry)) (now (masks .entry)) page (now («record» .entry)) (length (now (items .entry))) (length (now (text .entry))) (length (now (counts .entry))))) ⌝ }
-    ensures { λ _. ⌜ now (items .exit) ≡ filled (length (now (items .entry))) (itemsOf (decodeRecord (now (layout .entry)) (now (masks .entry)) page (now («record» .entry)) (length (now (items .entry))) (length (now (text .entry))) (length (now (counts .entry))))) ⌝ }
-    ensures { λ _. ⌜ now (text .exit) ≡ filled (length (now (text .entry))) (textsOf (decodeRecord (now (layout .entry)) (now (masks .entry)) page (now («record» .entry)) (length (now (items .entry))) (length (now (text .entry))) (length (now (counts .entry))))) ⌝ }
-    ensures { λ _. ⌜ now (counts .exit) ≡ replicate (length (now (counts .entry))) (pos 0) ⌝ }
+    ensures { λ r. ⌜
+        RecordRead (readInto (now (layout .entry)) (now (masks .entry)) page (now («record» .entry)) (now (items .entry)) (now (text .entry)) (now (counts .entry)))
+        (r .number) (r .items) (r .text) (now (items .entry)) (now (items .exit)) (now (text .entry)) (now (text .exit)) (now (counts .entry)) (now (counts .exit)) ⌝ }
 {
     let deps = has_depending_on(layout);
     let number = asked(layout, masks, page, record.len(), counts.len(), deps);

@@ -2,7 +2,7 @@
 use mathlib.Core.Path.{_≡_, refl, sym, ap, ap₂, _∙_}
 use mathlib.Core.Bool.{Bool, true, false, _||_, cond, false≢true}
 use mathlib.Core.List.{List}
-use Prim.Native.Nat.{ℕ, _-_, _*_, _/_, _<_, _≤_, min}
+use Prim.Native.Nat.{ℕ, _-_, _/_, _<_, _≤_, min}
 use native.Mathlib.Omega.{arith}
 use native.Mathlib.Decide.{decLt}
 use lib.Dec.{eqb, leb, ltb}
@@ -11,12 +11,12 @@ use borrow.Author.Tests.{ne-eqb, eq-eqb, lt-leb, le-leb, lt-ltb, le-ltb}
 use Rattle.spans.specs.Tree.{none, node, endOf}
 use Rattle.spans.proofs.Tree.{tree-none, tree-at}
 use Rattle.layout.specs.declared.Entry.{Entry}
-use Rattle.layout.specs.Layout.{entryAt, spanOf, part, entries, checkedOf, recordLength}
+use Rattle.layout.specs.Layout.{entryAt, spanOf, part, entries, layoutAsks, recordLength}
 use Rattle.items.specs.Items as Items
 use Rattle.items.specs.Items.{Values, values, headOf, restOf, lookup, wellFormed}
 use Rattle.items.proofs.Items.{values-none, values-node, rest-is}
 use Rattle.walks.specs.Walk.{isPad}
-use Rattle.walks.specs.Records.{found, supplied, most}
+use Rattle.walks.specs.Records.{found, supplied, most, listAsks}
 use Rattle.encode.specs.Asked.{askedOf, sought, passed}
 use Rattle.encode.specs.Order.{heads}
 use Rattle.encode.proofs.Order.{lookup-heads}
@@ -123,37 +123,31 @@ passed-item v e j to k r q = rw (ne-eqb (e .kind) 6 k) (sym (rest-is v j to (hea
 
 -- ---- the first question that fails
 
-module _ (l masks : List ℕ) (page : ℕ) (items text : List ℕ) (room work n : ℕ) (p : n ≡ checkedOf l masks page) where
+-- on the list
+module _ (l items text : List ℕ) (room : ℕ) (a : Bool) (q : a ≡ wellFormed items (length text)) where
+  pub asks-list : a ≡ false → 11 ≡ listAsks l items text room
+  asks-list f = rw (sym q ∙ f) refl
+
+  module _ (f : a ≡ true) (b : Bool) (r : b ≡ supplied (entries l) (values items 0 (length items / 4))) where
+    pub asks-names : b ≡ false → 12 ≡ listAsks l items text room
+    asks-names g = rw (sym q ∙ f, sym r ∙ g) refl
+
+    module _ (g : b ≡ true) (m least : ℕ) (s : m ≡ min room 65536) (t : least ≡ recordLength l) where
+      long : (x : Bool) → leb least m ≡ x → leb (recordLength l) (min room most) ≡ x
+      long x k = ap₂ leb (sym t) (sym s) ∙ k
+
+      pub asks-room : m < least → 16 ≡ listAsks l items text room
+      asks-room k = rw (sym q ∙ f, sym r ∙ g, long false (lt-leb least m k)) refl
+
+      pub asks-all : least ≤ m → 0 ≡ listAsks l items text room
+      asks-all k = rw (sym q ∙ f, sym r ∙ g, long true (le-leb least m k)) refl
+
+-- behind those on the layout
+module _ (l masks : List ℕ) (page : ℕ) (items text : List ℕ) (room work n : ℕ) (p : n ≡ layoutAsks l masks page work) where
   pub asked-layout : (n ≡ 0 → ⊥) → n ≡ askedOf l masks page items text room work
   unfolding askedOf
   asked-layout h = rw (← p, ne-eqb n 0 h) refl
 
-  module _ (h : n ≡ 0) where
-    lawful : checkedOf l masks page ≡ 0
-    lawful = sym p ∙ h
-
-    pub asked-work : work < length l / 12 * 2 → 16 ≡ askedOf l masks page items text room work
-    unfolding askedOf
-    asked-work w = rw (lawful, lt-leb (length l / 12 * 2) work w) refl
-
-    module _ (w : length l / 12 * 2 ≤ work) (a : Bool) (q : a ≡ wellFormed items (length text)) where
-      pub asked-list : a ≡ false → 11 ≡ askedOf l masks page items text room work
-      unfolding askedOf
-      asked-list f = rw (lawful, le-leb (length l / 12 * 2) work w, sym q ∙ f) refl
-
-      module _ (f : a ≡ true) (b : Bool) (r : b ≡ supplied (entries l) (values items 0 (length items / 4))) where
-        pub asked-names : b ≡ false → 12 ≡ askedOf l masks page items text room work
-        unfolding askedOf
-        asked-names g = rw (lawful, le-leb (length l / 12 * 2) work w, sym q ∙ f, sym r ∙ g) refl
-
-        module _ (g : b ≡ true) (m least : ℕ) (s : m ≡ min room 65536) (t : least ≡ recordLength l) where
-          long : (x : Bool) → leb least m ≡ x → leb (recordLength l) (min room most) ≡ x
-          long x k = ap₂ leb (sym t) (sym s) ∙ k
-
-          pub asked-room : m < least → 16 ≡ askedOf l masks page items text room work
-          unfolding askedOf
-          asked-room k = rw (lawful, le-leb (length l / 12 * 2) work w, sym q ∙ f, sym r ∙ g, long false (lt-leb least m k)) refl
-
-          pub asked-all : least ≤ m → 0 ≡ askedOf l masks page items text room work
-          unfolding askedOf
-          asked-all k = rw (lawful, le-leb (length l / 12 * 2) work w, sym q ∙ f, sym r ∙ g, long true (le-leb least m k)) refl
+  pub asked-list : n ≡ 0 → (m : ℕ) → m ≡ listAsks l items text room → m ≡ askedOf l masks page items text room work
+  unfolding askedOf
+  asked-list z m q = q ∙ sym (rw (← p, eq-eqb n 0 z) refl)

@@ -5,13 +5,16 @@ use mathlib.Core.List.{List, [], _∷_, _++_}
 use Prim.Native.Nat.{ℕ, zero, suc, _+_, _-_, _/_, _≤_, min, max}
 use native.Mathlib.Omega.{arith}
 use native.Mathlib.Nat.{le-refl}
-use lib.Dec.{eqb, leb}
+use lib.Dec.{leb}
+use lib.IntN.{ℤ, pos}
 use lib.ListN.{length, take, drop, replicate, length-replicate}
 use lib.Seq.{take-append-le}
-use borrow.Author.Tests.{leb-true, eqb-true}
-use Rattle.layout.specs.Layout.{part, entries, entryCount, checkedOf, recordLength}
+use borrow.Author.Tests.{leb-true}
+use Rattle.layout.specs.Layout.{part, entries, entryCount, checkedOf, recordLength, layoutAsks}
+use Rattle.layout.proofs.Laws.{asked-lawful}
 use Rattle.items.specs.Items.{values, wellFormed}
-use Rattle.walks.specs.Records.{most, workFor, filled, supplied, Encoded, refused, finish, encodeRecord, refusalOf, bytesOf}
+use Rattle.walks.specs.Records.{most, filled, supplied, Encoded, refused, finish, encodeRecord, refusalOf, bytesOf, RecordWritten, asking, listAsks}
+use Rattle.walks.proofs.Asked.{asking-both, asking-none, asking-some, both-passed}
 use Rattle.walks.specs.Writing as W
 use Rattle.walks.specs.Writing.{Put, reach, lay, apply, Wrote, wrote}
 use Rattle.walks.proofs.Puts.{apply-length}
@@ -22,31 +25,6 @@ use Rattle.encode.specs.Asked.{askedOf}
 use Rattle.encode.proofs.Spread.{In, lies-reach, seq-in}
 use Rattle.encode.proofs.Joined.{stretch, stretch-reach, done, start-does}
 use Rattle.encode.proofs.Fairly.{fair-part}
-
--- ---- the questions and what stands behind them
-
-module _ (c : ℕ) where
-  abbrev first : Bool → Bool → Bool → Bool → Bool → ℕ
-  first b w a s r = cond b (cond w (cond a (cond s (cond r 0 16) 12) 11) 16) c
-
-  abbrev behind : Encoded → Bool → Bool → Bool → Bool → Bool → Encoded
-  behind x b w a s r = cond b (cond w (cond a (cond s (cond r x (refused 16)) (refused 12)) (refused 11)) (refused 16)) (refused c)
-
-  all-pass : (b w a s r : Bool) → eqb c 0 ≡ b → first b w a s r ≡ 0 → (b ≡ true) × ((w ≡ true) × ((a ≡ true) × ((s ≡ true) × (r ≡ true))))
-  all-pass true true true true true e h = (refl, (refl, (refl, (refl, refl))))
-  all-pass true true true true false e h = absurd (omega (arith, h))
-  all-pass true true true false r e h = absurd (omega (arith, h))
-  all-pass true true false s r e h = absurd (omega (arith, h))
-  all-pass true false a s r e h = absurd (omega (arith, h))
-  all-pass false w a s r e h = absurd (false≢true (sym e ∙ ap (λ n. eqb n 0) h))
-
-  one-fails : (x : Encoded) (b w a s r : Bool) → (first b w a s r ≡ 0 → ⊥) → behind x b w a s r ≡ refused (first b w a s r)
-  one-fails x true true true true true h = absurd (h refl)
-  one-fails x true true true true false h = refl
-  one-fails x true true true false r h = refl
-  one-fails x true true false s r h = refl
-  one-fails x true false a s r h = refl
-  one-fails x false w a s r h = refl
 
 -- ---- puts on a longer buffer of zeros
 
@@ -90,9 +68,10 @@ record-filled ps m n h k =
 abbrev pub Answer : Encoded → ℕ → ℕ → ℕ → List ℕ → Type 0
 Answer e n number long b = (number ≡ refusalOf e) × ((long ≡ length (bytesOf e)) × (b ≡ filled n (bytesOf e)))
 
--- with what another buffer holds
-pub with-counts : {A B C D : Type 0} → A × (B × C) → D → A × (B × (C × D))
-with-counts p d = (p .0, (p .1 .0, (p .1 .1, d)))
+-- with the work space, all that the call leaves
+pub with-counts : {e : Encoded} {number long : ℕ} {r b : List ℕ} {counts cs : List ℤ} → Answer e (length r) number long b → cs ≡ replicate (length counts) (pos 0)
+    → RecordWritten e number long r b counts cs
+with-counts a c = record { numbered = a .0; recordBytes = a .1 .0; recordLeft = a .1 .1; countsLeft = c }
 
 refused-answer : (e : Encoded) (m n : ℕ) (b : List ℕ) → e ≡ refused m → b ≡ replicate n 0 → Answer e n m 0 b
 refused-answer e m n b p q =
@@ -138,23 +117,32 @@ module _ (l masks : List ℕ) (page : ℕ) (items text : List ℕ) (n work numbe
   abbrev O : Wrote
   O = W.seq (codec masks page text) (min n most) (entries l) (values items 0 (length items / 4)) 0 0
 
-  pub not-asked : (number ≡ 0 → ⊥) → (b : List ℕ) → b ≡ replicate n 0 → Answer E n number 0 b
+  asked-is : E ≡ asking refused (askedOf l masks page items text n work) (finish (recordLength l) O)
   unfolding encodeRecord askedOf
-  not-asked h b q =
-      refused-answer E number n b
-      (one-fails (checkedOf l masks page) (finish (recordLength l) O) (eqb (checkedOf l masks page) 0) (leb (workFor l) work) (wellFormed items (length text))
-      (supplied (entries l) (values items 0 (length items / 4))) (leb (recordLength l) (min n most)) (λ z. h (asked ∙ z)) ∙ ap refused (sym asked)) q
+  asked-is = asking-both refused (finish (recordLength l) O) (layoutAsks l masks page work) (listAsks l items text n)
+
+  pub not-asked : (number ≡ 0 → ⊥) → (b : List ℕ) → b ≡ replicate n 0 → Answer E n number 0 b
+  not-asked h b q = refused-answer E number n b (asked-is ∙ rw (← asked) (asking-some refused (finish (recordLength l) O) number h)) q
 
   module _ (zero : number ≡ 0) where
-    passed : (eqb (checkedOf l masks page) 0 ≡ true) × ((leb (workFor l) work ≡ true) × ((wellFormed items (length text) ≡ true)
-        × ((supplied (entries l) (values items 0 (length items / 4)) ≡ true) × (leb (recordLength l) (min n most) ≡ true))))
+    passed : (layoutAsks l masks page work ≡ 0) × (listAsks l items text n ≡ 0)
     unfolding askedOf
-    passed = all-pass (checkedOf l masks page) (eqb (checkedOf l masks page) 0) (leb (workFor l) work) (wellFormed items (length text))
-        (supplied (entries l) (values items 0 (length items / 4))) (leb (recordLength l) (min n most)) refl (sym asked ∙ zero)
+    passed = both-passed (layoutAsks l masks page work) (listAsks l items text n) (sym asked ∙ zero)
+
+    lawful : checkedOf l masks page ≡ 0
+    lawful = asked-lawful l masks page work (passed .0) .0
+
+    room-enough : recordLength l ≤ min n most
+    room-enough = go (wellFormed items (length text)) (supplied (entries l) (values items 0 (length items / 4))) (leb (recordLength l) (min n most)) refl (passed .1)
+      where
+        go : (a s r : Bool) → leb (recordLength l) (min n most) ≡ r → _≡_ {A = ℕ} (cond a (cond s (cond r 0 16) 12) 11) 0 → recordLength l ≤ min n most
+        go true true true e h = leb-true (recordLength l) (min n most) e
+        go true true false e h = absurd (omega (arith, h))
+        go true false r e h = absurd (omega (arith, h))
+        go false s r e h = absurd (omega (arith, h))
 
     walked : E ≡ finish (recordLength l) O
-    unfolding encodeRecord
-    walked = rw (passed .0, passed .1 .0, passed .1 .1 .0, passed .1 .1 .1 .0, passed .1 .1 .1 .1) refl
+    walked = asked-is ∙ asking-none refused (finish (recordLength l) O) (askedOf l masks page items text n work) (sym asked ∙ zero)
 
     module _ (b₀ : List ℕ) (q : b₀ ≡ replicate n 0) where
       loops : start (codec masks page text) (roomIn b₀) (part l 0 (length l / 12)) (values items 0 (length items / 4)) 0 b₀ ≡ done (replicate n 0) O
@@ -162,7 +150,7 @@ module _ (l masks : List ℕ) (page : ℕ) (items text : List ℕ) (n work numbe
           ap (λ b. start (codec masks page text) (roomIn b) (part l 0 (length l / 12)) (values items 0 (length items / 4)) 0 b) q
           ∙ ap (λ k. start (codec masks page text) (min k most) (part l 0 (length l / 12)) (values items 0 (length items / 4)) 0 (replicate n 0)) (length-replicate {A = ℕ} n 0)
           ∙ start-does (codec masks page text) (min n most) (omega arith) (entries l)
-          (fair-part masks text page l (eqb-true (checkedOf l masks page) 0 (passed .0)) 0 (entryCount l) (le-refl (entryCount l))) (values items 0 (length items / 4)) (replicate n 0)
+          (fair-part masks text page l lawful 0 (entryCount l) (le-refl (entryCount l))) (values items 0 (length items / 4)) (replicate n 0)
 
       pub not-walked : (m : ℕ) → start (codec masks page text) (roomIn b₀) (part l 0 (length l / 12)) (values items 0 (length items / 4)) 0 b₀ ≡ L.refused m
           → (b : List ℕ) → b ≡ replicate n 0 → Answer E n m 0 b
@@ -175,6 +163,6 @@ module _ (l masks : List ℕ) (page : ℕ) (items text : List ℕ) (n work numbe
           subst (λ e. Answer e n 0 long b) (sym walked)
           (subst (λ k. Answer (finish (recordLength l) O) n 0 k b) (sym (x ∙ ap₂ max u v))
           (laid-walk n (recordLength l) (min n most) past taken b O
-          (seq-in (codec masks page text) (min n most) (entries l) (fair-part masks text page l (eqb-true (checkedOf l masks page) 0 (passed .0)) 0 (entryCount l) (le-refl (entryCount l)))
+          (seq-in (codec masks page text) (min n most) (entries l) (fair-part masks text page l lawful 0 (entryCount l) (le-refl (entryCount l)))
           (values items 0 (length items / 4)) 0 0)
-          (leb-true (recordLength l) (min n most) (passed .1 .1 .1 .1)) (omega arith) (sym loops ∙ w)))
+          room-enough (omega arith) (sym loops ∙ w)))

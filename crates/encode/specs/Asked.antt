@@ -5,19 +5,15 @@ use Prim.Native.Nat.{ℕ, _/_, min}
 use lib.Dec.{eqb, leb}
 use lib.ListN.{length}
 use Rattle.layout.specs.declared.Entry.{Entry}
-use Rattle.layout.specs.Layout.{entries, checkedOf, recordLength}
+use Rattle.layout.specs.Layout.{layoutAsks}
 use Rattle.items.specs.Items.{Values, values, restOf, lookup, wellFormed}
 use Rattle.walks.specs.Walk.{isPad}
-use Rattle.walks.specs.Records.{most, workFor, supplied}
+use Rattle.walks.specs.Records.{listAsks}
 use Rattle.encode.specs.Order.{heads}
 
 unfoldable pub askedOf : List ℕ → List ℕ → ℕ → List ℕ → List ℕ → ℕ → ℕ → ℕ
 askedOf l masks page items text room work =
-    cond (eqb (checkedOf l masks page) 0)
-    (cond (leb (workFor l) work)
-    (cond (wellFormed items (length text))
-    (cond (supplied (entries l) (values items 0 (length items / 4)))
-    (cond (leb (recordLength l) (min room most)) 0 16) 12) 11) 16) (checkedOf l masks page)
+    cond (eqb (layoutAsks l masks page work) 0) (listAsks l items text room) (layoutAsks l masks page work)
 
 -- the items from an entry's own on: these, if the first has its name, or else those of the whole list from the first of the name on; a Pad has none
 abbrev pub sought : Entry → Values → Values → Values

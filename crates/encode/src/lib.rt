@@ -19,7 +19,7 @@ use items::fetch;
 use items::find;
 use items::item_end;
 use layout::Entry;
-use layout::check_layout;
+use layout::ask_layout;
 use layout::load;
 use layout::record_length;
 use layout::reserved_width;
@@ -34,7 +34,7 @@ ghost use lib.ListN.{length, replicate};
 ghost use Rattle.layout.specs.Layout.{part, entries, recordLength};
 ghost use Rattle.items.specs.Items.{values};
 ghost use Rattle.walks.specs.Walk.{single, isPad};
-ghost use Rattle.walks.specs.Records.{encodeRecord, refusalOf, bytesOf, filled, supplied};
+ghost use Rattle.walks.specs.Records.{listAsks, writtenInto, RecordWritten, supplied};
 ghost use Rattle.encode_leaf.specs.Laying.{group, field, start};
 ghost use Rattle.encode_leaf.specs.Machine.{Met, codec, roomIn};
 ghost use Rattle.encode.specs.Asked.{askedOf, sought, passed};
@@ -328,7 +328,24 @@ fn supplies(layout: &[u32], items: &[u64]) -> bool
     true
 }
 
-// The questions before the walk, by a layout's record length: the number of the first that fails, or 0.
+// The number of the first question on the list that fails, by the layout's record length, or 0.
+fn ask_list(layout: &[u32], items: &[u64], text: &[u8], least: u64, room: usize) -> u32
+    requires { ⌜ least ≡ recordLength (now layout) ⌝ }
+    ensures { λ r. ⌜ r ≡ listAsks (now (layout .entry)) (now (items .entry)) (now (text .entry)) room ⌝ }
+{
+    if !check_items(items, text) {
+        return 11;
+    }
+    if !supplies(layout, items) {
+        return 12;
+    }
+    if room_of(room) < least {
+        return 16;
+    }
+    0
+}
+
+// The questions before the walk: the number of the first that fails, or 0.
 fn asked(
     layout: &[u32],
     masks: &[u8],
@@ -342,23 +359,11 @@ fn asked(
     requires { ⌜ least ≡ recordLength (now layout) ⌝ }
     ensures { λ r. ⌜ r ≡ askedOf (now (layout .entry)) (now (masks .entry)) page (now (items .entry)) (now (text .entry)) room work ⌝ }
 {
-    let unlawful = check_layout(layout, masks, page);
-    if unlawful != 0 {
-        return unlawful;
+    let number = ask_layout(layout, masks, page, work);
+    if number != 0 {
+        return number;
     }
-    if work < layout.len() / 12 * 2 {
-        return 16;
-    }
-    if !check_items(items, text) {
-        return 11;
-    }
-    if !supplies(layout, items) {
-        return 12;
-    }
-    if room_of(room) < least {
-        return 16;
-    }
-    0
+    ask_list(layout, items, text, least, room)
 }
 
 // Writes a record by a layout and a value list: its bytes, and zeros behind them; zeros alone after a refusal.
@@ -371,10 +376,9 @@ pub fn encode_record(
     record: &mut [u8],
     counts: &mut [i64],
 ) -> Written
-    ensures { λ r. ⌜ r .number ≡ refusalOf (encodeRecord (now (layout .entry)) (now (masks .entry)) page (now (items .entry)) (now (text .entry)) (length (now («record» .entry))) (length (now (counts .entry)))) ⌝ }
-    ensures { λ r. ⌜ r .length ≡ length (bytesOf (encodeRecord (now (layout .entry)) (now (masks .entry)) page (now (items .entry)) (now (text .entry)) (length (now («record» .entry))) (length (now (counts .entry))))) ⌝ }
-    ensures { λ _. ⌜ now («record» .exit) ≡ filled (length (now («record» .entry))) (bytesOf (encodeRecord (now (layout .entry)) (now (masks .entry)) page (now (items .entry)) (now (text .entry)) (length (now («record» .entry))) (length (now (counts .entry))))) ⌝ }
-    ensures { λ _. ⌜ now (counts .exit) ≡ replicate (length (now (counts .entry))) (pos 0) ⌝ }
+    ensures { λ r. ⌜
+        RecordWritten (writtenInto (now (layout .entry)) (now (masks .entry)) page (now (items .entry)) (now (text .entry)) (now («record» .entry)) (now (counts .entry)))
+        (r .number) (r .length) (now («record» .entry)) (now («record» .exit)) (now (counts .entry)) (now (counts .exit)) ⌝ }
 {
     let least = record_length(layout);
     let number = asked(

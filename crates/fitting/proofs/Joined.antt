@@ -13,7 +13,7 @@ use borrow.Author.Tests.{eq-eqb, ne-eqb, eqb-true, eqb-false, lt-ltb, ltb-true, 
 use Rattle.spans.specs.Tree.{Tree, none, node, endOf, treeIn, tree}
 use Rattle.spans.proofs.Tree.{and-left, and-right}
 use Rattle.layout.specs.declared.Entry.{Entry}
-use Rattle.layout.specs.Layout.{present, entryAt, entryCount, spanOf, isGroup, part, entries}
+use Rattle.layout.specs.Layout.{workFor, present, entryAt, entryCount, spanOf, isGroup, part, entries}
 use Rattle.items.specs.declared.Item.{Item}
 use Rattle.items.specs.Items.{Values, values, count, headOf, membersOf, restOf, scalarOk, wellFormed}
 use Rattle.value.specs.declared.Scalar.{Scalar}
@@ -25,7 +25,6 @@ use Rattle.fits.specs.Decide.{fitsOf}
 use Rattle.walks.specs.Walk.{single, isPad, times, atMost, howMany}
 use Rattle.walks.specs.Kinds.{Count, State, start, held, maskOf, textOf, scalarIn, noted}
 use Rattle.walks.specs.Fitting.{after}
-use Rattle.walks.specs.Records.{workFor}
 use Rattle.walks.specs.Decide as W
 use Rattle.walks.specs.Decide.{alone, numbers, holds, goodOf, eachFits, first, fitted, same, textIs, fitting}
 use Rattle.decode_leaf.specs.Counts as Counts

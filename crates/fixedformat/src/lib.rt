@@ -1,14 +1,13 @@
 // The calls as C functions. A slice is a pointer and a length, in elements.
 ghost use mathlib.Core.Path.{_≡_};
-ghost use lib.IntN.{pos};
-ghost use lib.ListN.{length, replicate};
+ghost use lib.ListN.{length};
 ghost use Rattle.layout.specs.Layout.{checkedOf};
 ghost use Rattle.layout_text.specs.declared.LayoutRead.{LayoutRead};
 ghost use Rattle.layout_text.specs.Form.{linesOf};
 ghost use Rattle.layout_text.specs.Reading.{readOf, refusal, buffer, wordsOf, masksOf};
 ghost use Rattle.text_field.specs.declared.Translated.{Translated};
 ghost use Rattle.text_field.specs.Single.{translatedOf, scratchOf, textAsks, fieldText, startOf};
-ghost use Rattle.walks.specs.Records.{decodeRecord, numberOf, itemsOf, textsOf, filled, encodeRecord, refusalOf, bytesOf};
+ghost use Rattle.walks.specs.Records.{readInto, RecordRead, writtenInto, RecordWritten};
 
 // Reads a layout's text form.
 #[no_mangle]
@@ -55,12 +54,9 @@ pub extern "C" fn ff_decode_record(
     item_words_used: &mut u64,
     text_used: &mut u64,
 ) -> u32
-    ensures { λ r. ⌜ r ≡ numberOf (decodeRecord (now (layout .entry)) (now (masks .entry)) page (now («record» .entry)) (length (now (items .entry))) (length (now (text .entry))) (length (now (counts .entry)))) ⌝ }
-    ensures { λ _. ⌜ now («item_words_used» .exit) ≡ length (itemsOf (decodeRecord (now (layout .entry)) (now (masks .entry)) page (now («record» .entry)) (length (now (items .entry))) (length (now (text .entry))) (length (now (counts .entry))))) ⌝ }
-    ensures { λ _. ⌜ now («text_used» .exit) ≡ length (textsOf (decodeRecord (now (layout .entry)) (now (masks .entry)) page (now («record» .entry)) (length (now (items .entry))) (length (now (text .entry))) (length (now (counts .entry))))) ⌝ }
-    ensures { λ _. ⌜ now (items .exit) ≡ filled (length (now (items .entry))) (itemsOf (decodeRecord (now (layout .entry)) (now (masks .entry)) page (now («record» .entry)) (length (now (items .entry))) (length (now (text .entry))) (length (now (counts .entry))))) ⌝ }
-    ensures { λ _. ⌜ now (text .exit) ≡ filled (length (now (text .entry))) (textsOf (decodeRecord (now (layout .entry)) (now (masks .entry)) page (now («record» .entry)) (length (now (items .entry))) (length (now (text .entry))) (length (now (counts .entry))))) ⌝ }
-    ensures { λ _. ⌜ now (counts .exit) ≡ replicate (length (now (counts .entry))) (pos 0) ⌝ }
+    ensures { λ r. ⌜
+        RecordRead (readInto (now (layout .entry)) (now (masks .entry)) page (now («record» .entry)) (now (items .entry)) (now (text .entry)) (now (counts .entry)))
+        r (now («item_words_used» .exit)) (now («text_used» .exit)) (now (items .entry)) (now (items .exit)) (now (text .entry)) (now (text .exit)) (now (counts .entry)) (now (counts .exit)) ⌝ }
 {
     let r = decode::decode_record(layout, masks, page, record, items, text, counts);
     *item_words_used = r.items as u64;
@@ -80,10 +76,9 @@ pub extern "C" fn ff_encode_record(
     counts: &mut [i64],
     record_length: &mut u64,
 ) -> u32
-    ensures { λ r. ⌜ r ≡ refusalOf (encodeRecord (now (layout .entry)) (now (masks .entry)) page (now (items .entry)) (now (text .entry)) (length (now («record» .entry))) (length (now (counts .entry)))) ⌝ }
-    ensures { λ _. ⌜ now («record_length» .exit) ≡ length (bytesOf (encodeRecord (now (layout .entry)) (now (masks .entry)) page (now (items .entry)) (now (text .entry)) (length (now («record» .entry))) (length (now (counts .entry))))) ⌝ }
-    ensures { λ _. ⌜ now («record» .exit) ≡ filled (length (now («record» .entry))) (bytesOf (encodeRecord (now (layout .entry)) (now (masks .entry)) page (now (items .entry)) (now (text .entry)) (length (now («record» .entry))) (length (now (counts .entry))))) ⌝ }
-    ensures { λ _. ⌜ now (counts .exit) ≡ replicate (length (now (counts .entry))) (pos 0) ⌝ }
+    ensures { λ r. ⌜
+        RecordWritten (writtenInto (now (layout .entry)) (now (masks .entry)) page (now (items .entry)) (now (text .entry)) (now («record» .entry)) (now (counts .entry)))
+        r (now («record_length» .exit)) (now («record» .entry)) (now («record» .exit)) (now (counts .entry)) (now (counts .exit)) ⌝ }
 {
     let r = encode::encode_record(layout, masks, page, items, text, record, counts);
     *record_length = r.length as u64;

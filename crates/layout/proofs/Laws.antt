@@ -6,12 +6,12 @@ use Prim.Native.Nat.{ℕ, zero, suc, _+_, _*_, _<_, _≤_, max}
 use native.Mathlib.Omega.{arith}
 use native.Mathlib.Numerals.{add-one}
 use native.Mathlib.Nat.{mul-le-mul-left, le-trans}
-use lib.Dec.{eqb, ltb}
-use borrow.Author.Tests.{ltb-true, ltb-false, eq-eqb, ne-eqb}
+use lib.Dec.{eqb, leb, ltb}
+use borrow.Author.Tests.{ltb-true, ltb-false, eq-eqb, ne-eqb, le-leb, lt-leb, eqb-true, eqb-false, leb-true}
 use Rattle.layout.specs.declared.Entry.{Entry}
 use Rattle.spans.specs.Tree.{endOf}
 use Rattle.spans.proofs.Tree.{tree-none, tree-at}
-use Rattle.layout.specs.Layout.{absent, entryAt, entryCount, spanOf, part, present, allBelow, someBelow, entryOk, entriesOk, dependsIn, reservedWidth, furthest, recordLength}
+use Rattle.layout.specs.Layout.{absent, entryAt, entryCount, spanOf, part, present, allBelow, someBelow, entryOk, entriesOk, checkedOf, workFor, layoutAsks, dependsIn, reservedWidth, furthest, recordLength}
 
 or-true : (a : Bool) → (a || true) ≡ true
 or-true true = refl
@@ -124,3 +124,34 @@ length-is l i far h p = sym (p ∙ furthest-end l i (entryCount l) h far)
 pub alone : (e : Entry) (masks : ℕ) → entriesOk (e .name ∷ e .offset ∷ e .width ∷ e .kind ∷ e .occurs ∷ e .depending ∷ e .span ∷ e .p ∷ e .q ∷ e .r ∷ e .s ∷ e .mask ∷ []) masks ≡ entryOk e masks
 unfolding entriesOk allBelow entryAt
 alone e masks = refl
+
+-- ---- the questions that every call asks first
+
+module _ (l masks : List ℕ) (page work : ℕ) (c : ℕ) (p : c ≡ checkedOf l masks page) where
+  pub asks-unlawful : (c ≡ 0 → ⊥) → c ≡ layoutAsks l masks page work
+  unfolding layoutAsks
+  asks-unlawful n = rw (← p, ne-eqb c 0 n) refl
+
+  module _ (z : c ≡ 0) where
+    pub asks-work : work < workFor l → 16 ≡ layoutAsks l masks page work
+    unfolding layoutAsks
+    asks-work h = rw (← p, eq-eqb c 0 z, lt-leb (workFor l) work h) refl
+
+    pub asks-nothing : workFor l ≤ work → 0 ≡ layoutAsks l masks page work
+    unfolding layoutAsks
+    asks-nothing h = rw (← p, eq-eqb c 0 z, le-leb (workFor l) work h) refl
+
+-- a layout of which nothing is asked is lawful, and has its work space
+pub asked-lawful : (l masks : List ℕ) (page work : ℕ) → layoutAsks l masks page work ≡ 0 → (checkedOf l masks page ≡ 0) × (workFor l ≤ work)
+unfolding layoutAsks
+asked-lawful l masks page work = go (eqb (checkedOf l masks page) 0) refl (leb (workFor l) work) refl
+  where
+    go : (a : Bool) → eqb (checkedOf l masks page) 0 ≡ a → (b : Bool) → leb (workFor l) work ≡ b
+        → cond a (cond b 0 16) (checkedOf l masks page) ≡ 0 → (checkedOf l masks page ≡ 0) × (workFor l ≤ work)
+    go true x true y e = (eqb-true (checkedOf l masks page) 0 x, leb-true (workFor l) work y)
+    go true x false y e = absurd (omega (arith, e))
+    go false x b y e = absurd (eqb-false (checkedOf l masks page) 0 x e)
+
+pub lawful-asked : (l masks : List ℕ) (page work : ℕ) → eqb (checkedOf l masks page) 0 ≡ true → workFor l ≤ work → layoutAsks l masks page work ≡ 0
+unfolding layoutAsks
+lawful-asked l masks page work a b = rw (a, le-leb (workFor l) work b) refl

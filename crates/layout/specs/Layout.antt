@@ -131,6 +131,15 @@ checkedOf l masks page =
     (cond (entriesOk l (length masks))
     (cond (spansOk l) 0 3) 2) 1
 
+-- "work space of two 64-bit words an entry"
+abbrev pub workFor : List ℕ → ℕ
+workFor l = entryCount l * 2
+
+-- The questions that every call asks of its layout first, with so many words of work space: 1, 2, 3, then "work space ..? Else 16"; 0 where all are passed.
+unfoldable pub layoutAsks : List ℕ → List ℕ → ℕ → ℕ → ℕ
+layoutAsks l masks page work =
+    cond (eqb (checkedOf l masks page) 0) (cond (leb (workFor l) work) 0 16) (checkedOf l masks page)
+
 -- "width × occurs, occurs absent counting 1, or 0 under depending: its reserved bytes"
 abbrev pub times : Entry → ℕ
 times e = cond (eqb (e .occurs) absent) 1 (e .occurs)

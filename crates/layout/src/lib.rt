@@ -4,7 +4,7 @@ ghost use mathlib.Core.Path.{_≡_};
 ghost use Prim.Native.Nat.{_+_, _*_, _≤_, max};
 ghost use lib.ListN.{length, getD};
 ghost use Rattle.spans.specs.Tree.{spanOk, nested};
-ghost use Rattle.layout.specs.Layout.{entryAt, spanOf, isGroup, part, wordsOk, upTo, plainOk, floatOk, boolOk, editedOk, kindOk, optionOk, placeOk, entryOk, entriesOk, checkedOf, reservedWidth, recordLength, dependsIn};
+ghost use Rattle.layout.specs.Layout.{entryAt, spanOf, isGroup, part, wordsOk, upTo, plainOk, floatOk, boolOk, editedOk, kindOk, optionOk, placeOk, entryOk, entriesOk, checkedOf, layoutAsks, reservedWidth, recordLength, dependsIn};
 
 // The twelve words of an entry.
 pub struct Entry {
@@ -309,6 +309,20 @@ pub fn check_layout(layout: &[u32], masks: &[u8], page: u32) -> u32
     }
     if !nested(layout, 0, layout.len() / 12, 8) {
         return 3;
+    }
+    0
+}
+
+// The number of the first question on the layout that fails, its work space counted in words, or 0.
+pub fn ask_layout(layout: &[u32], masks: &[u8], page: u32, work: usize) -> u32
+    ensures { λ r. ⌜ r ≡ layoutAsks (now (layout .entry)) (now (masks .entry)) page work ⌝ }
+{
+    let number = check_layout(layout, masks, page);
+    if number != 0 {
+        return number;
+    }
+    if work < layout.len() / 12 * 2 {
+        return 16;
     }
     0
 }

@@ -8,7 +8,8 @@ use borrow.Author.Tests.{eq-eqb, ne-eqb}
 use lib.Dec.{eqb}
 use lib.IntN.{ℤ, pos}
 use lib.ListN.{length, take, replicate, length-take, length-replicate}
-use Rattle.walks.specs.Records.{most, workFor, filled, Decoded, decoded, decodeRecord, numberOf, itemsOf, textsOf, Encoded, refused, encoded, encodeRecord, refusalOf, bytesOf}
+use Rattle.layout.specs.Layout.{workFor}
+use Rattle.walks.specs.Records.{most, filled, Decoded, decoded, decodeRecord, numberOf, itemsOf, textsOf, Encoded, refused, encoded, encodeRecord, refusalOf, bytesOf, readInto, RecordRead, RecordWritten}
 use Rattle.walks.specs.Plain.{plain}
 use Rattle.walks.specs.Decide.{fitting}
 use Rattle.walks.specs.Needs.{needed}
@@ -16,7 +17,7 @@ use Rattle.walks.specs.Demand.{Kept}
 use Rattle.walks.proofs.Demand3.{demand-3}
 use Rattle.walks.proofs.Decided.{fitting-sound}
 use Rattle.roundtrip.specs.declared.Trip.{Trip}
-use Rattle.roundtrip.specs.Same.{writing, accepted, stands, reading, Same, Returns}
+use Rattle.roundtrip.specs.Same.{writing, accepted, stands, reading, Same, Returns, RoundTrip}
 use Rattle.roundtrip.proofs.Behind.{Stood}
 
 no-bytes : (e : Encoded) → (refusalOf e ≡ 0 → ⊥) → bytesOf e ≡ []
@@ -71,19 +72,19 @@ module _ (l masks : List ℕ) (page : ℕ) (items text behind : List ℕ) (room 
     unfolding reading
     reading-no f itemRoom textRoom = rw (no f) refl
 
-  module _ (itemRoom textRoom : ℕ) where
+  -- the buffers as they were lent
+  module _ (rec back said : List ℕ) (counts : List ℤ) (roomy : length rec ≡ room) (worky : length counts ≡ work) where
     abbrev D : Decoded
-    D = R itemRoom textRoom
+    D = R (length back) (length said)
 
-    abbrev Answered : Trip → List ℕ → List ℕ → List ℕ → Type 0
-    Answered r rec back said =
-        (r .written ≡ refusalOf W) × ((r .length ≡ length (bytesOf W)) × ((rec ≡ filled room S) × ((r .read ≡ numberOf D) × ((r .items ≡ length (itemsOf D)) × ((r .text ≡ length (textsOf D))
-        × ((back ≡ filled itemRoom (itemsOf D)) × (said ≡ filled textRoom (textsOf D))))))))
+    abbrev Left : Trip → List ℕ → List ℕ → List ℕ → List ℤ → Type 0
+    Left r rec′ back′ said′ counts′ =
+        RoundTrip l masks page items text behind room work (r .written) (r .length) (r .read) (r .items) (r .text) rec rec′ back back′ said said′ counts counts′
 
-    -- demand 3 follows from the equations
-    module _ (r : Trip) (rec back said : List ℕ) (a : Answered r rec back said) (b : length back ≡ itemRoom) (t : length said ≡ textRoom) where
+    -- demand 3 follows from what is left
+    module _ (r : Trip) (rec′ back′ said′ : List ℕ) (counts′ : List ℤ) (a : Left r rec′ back′ said′ counts′) (b : length back′ ≡ length back) (t : length said′ ≡ length said) where
       module _ (p : plain l masks page ≡ true) (f : fitting l masks items text ≡ true) (small : needed l items + length behind ≤ most) (enough : needed l items ≤ room)
-          (works : workFor l ≤ work) (is : length items ≤ itemRoom) (ts : length text ≤ textRoom) where
+          (works : workFor l ≤ work) (is : length items ≤ length back) (ts : length text ≤ length said) where
         k : Kept l masks page items text
         k = demand-3 l masks page items text p (fitting-sound l masks items text f) (omega arith)
 
@@ -96,73 +97,73 @@ module _ (l masks : List ℕ) (page : ℕ) (items text behind : List ℕ) (room 
         read-is : D ≡ decoded items text
         read-is =
             let m : length (take (room - length (k .bytes)) behind) ≡ min (room - length (k .bytes)) (length behind) = length-take (room - length (k .bytes)) behind in
-            reading-yes 0 (sym (ap refusalOf written)) refl itemRoom textRoom ∙ ap (λ s. decodeRecord l masks page s itemRoom textRoom work) stood
-            ∙ k .readBack (take (room - length (k .bytes)) behind) itemRoom textRoom work (omega (arith, k .long)) is ts works
+            reading-yes 0 (sym (ap refusalOf written)) refl (length back) (length said) ∙ ap (λ s. decodeRecord l masks page s (length back) (length said) work) stood
+            ∙ k .readBack (take (room - length (k .bytes)) behind) (length back) (length said) work (omega (arith, k .long)) is ts works
 
-        same : Same l items text r back said
+        same : Same l items text r back′ said′
         same = record {
-          accepts = a .0 ∙ ap refusalOf (writing-is ∙ written);
-          long = a .1 .0 ∙ ap (λ e. length (bytesOf e)) (writing-is ∙ written) ∙ k .long;
-          reads = a .1 .1 .1 .0 ∙ ap numberOf read-is;
-          manyItems = a .1 .1 .1 .1 .0 ∙ ap (λ d. length (itemsOf d)) read-is;
-          manyBytes = a .1 .1 .1 .1 .1 .0 ∙ ap (λ d. length (textsOf d)) read-is;
-          sameItems = a .1 .1 .1 .1 .1 .1 .0 ∙ ap₂ (λ n d. filled n (itemsOf d)) (sym b) read-is;
-          sameText = a .1 .1 .1 .1 .1 .1 .1 ∙ ap₂ (λ n d. filled n (textsOf d)) (sym t) read-is;
+          accepts = a .writes ∙ ap refusalOf (writing-is ∙ written);
+          long = a .recordBytes ∙ ap (λ e. length (bytesOf e)) (writing-is ∙ written) ∙ k .long;
+          reads = a .reads .numbered ∙ ap numberOf read-is;
+          manyItems = a .reads .itemWords ∙ ap (λ d. length (itemsOf d)) read-is;
+          manyBytes = a .reads .textBytes ∙ ap (λ d. length (textsOf d)) read-is;
+          sameItems = a .reads .itemsLeft ∙ ap₂ (λ n d. filled n (itemsOf d)) (sym b) read-is;
+          sameText = a .reads .textLeft ∙ ap₂ (λ n d. filled n (textsOf d)) (sym t) read-is;
         }
 
-      returns-same : Returns l masks page items text behind room work r back said
+      returns-same : Returns l masks page items text behind room work r back′ said′
       returns-same p f small enough works is ts = same p f small enough works (omega arith) (omega arith)
 
     abbrev pub All : Trip → List ℕ → List ℕ → List ℕ → List ℤ → Type 0
-    All r rec back said cs =
-        (r .written ≡ refusalOf W) × ((r .length ≡ length (bytesOf W)) × ((rec ≡ filled room S) × ((r .read ≡ numberOf D) × ((r .items ≡ length (itemsOf D)) × ((r .text ≡ length (textsOf D))
-        × ((back ≡ filled itemRoom (itemsOf D)) × ((said ≡ filled textRoom (textsOf D)) × ((cs ≡ replicate work (pos 0)) × Returns l masks page items text behind room work r back said))))))))
+    All r rec′ back′ said′ counts′ = Left r rec′ back′ said′ counts′ × Returns l masks page items text behind room work r back′ said′
 
-    with-demand : {r : Trip} {rec back said : List ℕ} {cs : List ℤ} → Answered r rec back said → length back ≡ itemRoom → length said ≡ textRoom → cs ≡ replicate work (pos 0) → All r rec back said cs
-    with-demand {r} {rec} {back} {said} a b t z =
-        (a .0, (a .1 .0, (a .1 .1 .0, (a .1 .1 .1 .0, (a .1 .1 .1 .1 .0, (a .1 .1 .1 .1 .1 .0, (a .1 .1 .1 .1 .1 .1 .0, (a .1 .1 .1 .1 .1 .1 .1, (z, returns-same r rec back said a b t)))))))))
+    with-demand : {r : Trip} {rec′ back′ said′ : List ℕ} {counts′ : List ℤ} → Left r rec′ back′ said′ counts′ → length back′ ≡ length back → length said′ ≡ length said
+        → All r rec′ back′ said′ counts′
+    with-demand {r} {rec′} {back′} {said′} {counts′} a b t = (a, returns-same r rec′ back′ said′ counts′ a b t)
 
-    pub refused-all : (number : ℕ) {rec back said : List ℕ} {cs : List ℤ} → number ≡ refusalOf E → rec ≡ filled room (bytesOf E) → cs ≡ replicate work (pos 0) → (number ≡ 0 → ⊥)
-        → (back₀ said₀ : List ℕ) → length back₀ ≡ itemRoom → length said₀ ≡ textRoom → back ≡ take 0 back₀ ++ replicate (length back₀ - 0) 0 → said ≡ take 0 said₀ ++ replicate (length said₀ - 0) 0
-        → All (record { written = number; length = 0; read = 0; items = 0; text = 0 }) rec back said cs
-    refused-all number n q z f back₀ said₀ b t x y =
+    pub refused-all : (number long : ℕ) {rec′ back′ said′ : List ℕ} {counts′ : List ℤ} → RecordWritten E number long rec rec′ counts counts′ → (number ≡ 0 → ⊥)
+        → back′ ≡ take 0 back ++ replicate (length back - 0) 0 → said′ ≡ take 0 said ++ replicate (length said - 0) 0
+        → All (record { written = number; length = 0; read = 0; items = 0; text = 0 }) rec′ back′ said′ counts′
+    refused-all number long w f x y =
+        let n = w .numbered in
         let e : bytesOf E ≡ [] = no-bytes E (λ r. f (n ∙ r)) in
-        let d : D ≡ decoded [] [] = reading-no number n f itemRoom textRoom in
-        let u = zeros itemRoom back₀ b x in
-        let v = zeros textRoom said₀ t y in
-        with-demand (
-          n ∙ ap refusalOf (sym writing-is),
-          (
-            sym (ap (λ w. length (bytesOf w)) writing-is ∙ ap (λ (w : List ℕ). length w) e),
-            (
-              q ∙ ap (filled room) (e ∙ sym (stands-no number n f)),
-              (sym (ap numberOf d), (sym (ap (λ w. length (itemsOf w)) d), (sym (ap (λ w. length (textsOf w)) d), (u .0 ∙ ap (λ w. filled itemRoom (itemsOf w)) (sym d), v .0 ∙ ap (λ w. filled textRoom (textsOf w)) (sym d))))),
-            ),
-          ),
-        ) (u .1) (v .1) z
+        let d : D ≡ decoded [] [] = reading-no number n f (length back) (length said) in
+        let u = zeros (length back) back refl x in
+        let v = zeros (length said) said refl y in
+        with-demand (record {
+          writes = n ∙ ap refusalOf (sym writing-is);
+          recordBytes = sym (ap (λ w. length (bytesOf w)) writing-is ∙ ap (λ (w : List ℕ). length w) e);
+          recordLeft = w .recordLeft ∙ ap (filled (length rec)) (e ∙ sym (stands-no number n f));
+          reads = record {
+            numbered = sym (ap numberOf d);
+            itemWords = sym (ap (λ w. length (itemsOf w)) d);
+            textBytes = sym (ap (λ w. length (textsOf w)) d);
+            itemsLeft = u .0 ∙ ap (λ w. filled (length back) (itemsOf w)) (sym d);
+            textLeft = v .0 ∙ ap (λ w. filled (length said) (textsOf w)) (sym d);
+            countsLeft = w .countsLeft;
+          };
+        }) (u .1) (v .1)
 
-    pub read-all : (number long read is ts : ℕ) {rec back said : List ℕ} {cs : List ℤ} → number ≡ refusalOf E → number ≡ 0 → long ≡ length (bytesOf E)
-        → rec ≡ filled room (Stood room (bytesOf E) behind) → (bytes : List ℕ) → bytes ≡ Stood room (bytesOf E) behind
-        → (work′ : ℕ) → work′ ≡ work → read ≡ numberOf (decodeRecord l masks page bytes itemRoom textRoom work′)
-        → is ≡ length (itemsOf (decodeRecord l masks page bytes itemRoom textRoom work′))
-        → ts ≡ length (textsOf (decodeRecord l masks page bytes itemRoom textRoom work′))
-        → back ≡ filled itemRoom (itemsOf (decodeRecord l masks page bytes itemRoom textRoom work′))
-        → said ≡ filled textRoom (textsOf (decodeRecord l masks page bytes itemRoom textRoom work′))
-        → cs ≡ replicate work′ (pos 0) → length back ≡ itemRoom → length said ≡ textRoom
-        → All (record { written = 0; length = long; read = read; items = is; text = ts }) rec back said cs
-    read-all number long read is ts n z q p bytes s work′ o a b c x y w u v =
-        let e : decodeRecord l masks page bytes itemRoom textRoom work′ ≡ D =
-        ap₂ (λ k j. decodeRecord l masks page k itemRoom textRoom j) (s ∙ sym (stands-yes number n z)) o ∙ sym (reading-yes number n z itemRoom textRoom) in
-        with-demand (
-          sym z ∙ n ∙ ap refusalOf (sym writing-is),
-          (
-            q ∙ ap (λ k. length (bytesOf k)) (sym writing-is),
-            (
-              p ∙ ap (filled room) (sym (stands-yes number n z)),
-              (
-                a ∙ ap numberOf e,
-                (b ∙ ap (λ k. length (itemsOf k)) e, (c ∙ ap (λ k. length (textsOf k)) e, (x ∙ ap (λ k. filled itemRoom (itemsOf k)) e, y ∙ ap (λ k. filled textRoom (textsOf k)) e))),
-              ),
-            ),
-          ),
-        ) u v (w ∙ ap (λ j. replicate j (pos 0)) o)
+    pub read-all : (number long read words letters : ℕ) {rec₁ rec′ back′ said′ : List ℕ} {counts₁ counts′ : List ℤ}
+        → RecordWritten E number long rec rec₁ counts counts₁ → number ≡ 0 → length counts₁ ≡ length counts
+        → rec′ ≡ filled room (Stood room (bytesOf E) behind) → (bytes : List ℕ) → bytes ≡ Stood room (bytesOf E) behind
+        → RecordRead (readInto l masks page bytes back said counts₁) read words letters back back′ said said′ counts₁ counts′
+        → length back′ ≡ length back → length said′ ≡ length said
+        → All (record { written = 0; length = long; read = read; items = words; text = letters }) rec′ back′ said′ counts′
+    read-all number long read words letters {rec₁} {rec′} {back′} {said′} {counts₁} w z o p bytes s g u v =
+        let n = w .numbered in
+        let e : decodeRecord l masks page bytes (length back) (length said) (length counts₁) ≡ D =
+        ap₂ (λ k j. decodeRecord l masks page k (length back) (length said) j) (s ∙ sym (stands-yes number n z)) (o ∙ worky) ∙ sym (reading-yes number n z (length back) (length said)) in
+        with-demand (record {
+          writes = sym z ∙ n ∙ ap refusalOf (sym writing-is);
+          recordBytes = w .recordBytes ∙ ap (λ k. length (bytesOf k)) (sym writing-is);
+          recordLeft = p ∙ ap₂ filled (sym roomy) (sym (stands-yes number n z));
+          reads = record {
+            numbered = g .numbered ∙ ap numberOf e;
+            itemWords = g .itemWords ∙ ap (λ k. length (itemsOf k)) e;
+            textBytes = g .textBytes ∙ ap (λ k. length (textsOf k)) e;
+            itemsLeft = g .itemsLeft ∙ ap (λ k. filled (length back) (itemsOf k)) e;
+            textLeft = g .textLeft ∙ ap (λ k. filled (length said) (textsOf k)) e;
+            countsLeft = g .countsLeft ∙ ap (λ j. replicate j (pos 0)) o;
+          };
+        }) u v

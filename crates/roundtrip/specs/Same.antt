@@ -4,8 +4,10 @@ use mathlib.Core.Bool.{Bool, true, cond}
 use mathlib.Core.List.{List, [], _++_}
 use Prim.Native.Nat.{ℕ, _+_, _-_, _≤_}
 use lib.Dec.{eqb}
+use lib.IntN.{ℤ}
 use lib.ListN.{length, take}
-use Rattle.walks.specs.Records.{most, workFor, filled, Decoded, decoded, decodeRecord, Encoded, encodeRecord, refusalOf, bytesOf}
+use Rattle.layout.specs.Layout.{workFor}
+use Rattle.walks.specs.Records.{most, filled, Decoded, decoded, decodeRecord, RecordRead, Encoded, encodeRecord, refusalOf, bytesOf}
 use Rattle.walks.specs.Plain.{plain}
 use Rattle.walks.specs.Decide.{fitting}
 use Rattle.walks.specs.Needs.{needed}
@@ -26,6 +28,13 @@ module _ (l masks : List ℕ) (page : ℕ) (items text behind : List ℕ) (room 
   -- what reading gives, with the words of the item buffer and the bytes of the text buffer; after a refusal to write nothing is read
   unfoldable pub reading : ℕ → ℕ → Decoded
   reading itemRoom textRoom = cond accepted (decodeRecord l masks page stands itemRoom textRoom work) (decoded [] [])
+
+  -- All that the two calls leave: the numbers and lengths that they answer, and the buffers as they were lent and as they are left.
+  pub record RoundTrip (written bytes number words letters : ℕ) (r r′ back back′ said said′ : List ℕ) (counts counts′ : List ℤ) : Type 0 where
+    pub writes : written ≡ refusalOf writing
+    pub recordBytes : bytes ≡ length (bytesOf writing)
+    pub recordLeft : r′ ≡ filled (length r) stands
+    pub reads : RecordRead (reading (length back) (length said)) number words letters back back′ said said′ counts counts′
 
 -- "writing accepts, and reading the written record returns the same list"
 -- "The same list: as many items, all words equal, and as many bytes of packed text, all equal." `back` and `said` are the buffers read into.

@@ -6,10 +6,8 @@ use encode::encode_record;
 ghost use mathlib.Core.Path.{_≡_};
 ghost use mathlib.Core.List.{List, [], _++_};
 ghost use Prim.Native.Nat.{ℕ, _+_, _-_, _≤_, min};
-ghost use lib.IntN.{pos};
-ghost use lib.ListN.{length, take, drop, replicate};
-ghost use Rattle.walks.specs.Records.{numberOf, itemsOf, textsOf, refusalOf, bytesOf, filled};
-ghost use Rattle.roundtrip.specs.Same.{writing, stands, reading, Returns};
+ghost use lib.ListN.{length, take, drop};
+ghost use Rattle.roundtrip.specs.Same.{RoundTrip, Returns};
 
 // What writing and reading back answer: the number that refuses to write, or 0 with the record's length; then the number that refuses to read,
 // or 0 with the item words and the text bytes used. All are 0 behind a refusal.
@@ -67,16 +65,13 @@ pub fn round_trip(
     back: &mut [u64],
     said: &mut [u8],
 ) -> Trip
-    ensures { λ r. ⌜ r .written ≡ refusalOf (writing (now (layout .entry)) (now (masks .entry)) page (now (items .entry)) (now (text .entry)) (now (behind .entry)) (length (now («record» .entry))) (length (now (counts .entry)))) ⌝ }
-    ensures { λ r. ⌜ r .length ≡ length (bytesOf (writing (now (layout .entry)) (now (masks .entry)) page (now (items .entry)) (now (text .entry)) (now (behind .entry)) (length (now («record» .entry))) (length (now (counts .entry))))) ⌝ }
-    ensures { λ _. ⌜ now («record» .exit) ≡ filled (length (now («record» .entry))) (stands (now (layout .entry)) (now (masks .entry)) page (now (items .entry)) (now (text .entry)) (now (behind .entry)) (length (now («record» .entry))) (length (now (counts .entry)))) ⌝ }
-    ensures { λ r. ⌜ r .read ≡ numberOf (reading (now (layout .entry)) (now (masks .entry)) page (now (items .entry)) (now (text .entry)) (now (behind .entry)) (length (now («record» .entry))) (length (now (counts .entry))) (length (now (back .entry))) (length (now (said .entry)))) ⌝ }
-    ensures { λ r. ⌜ r .items ≡ length (itemsOf (reading (now (layout .entry)) (now (masks .entry)) page (now (items .entry)) (now (text .entry)) (now (behind .entry)) (length (now («record» .entry))) (length (now (counts .entry))) (length (now (back .entry))) (length (now (said .entry))))) ⌝ }
-    ensures { λ r. ⌜ r .text ≡ length (textsOf (reading (now (layout .entry)) (now (masks .entry)) page (now (items .entry)) (now (text .entry)) (now (behind .entry)) (length (now («record» .entry))) (length (now (counts .entry))) (length (now (back .entry))) (length (now (said .entry))))) ⌝ }
-    ensures { λ _. ⌜ now (back .exit) ≡ filled (length (now (back .entry))) (itemsOf (reading (now (layout .entry)) (now (masks .entry)) page (now (items .entry)) (now (text .entry)) (now (behind .entry)) (length (now («record» .entry))) (length (now (counts .entry))) (length (now (back .entry))) (length (now (said .entry))))) ⌝ }
-    ensures { λ _. ⌜ now (said .exit) ≡ filled (length (now (said .entry))) (textsOf (reading (now (layout .entry)) (now (masks .entry)) page (now (items .entry)) (now (text .entry)) (now (behind .entry)) (length (now («record» .entry))) (length (now (counts .entry))) (length (now (back .entry))) (length (now (said .entry))))) ⌝ }
-    ensures { λ _. ⌜ now (counts .exit) ≡ replicate (length (now (counts .entry))) (pos 0) ⌝ }
-    ensures { λ r. ⌜ Returns (now (layout .entry)) (now (masks .entry)) page (now (items .entry)) (now (text .entry)) (now (behind .entry)) (length (now («record» .entry))) (length (now (counts .entry))) r (now (back .exit)) (now (said .exit)) ⌝ }
+    ensures { λ r. ⌜
+        RoundTrip (now (layout .entry)) (now (masks .entry)) page (now (items .entry)) (now (text .entry)) (now (behind .entry)) (length (now («record» .entry))) (length (now (counts .entry)))
+        (r .written) (r .length) (r .read) (r .items) (r .text)
+        (now («record» .entry)) (now («record» .exit)) (now (back .entry)) (now (back .exit)) (now (said .entry)) (now (said .exit)) (now (counts .entry)) (now (counts .exit)) ⌝ }
+    ensures { λ r. ⌜
+        Returns (now (layout .entry)) (now (masks .entry)) page (now (items .entry)) (now (text .entry)) (now (behind .entry)) (length (now («record» .entry))) (length (now (counts .entry)))
+        r (now (back .exit)) (now (said .exit)) ⌝ }
 {
     let w = encode_record(layout, masks, page, items, text, record, counts);
     if w.number != 0 {

@@ -4,10 +4,10 @@ ghost use mathlib.Core.Bool.{cond, _&&_};
 ghost use lib.Dec.{leb};
 ghost use lib.IntN.{pos};
 ghost use lib.ListN.{length, replicate};
+ghost use Rattle.layout.specs.Layout.{workFor};
 ghost use Rattle.walks.specs.Plain.{plain};
 ghost use Rattle.walks.specs.Decide.{fitting};
-ghost use Rattle.walks.specs.Records.{workFor, numberOf, itemsOf, textsOf, refusalOf, bytesOf, filled};
-ghost use Rattle.roundtrip.specs.Same.{writing, stands, reading};
+ghost use Rattle.roundtrip.specs.Same.{RoundTrip};
 
 // 1 for a plain layout, else 0.
 #[no_mangle]
@@ -56,15 +56,10 @@ pub extern "C" fn trip_round(
     used: &mut u64,
     told: &mut u64,
 ) -> u32
-    ensures { λ r. ⌜ r ≡ refusalOf (writing (now (layout .entry)) (now (masks .entry)) page (now (items .entry)) (now (text .entry)) (now (behind .entry)) (length (now («record» .entry))) (length (now (counts .entry)))) ⌝ }
-    ensures { λ _. ⌜ now (size .exit) ≡ length (bytesOf (writing (now (layout .entry)) (now (masks .entry)) page (now (items .entry)) (now (text .entry)) (now (behind .entry)) (length (now («record» .entry))) (length (now (counts .entry))))) ⌝ }
-    ensures { λ _. ⌜ now («record» .exit) ≡ filled (length (now («record» .entry))) (stands (now (layout .entry)) (now (masks .entry)) page (now (items .entry)) (now (text .entry)) (now (behind .entry)) (length (now («record» .entry))) (length (now (counts .entry)))) ⌝ }
-    ensures { λ _. ⌜ now (read .exit) ≡ numberOf (reading (now (layout .entry)) (now (masks .entry)) page (now (items .entry)) (now (text .entry)) (now (behind .entry)) (length (now («record» .entry))) (length (now (counts .entry))) (length (now (back .entry))) (length (now (said .entry)))) ⌝ }
-    ensures { λ _. ⌜ now (used .exit) ≡ length (itemsOf (reading (now (layout .entry)) (now (masks .entry)) page (now (items .entry)) (now (text .entry)) (now (behind .entry)) (length (now («record» .entry))) (length (now (counts .entry))) (length (now (back .entry))) (length (now (said .entry))))) ⌝ }
-    ensures { λ _. ⌜ now (told .exit) ≡ length (textsOf (reading (now (layout .entry)) (now (masks .entry)) page (now (items .entry)) (now (text .entry)) (now (behind .entry)) (length (now («record» .entry))) (length (now (counts .entry))) (length (now (back .entry))) (length (now (said .entry))))) ⌝ }
-    ensures { λ _. ⌜ now (back .exit) ≡ filled (length (now (back .entry))) (itemsOf (reading (now (layout .entry)) (now (masks .entry)) page (now (items .entry)) (now (text .entry)) (now (behind .entry)) (length (now («record» .entry))) (length (now (counts .entry))) (length (now (back .entry))) (length (now (said .entry))))) ⌝ }
-    ensures { λ _. ⌜ now (said .exit) ≡ filled (length (now (said .entry))) (textsOf (reading (now (layout .entry)) (now (masks .entry)) page (now (items .entry)) (now (text .entry)) (now (behind .entry)) (length (now («record» .entry))) (length (now (counts .entry))) (length (now (back .entry))) (length (now (said .entry))))) ⌝ }
-    ensures { λ _. ⌜ now (counts .exit) ≡ replicate (length (now (counts .entry))) (pos 0) ⌝ }
+    ensures { λ r. ⌜
+        RoundTrip (now (layout .entry)) (now (masks .entry)) page (now (items .entry)) (now (text .entry)) (now (behind .entry)) (length (now («record» .entry))) (length (now (counts .entry)))
+        r (now (size .exit)) (now (read .exit)) (now (used .exit)) (now (told .exit))
+        (now («record» .entry)) (now («record» .exit)) (now (back .entry)) (now (back .exit)) (now (said .entry)) (now (said .exit)) (now (counts .entry)) (now (counts .exit)) ⌝ }
 {
     let r = roundtrip::round_trip(
         layout,

@@ -9,7 +9,8 @@ use lib.Seq.{take-at}
 use lib.Dec.{leb, eqb}
 use borrow.Author.Tests.{le-leb}
 use Rattle.layout.specs.declared.Entry.{Entry}
-use Rattle.layout.specs.Layout.{entries, recordLength, dependsIn}
+use Rattle.layout.proofs.Laws.{lawful-asked}
+use Rattle.layout.specs.Layout.{workFor, entries, recordLength, dependsIn}
 use Rattle.spans.specs.Tree.{Tree, none, node}
 use Rattle.items.specs.declared.Item.{Item}
 use Rattle.items.specs.Items.{Values, values, count, wellFormed, lookup}
@@ -19,7 +20,7 @@ use Rattle.walks.specs.Kinds.{State, start, held, kinds}
 use Rattle.walks.specs.Reading as R
 use Rattle.walks.specs.Writing as W
 use Rattle.walks.specs.Writing.{reach, apply}
-use Rattle.walks.specs.Records.{most, workFor, decodeRecord, decoded, found, supplied, encodeRecord, encoded}
+use Rattle.walks.specs.Records.{most, decodeRecord, decoded, found, supplied, encodeRecord, encoded}
 use Rattle.walks.specs.Plain.{plain}
 use Rattle.walks.specs.Fitting.{holder, sequence, Fits, done, pads, scalar, group, table, Fitting}
 use Rattle.walks.specs.Needs as N
@@ -117,8 +118,7 @@ module _ (l masks : List ℕ) (page : ℕ) (items text : List ℕ) (p : plain l 
   unfolding encodeRecord
   writes room work h k =
       rw (
-        plain-lawful l masks page p,
-        le-leb (workFor l) work k,
+        lawful-asked l masks page work (plain-lawful l masks page p) k,
         f .wellFormed,
         all-supplied masks text (f .fits),
         le-leb (recordLength l) (min room most) (omega (arith, size-needed)),
@@ -150,8 +150,7 @@ module _ (l masks : List ℕ) (page : ℕ) (items text : List ℕ) (p : plain l 
       let w : flat vs ≡ items = flat-values items (whole-count items (length text) (f .wellFormed)) in
       let lw : length (flat vs) ≡ length items = ap (λ (x : List ℕ). length x) w in
       rw (
-        plain-lawful l masks page p,
-        le-leb (workFor l) work k,
+        lawful-asked l masks page work (plain-lawful l masks page p) k,
         le-leb (length (record-bytes ++ more)) most (omega arith),
         le-leb (recordLength l) (length (record-bytes ++ more)) (omega (arith, bytes-are)),
         or-right (dependsIn l) true refl,

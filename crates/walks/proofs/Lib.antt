@@ -9,3 +9,4 @@ pub mod Demand3
 pub mod Decided
 pub mod NotEmpty
 pub mod Fakes
+pub mod Asked

@@ -4,7 +4,8 @@ use mathlib.Core.Bool.{true}
 use mathlib.Core.List.{List, _++_}
 use Prim.Native.Nat.{ℕ, _+_, _≤_}
 use lib.ListN.{length}
-use Rattle.walks.specs.Records.{most, workFor, decodeRecord, decoded, encodeRecord, encoded}
+use Rattle.layout.specs.Layout.{workFor}
+use Rattle.walks.specs.Records.{most, decodeRecord, decoded, encodeRecord, encoded}
 use Rattle.walks.specs.Plain.{plain}
 use Rattle.walks.specs.Fitting.{Fitting}
 use Rattle.walks.specs.Needs.{needed}

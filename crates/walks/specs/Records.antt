@@ -1,11 +1,13 @@
 -- The whole calls: the questions before the walk, in order, and what the output buffers hold.
+use mathlib.Core.Path.{_≡_}
 use mathlib.Core.Bool.{Bool, true, false, _&&_, _||_, not, cond}
 use mathlib.Core.List.{List, [], _∷_, _++_}
 use Prim.Native.Nat.{ℕ, _-_, _*_, _/_, min, max}
 use lib.Dec.{eqb, leb}
+use lib.IntN.{ℤ, pos}
 use lib.ListN.{length, replicate}
 use Rattle.layout.specs.declared.Entry.{Entry}
-use Rattle.layout.specs.Layout.{entryCount, entries, checkedOf, recordLength, dependsIn}
+use Rattle.layout.specs.Layout.{entries, layoutAsks, recordLength, dependsIn}
 use Rattle.spans.specs.Tree.{Tree, none, node}
 use Rattle.items.specs.Items.{Values, values, wellFormed, lookup}
 use Rattle.walks.specs.Walk.{isPad}
@@ -17,9 +19,9 @@ use Rattle.walks.specs.Writing as W
 abbrev pub most : ℕ
 most = 65536
 
--- "work space of two 64-bit words an entry"
-abbrev pub workFor : List ℕ → ℕ
-workFor l = entryCount l * 2
+-- the refusal of a question by its number, or what stands behind it where the number is 0
+abbrev pub asking : {A : Type 0} → (ℕ → A) → ℕ → A → A
+asking refuse n behind = cond (eqb n 0) behind (refuse n)
 
 -- what the lent buffers hold behind what a call gives: "unused output is zero"
 abbrev pub filled : ℕ → List ℕ → List ℕ
@@ -33,8 +35,8 @@ pub data Decoded : Type 0 where
   decoded : List ℕ → List ℕ → Decoded
 
 -- "record at most 65,536 bytes and long enough? 4." The record length "binds the reader only in layouts without depending"
-abbrev pub longEnough : List ℕ → List ℕ → Bool
-longEnough l r = leb (length r) most && (dependsIn l || leb (recordLength l) (length r))
+abbrev pub recordAsks : List ℕ → ℕ → Bool → ℕ
+recordAsks l bytes deps = cond (leb bytes most && (deps || leb (recordLength l) bytes)) 0 4
 
 abbrev pub outcome : R.Outcome State → Decoded
 outcome (R.refused n) = refused n
@@ -43,11 +45,9 @@ outcome (R.read ws m t s) = decoded ws (s .text)
 -- the layout, its masks and its page, the record; the words of the item buffer, the bytes of the text buffer, the words of the work space
 unfoldable pub decodeRecord : List ℕ → List ℕ → ℕ → List ℕ → ℕ → ℕ → ℕ → Decoded
 decodeRecord l masks page r items text work =
-    cond (eqb (checkedOf l masks page) 0)
-    (cond (leb (workFor l) work)
-    (cond (longEnough l r)
-    (outcome (R.seq (kinds masks page [] text) r (entries l) 0 0 items start))
-    (refused 4)) (refused 16)) (refused (checkedOf l masks page))
+    asking refused (layoutAsks l masks page work)
+    (asking refused (recordAsks l (length r) (dependsIn l))
+    (outcome (R.seq (kinds masks page [] text) r (entries l) 0 0 items start)))
 
 abbrev pub numberOf : Decoded → ℕ
 numberOf (refused n) = n
@@ -60,6 +60,20 @@ itemsOf (decoded ws t) = ws
 abbrev pub textsOf : Decoded → List ℕ
 textsOf (refused n) = []
 textsOf (decoded ws t) = t
+
+-- the outcome by the lent buffers themselves
+abbrev pub readInto : List ℕ → List ℕ → ℕ → List ℕ → List ℕ → List ℕ → List ℤ → Decoded
+readInto l masks page r items text counts = decodeRecord l masks page r (length items) (length text) (length counts)
+
+-- All that a call of the reader leaves: its number, how many item words and text bytes there are, the buffers as they were lent and as they are left, and the
+-- work space. "A call that refuses returns its number and length 0; all output buffers hold zeros. After success unused output is zero. Work space ends as zeros."
+pub record RecordRead (d : Decoded) (number words bytes : ℕ) (items items′ text text′ : List ℕ) (counts counts′ : List ℤ) : Type 0 where
+  pub numbered : number ≡ numberOf d
+  pub itemWords : words ≡ length (itemsOf d)
+  pub textBytes : bytes ≡ length (textsOf d)
+  pub itemsLeft : items′ ≡ filled (length items) (itemsOf d)
+  pub textLeft : text′ ≡ filled (length text) (textsOf d)
+  pub countsLeft : counts′ ≡ replicate (length counts) (pos 0)
 
 -- ---- the writer
 
@@ -82,16 +96,19 @@ abbrev pub finish : ℕ → W.Wrote → Encoded
 finish least (W.refused n) = refused n
 finish least (W.wrote ps t) = encoded (W.apply ps (replicate (max least (W.reach ps)) 0))
 
+-- "list well formed? 11. Every top-level name but Pads supplied? 12. Record length within the buffer and 65,536? 16."
+abbrev pub listAsks : List ℕ → List ℕ → List ℕ → ℕ → ℕ
+listAsks l items text room =
+    cond (wellFormed items (length text))
+    (cond (supplied (entries l) (values items 0 (length items / 4)))
+    (cond (leb (recordLength l) (min room most)) 0 16) 12) 11
+
 -- the layout, its masks and its page, the value list and its texts; the bytes of the record buffer, the words of the work space
 unfoldable pub encodeRecord : List ℕ → List ℕ → ℕ → List ℕ → List ℕ → ℕ → ℕ → Encoded
 encodeRecord l masks page items text room work =
-    cond (eqb (checkedOf l masks page) 0)
-    (cond (leb (workFor l) work)
-    (cond (wellFormed items (length text))
-    (cond (supplied (entries l) (values items 0 (length items / 4)))
-    (cond (leb (recordLength l) (min room most))
-    (finish (recordLength l) (W.seq (kinds masks page text 0) (min room most) (entries l) (values items 0 (length items / 4)) 0 0))
-    (refused 16)) (refused 12)) (refused 11)) (refused 16)) (refused (checkedOf l masks page))
+    asking refused (layoutAsks l masks page work)
+    (asking refused (listAsks l items text room)
+    (finish (recordLength l) (W.seq (kinds masks page text 0) (min room most) (entries l) (values items 0 (length items / 4)) 0 0)))
 
 abbrev pub refusalOf : Encoded → ℕ
 refusalOf (refused n) = n
@@ -100,3 +117,13 @@ refusalOf (encoded bs) = 0
 abbrev pub bytesOf : Encoded → List ℕ
 bytesOf (refused n) = []
 bytesOf (encoded bs) = bs
+
+abbrev pub writtenInto : List ℕ → List ℕ → ℕ → List ℕ → List ℕ → List ℕ → List ℤ → Encoded
+writtenInto l masks page items text r counts = encodeRecord l masks page items text (length r) (length counts)
+
+-- All that a call of the writer leaves, in the same way: its number, the record's length, the record buffer and the work space.
+pub record RecordWritten (e : Encoded) (number bytes : ℕ) (r r′ : List ℕ) (counts counts′ : List ℤ) : Type 0 where
+  pub numbered : number ≡ refusalOf e
+  pub recordBytes : bytes ≡ length (bytesOf e)
+  pub recordLeft : r′ ≡ filled (length r) (bytesOf e)
+  pub countsLeft : counts′ ≡ replicate (length counts) (pos 0)

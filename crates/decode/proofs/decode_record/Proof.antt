@@ -41,9 +41,7 @@ returns c =
     let at-clear-counts = c .before .before .before .before .before .before .before .before .before .clear-counts in
     let at-clear-items = c .before .before .before .before .before .before .clear-items in
     let at-clear-text = c .before .before .clear-text in
-    refused-all (Whole (at-args .layout .now) (at-args .masks .now) (at-args .page) (at-args .«record» .now) (length (at-args .items .now)) (length (at-args .text .now)) (length (at-args .counts .now)) (at-has-depending-on .result) (at-has-depending-on .ensures)) (length (at-args .items .now)) (length
-    (at-args .text .now)) (length (at-args .counts .now)) (at-asked .result) (not-asked (at-args .layout .now) (at-args .masks .now) (at-args .page) (at-args .«record» .now) (length (at-args .items .now)) (length (at-args .text .now)) (length (at-args .counts .now)) (at-has-depending-on .result)
-    (at-has-depending-on .ensures) (at-asked .result) (at-asked .ensures) (at-if1 .taken)) (at-args .items .now) (at-args .text .now) refl refl (at-clear-items .ensures) (at-clear-text .ensures) (at-clear-counts .ensures)
+    refused-all (Whole (at-args .layout .now) (at-args .masks .now) (at-args .page) (at-args .«record» .now) (length (at-args .items .now)) (length (at-args .text .now)) (length (at-args .counts .now)) (at-has-depending-on .result) (at-has-depending-on .ensures)) (at-args .items .now) (at-args .text .now) (at-args .counts .now) (at-asked .result) (not-asked (at-args .layout .now) (at-args .masks .now) (at-args .page) (at-args .«record» .now) (length (at-args .items .now)) (length (at-args .text .now)) (length (at-args .counts .now)) (at-has-depending-on .result) (at-has-depending-on .ensures) (at-asked .result) (at-asked .ensures) (at-if1 .taken)) (at-args .items .now) (at-args .text .now) refl refl (at-clear-items .ensures) (at-clear-text .ensures) (at-clear-counts .ensures)
 
 start-counts-requires : tie.Need-start-counts-requires
 start-counts-requires c κs = search needs
@@ -91,10 +89,7 @@ returns-2 c =
     let at-if2 = c .before .before .before .before .before .before .before .before .if2 in
     let at-clear-items2 = c .before .before .before .before .before .before .clear-items2 in
     let at-clear-text2 = c .before .before .clear-text2 in
-    refused-all (Whole (at-args .layout .now) (at-args .masks .now) (at-args .page) (at-args .«record» .now) (length (at-args .items .now)) (length (at-args .text .now)) (length (at-args .counts .now)) (at-has-depending-on .result) (at-has-depending-on .ensures)) (length (at-args .items .now)) (length
-    (at-args .text .now)) (length (at-args .counts .now)) (at-decode-seq .result .refused) (walk-refused (at-args .layout .now) (at-args .masks .now) (at-args .page) (at-args .«record» .now) (length (at-args .items .now)) (length (at-args .text .now)) (length (at-args .counts .now)) (at-has-depending-on .result)
-    (at-has-depending-on .ensures) (at-asked .result) (at-asked .ensures) (at-if1 .left) _ (at-args .counts .now) (at-start-counts .ensures) _ (at-decode-seq .ensures .refuses (at-if2 .taken) .0)) (at-decode-seq .last .1 .1 .0) (at-decode-seq .last .1 .1 .1 .0) (at-decode-seq .kept .1 .1 .0)
-    (at-decode-seq .kept .1 .1 .1 .0) (at-clear-items2 .ensures) (at-clear-text2 .ensures) (at-clear-counts2 .ensures ∙ ap (λ n. replicate n (pos 0)) ((at-decode-seq .kept .1 .1 .1 .1 .0) ∙ at-start-counts .kept .0))
+    refused-all (Whole (at-args .layout .now) (at-args .masks .now) (at-args .page) (at-args .«record» .now) (length (at-args .items .now)) (length (at-args .text .now)) (length (at-args .counts .now)) (at-has-depending-on .result) (at-has-depending-on .ensures)) (at-args .items .now) (at-args .text .now) (at-args .counts .now) (at-decode-seq .result .refused) (walk-refused (at-args .layout .now) (at-args .masks .now) (at-args .page) (at-args .«record» .now) (length (at-args .items .now)) (length (at-args .text .now)) (length (at-args .counts .now)) (at-has-depending-on .result) (at-has-depending-on .ensures) (at-asked .result) (at-asked .ensures) (at-if1 .left) _ _ (at-start-counts .ensures) _ (at-decode-seq .ensures .refuses (at-if2 .taken) .0)) (at-decode-seq .last .1 .1 .0) (at-decode-seq .last .1 .1 .1 .0) (at-decode-seq .kept .1 .1 .0) (at-decode-seq .kept .1 .1 .1 .0) (at-clear-items2 .ensures) (at-clear-text2 .ensures) (at-clear-counts2 .ensures ∙ ap (λ n. replicate n (pos 0)) ((at-decode-seq .kept .1 .1 .1 .1 .0) ∙ at-start-counts .kept .0))
 
 clear-items-requires-3 : tie.Need-clear-items-requires-3
 clear-items-requires-3 c κs = search needs
@@ -133,10 +128,7 @@ returns-3 c =
     let at-if2 = c .before .before .before .before .before .before .before .before .if2 in
     let at-clear-items3 = c .before .before .before .before .before .before .clear-items3 in
     let at-clear-text3 = c .before .before .clear-text3 in
-    read-all (Whole (at-args .layout .now) (at-args .masks .now) (at-args .page) (at-args .«record» .now) (length (at-args .items .now)) (length (at-args .text .now)) (length (at-args .counts .now)) (at-has-depending-on .result) (at-has-depending-on .ensures)) (length (at-args .items .now)) (length
-    (at-args .text .now)) (length (at-args .counts .now)) (at-decode-seq .last .1 .1 .0) (at-decode-seq .last .1 .1 .1 .0) (at-decode-seq .result .used) (at-decode-seq .result .told) (walk-read (at-args .layout .now) (at-args .masks .now) (at-args .page) (at-args .«record» .now) (length (at-args .items .now))
-    (length (at-args .text .now)) (length (at-args .counts .now)) (at-has-depending-on .result) (at-has-depending-on .ensures) (at-asked .result) (at-asked .ensures) (at-if1 .left) _ (at-args .counts .now) (at-start-counts .ensures) _ _ _ _ (at-decode-seq .ensures .fine (at-if2 .left) .is))
-    (at-decode-seq .ensures .fine (at-if2 .left) .within) (at-decode-seq .ensures .fine (at-if2 .left) .told) (at-decode-seq .kept .1 .1 .0) (at-decode-seq .kept .1 .1 .1 .0) (at-clear-items3 .ensures) (at-clear-text3 .ensures) (at-clear-counts2 .ensures ∙ ap (λ n. replicate n (pos 0)) ((at-decode-seq .kept .1 .1 .1 .1 .0) ∙ at-start-counts .kept .0))
+    read-all (Whole (at-args .layout .now) (at-args .masks .now) (at-args .page) (at-args .«record» .now) (length (at-args .items .now)) (length (at-args .text .now)) (length (at-args .counts .now)) (at-has-depending-on .result) (at-has-depending-on .ensures)) (at-args .items .now) (at-args .text .now) (at-args .counts .now) (at-decode-seq .last .1 .1 .0) (at-decode-seq .last .1 .1 .1 .0) (at-decode-seq .result .used) (at-decode-seq .result .told) (walk-read (at-args .layout .now) (at-args .masks .now) (at-args .page) (at-args .«record» .now) (length (at-args .items .now)) (length (at-args .text .now)) (length (at-args .counts .now)) (at-has-depending-on .result) (at-has-depending-on .ensures) (at-asked .result) (at-asked .ensures) (at-if1 .left) _ _ (at-start-counts .ensures) _ _ _ _ (at-decode-seq .ensures .fine (at-if2 .left) .is)) (at-decode-seq .ensures .fine (at-if2 .left) .within) (at-decode-seq .ensures .fine (at-if2 .left) .told) (at-decode-seq .kept .1 .1 .0) (at-decode-seq .kept .1 .1 .1 .0) (at-clear-items3 .ensures) (at-clear-text3 .ensures) (at-clear-counts2 .ensures ∙ ap (λ n. replicate n (pos 0)) ((at-decode-seq .kept .1 .1 .1 .1 .0) ∙ at-start-counts .kept .0))
 
 pub decode-record-spec : {M : Type 1} → statement M
 decode-record-spec =

@@ -31,16 +31,33 @@ same-length-4 : tie.Need-same-length-4
 same-length-4 c = search needs
 
 returns : tie.Need-returns
-returns c = refused-all (c .before .before .before .before .before .before .before .before .before .before .before .before .before .before .before .before .before .before .before .before .before .before .before .before .args .layout .now) (c .before .before .before .before .before .before .before .before .before .before .before .before .before .before .before .before .before .before .before .before .before .before .before .before .args .masks .now) (c .before .before .before .before .before .before .before .before .before .before .before .before .before .before .before .before .before .before .before .before .before .before .before .before .args .page) (c .before .before .before .before .before .before .before .before .before .before .before .before .before .before .before .before .before .before .before .before .before .before .before .before .args .items .now) (c .before .before .before .before .before .before .before .before .before .before .before .before .before .before .before .before .before .before .before .before .before .before .before .before .args .text .now) (c .before .before .before .before .before .before .before .before .before .before .before .before .before .before .before .before .before .before .before .before .before .before .before .before .args .behind .now) (length (c .before .before .before .before .before .before .before .before .before .before .before .before .before .before .before .before .before .before .before .before .before .before .before .before .args .«record» .now)) (length (c .before .before .before .before .before .before .before .before .before .before .before .before .before .before .before .before .before .before .before .before .before .before .before .before .args .counts .now)) (length (c .before .before .before .before .before .before .before .before .before .before .before .before .before .before .before .before .before .before .before .before .before .before .before .before .args .back .now)) (length (c .before .before .before .before .before .before .before .before .before .before .before .before .before .before .before .before .before .before .before .before .before .before .before .before .args .said .now)) (c .before .before .before .before .before .before .before .before .before .before .before .before .before .encode-record .result .number) (c .before .before .before .before .before .before .before .before .before .before .before .before .before .encode-record .ensures .0) (c .before .before .before .before .before .before .before .before .before .before .before .before .before .encode-record .ensures .1 .1 .0) (c .before .before .before .before .before .before .before .before .before .before .before .before .before .encode-record .ensures .1 .1 .1) (c .before .before .before .before .before .before .before .before .if1 .taken) (c .before .before .before .before .before .before .before .before .before .before .before .before .before .before .before .before .before .before .before .before .before .before .before .before .args .back .now) (c .before .before .before .before .before .before .before .before .before .before .before .before .before .before .before .before .before .before .before .before .before .before .before .before .args .said .now) refl refl (c .before .before .before .before .before .before .clear-items .ensures) (c .before .before .clear-text .ensures)
+returns c =
+    let at-args = c .before .before .before .before .before .before .before .before .before .before .before .before .before .before .before .before .before .before .before .before .before .before .before .before .args in
+    let at-encode-record = c .before .before .before .before .before .before .before .before .before .before .before .before .before .encode-record in
+    let at-if1 = c .before .before .before .before .before .before .before .before .if1 in
+    let at-clear-items = c .before .before .before .before .before .before .clear-items in
+    let at-clear-text = c .before .before .clear-text in
+    refused-all (at-args .layout .now) (at-args .masks .now) (at-args .page) (at-args .items .now) (at-args .text .now) (at-args .behind .now) (length (at-args .«record» .now)) (length (at-args .counts .now)) (at-args .«record» .now) (at-args .back .now) (at-args .said .now) (at-args .counts .now) refl refl _ _ (at-encode-record .ensures) (at-if1 .taken) (at-clear-items .ensures) (at-clear-text .ensures)
 
 put-behind-requires : tie.Need-put-behind-requires
-put-behind-requires c κs = at-room (length (c .before .before .before .before .before .before .before .before .before .before .before .before .before .before .before .before .before .args .«record» .now)) (bytesOf (E (c .before .before .before .before .before .before .before .before .before .before .before .before .before .before .before .before .before .args .layout .now) (c .before .before .before .before .before .before .before .before .before .before .before .before .before .before .before .before .before .args .masks .now) (c .before .before .before .before .before .before .before .before .before .before .before .before .before .before .before .before .before .args .page) (c .before .before .before .before .before .before .before .before .before .before .before .before .before .before .before .before .before .args .items .now) (c .before .before .before .before .before .before .before .before .before .before .before .before .before .before .before .before .before .args .text .now) (c .before .before .before .before .before .before .before .before .before .before .before .before .before .before .before .before .before .args .behind .now) (length (c .before .before .before .before .before .before .before .before .before .before .before .before .before .before .before .before .before .args .«record» .now)) (length (c .before .before .before .before .before .before .before .before .before .before .before .before .before .before .before .before .before .args .counts .now)))) (c .before .before .before .before .before .before .before .before .before .before .before .before .before .before .before .before .before .args .behind .now) _ _ _ (c .before .before .before .before .before .before .encode-record .ensures .1 .1 .0) (c .before .before .before .before .before .before .encode-record .kept .1 .1 .1 .1 .1 .0) (c .before .before .before .before .before .before .encode-record .ensures .1 .0) refl
+put-behind-requires c κs =
+    let at-args = c .before .before .before .before .before .before .before .before .before .before .before .before .before .before .before .before .before .args in
+    let at-encode-record = c .before .before .before .before .before .before .encode-record in
+    at-room (length (at-args .«record» .now)) (bytesOf (E (at-args .layout .now) (at-args .masks .now) (at-args .page) (at-args .items .now) (at-args .text .now) (at-args .behind .now) (length (at-args .«record» .now)) (length (at-args .counts .now)))) (at-args .behind .now) _ _ _ (at-encode-record .ensures .recordLeft) (at-encode-record .kept .1 .1 .1 .1 .1 .0) (at-encode-record .ensures .recordBytes) refl
 
 slice-reshare-prefix-decode-record : tie.Need-slice-reshare-prefix-decode-record
-slice-reshare-prefix-decode-record c = subst (λ n. c .before .before .put-behind .result ≤ n) (sym (c .before .before .put-behind .kept .0)) (end-room (length (c .before .before .before .before .before .before .before .before .before .before .before .before .before .before .before .before .before .before .before .before .args .«record» .now)) (bytesOf (E (c .before .before .before .before .before .before .before .before .before .before .before .before .before .before .before .before .before .before .before .before .args .layout .now) (c .before .before .before .before .before .before .before .before .before .before .before .before .before .before .before .before .before .before .before .before .args .masks .now) (c .before .before .before .before .before .before .before .before .before .before .before .before .before .before .before .before .before .before .before .before .args .page) (c .before .before .before .before .before .before .before .before .before .before .before .before .before .before .before .before .before .before .before .before .args .items .now) (c .before .before .before .before .before .before .before .before .before .before .before .before .before .before .before .before .before .before .before .before .args .text .now) (c .before .before .before .before .before .before .before .before .before .before .before .before .before .before .before .before .before .before .before .before .args .behind .now) (length (c .before .before .before .before .before .before .before .before .before .before .before .before .before .before .before .before .before .before .before .before .args .«record» .now)) (length (c .before .before .before .before .before .before .before .before .before .before .before .before .before .before .before .before .before .before .before .before .args .counts .now)))) (c .before .before .before .before .before .before .before .before .before .before .before .before .before .before .before .before .before .before .before .before .args .behind .now) _ _ _ (c .before .before .before .before .before .before .before .before .before .encode-record .ensures .1 .1 .0) (c .before .before .before .before .before .before .before .before .before .encode-record .kept .1 .1 .1 .1 .1 .0) (c .before .before .before .before .before .before .before .before .before .encode-record .ensures .1 .0) (c .before .before .put-behind .ensures .0))
+slice-reshare-prefix-decode-record c =
+    let at-args = c .before .before .before .before .before .before .before .before .before .before .before .before .before .before .before .before .before .before .before .before .args in
+    let at-encode-record = c .before .before .before .before .before .before .before .before .before .encode-record in
+    let at-put-behind = c .before .before .put-behind in
+    subst (λ n. at-put-behind .result ≤ n) (sym (at-put-behind .kept .0)) (end-room (length (at-args .«record» .now)) (bytesOf (E (at-args .layout .now) (at-args .masks .now) (at-args .page) (at-args .items .now) (at-args .text .now) (at-args .behind .now) (length (at-args .«record» .now)) (length (at-args .counts .now)))) (at-args .behind .now) _ _ _ (at-encode-record .ensures .recordLeft) (at-encode-record .kept .1 .1 .1 .1 .1 .0) (at-encode-record .ensures .recordBytes) (at-put-behind .ensures .0))
 
 slice-aggregate-decode-record : tie.Need-slice-aggregate-decode-record
-slice-aggregate-decode-record c = sym (length-take-le _ _ (subst (λ n. c .before .before .before .put-behind .result ≤ n) (sym (c .before .before .before .put-behind .kept .0)) (end-room (length (c .before .before .before .before .before .before .before .before .before .before .before .before .before .before .before .before .before .before .before .before .before .args .«record» .now)) (bytesOf (E (c .before .before .before .before .before .before .before .before .before .before .before .before .before .before .before .before .before .before .before .before .before .args .layout .now) (c .before .before .before .before .before .before .before .before .before .before .before .before .before .before .before .before .before .before .before .before .before .args .masks .now) (c .before .before .before .before .before .before .before .before .before .before .before .before .before .before .before .before .before .before .before .before .before .args .page) (c .before .before .before .before .before .before .before .before .before .before .before .before .before .before .before .before .before .before .before .before .before .args .items .now) (c .before .before .before .before .before .before .before .before .before .before .before .before .before .before .before .before .before .before .before .before .before .args .text .now) (c .before .before .before .before .before .before .before .before .before .before .before .before .before .before .before .before .before .before .before .before .before .args .behind .now) (length (c .before .before .before .before .before .before .before .before .before .before .before .before .before .before .before .before .before .before .before .before .before .args .«record» .now)) (length (c .before .before .before .before .before .before .before .before .before .before .before .before .before .before .before .before .before .before .before .before .before .args .counts .now)))) (c .before .before .before .before .before .before .before .before .before .before .before .before .before .before .before .before .before .before .before .before .before .args .behind .now) _ _ _ (c .before .before .before .before .before .before .before .before .before .before .encode-record .ensures .1 .1 .0) (c .before .before .before .before .before .before .before .before .before .before .encode-record .kept .1 .1 .1 .1 .1 .0) (c .before .before .before .before .before .before .before .before .before .before .encode-record .ensures .1 .0) (c .before .before .before .put-behind .ensures .0))))
+slice-aggregate-decode-record c =
+    let at-args = c .before .before .before .before .before .before .before .before .before .before .before .before .before .before .before .before .before .before .before .before .before .args in
+    let at-encode-record = c .before .before .before .before .before .before .before .before .before .before .encode-record in
+    let at-put-behind = c .before .before .before .put-behind in
+    sym (length-take-le _ _ (subst (λ n. at-put-behind .result ≤ n) (sym (at-put-behind .kept .0)) (end-room (length (at-args .«record» .now)) (bytesOf (E (at-args .layout .now) (at-args .masks .now) (at-args .page) (at-args .items .now) (at-args .text .now) (at-args .behind .now) (length (at-args .«record» .now)) (length (at-args .counts .now)))) (at-args .behind .now) _ _ _ (at-encode-record .ensures .recordLeft) (at-encode-record .kept .1 .1 .1 .1 .1 .0) (at-encode-record .ensures .recordBytes) (at-put-behind .ensures .0))))
 
 decode-record-requires : tie.Need-decode-record-requires
 decode-record-requires c κs = search needs
@@ -58,7 +75,13 @@ same-length-8 : tie.Need-same-length-8
 same-length-8 c = search needs
 
 returns-2 : tie.Need-returns-2
-returns-2 c = read-all (c .before .before .before .before .before .before .before .before .before .before .before .before .before .before .before .before .before .before .before .before .before .before .before .before .before .before .before .before .before .before .args .layout .now) (c .before .before .before .before .before .before .before .before .before .before .before .before .before .before .before .before .before .before .before .before .before .before .before .before .before .before .before .before .before .before .args .masks .now) (c .before .before .before .before .before .before .before .before .before .before .before .before .before .before .before .before .before .before .before .before .before .before .before .before .before .before .before .before .before .before .args .page) (c .before .before .before .before .before .before .before .before .before .before .before .before .before .before .before .before .before .before .before .before .before .before .before .before .before .before .before .before .before .before .args .items .now) (c .before .before .before .before .before .before .before .before .before .before .before .before .before .before .before .before .before .before .before .before .before .before .before .before .before .before .before .before .before .before .args .text .now) (c .before .before .before .before .before .before .before .before .before .before .before .before .before .before .before .before .before .before .before .before .before .before .before .before .before .before .before .before .before .before .args .behind .now) (length (c .before .before .before .before .before .before .before .before .before .before .before .before .before .before .before .before .before .before .before .before .before .before .before .before .before .before .before .before .before .before .args .«record» .now)) (length (c .before .before .before .before .before .before .before .before .before .before .before .before .before .before .before .before .before .before .before .before .before .before .before .before .before .before .before .before .before .before .args .counts .now)) (length (c .before .before .before .before .before .before .before .before .before .before .before .before .before .before .before .before .before .before .before .before .before .before .before .before .before .before .before .before .before .before .args .back .now)) (length (c .before .before .before .before .before .before .before .before .before .before .before .before .before .before .before .before .before .before .before .before .before .before .before .before .before .before .before .before .before .before .args .said .now)) (c .before .before .before .before .before .before .before .before .before .before .before .before .before .before .before .before .before .before .before .encode-record .result .number) _ _ _ _ (c .before .before .before .before .before .before .before .before .before .before .before .before .before .before .before .before .before .before .before .encode-record .ensures .0) (c .before .before .before .before .before .before .before .before .before .before .before .before .before .before .if1 .left) (c .before .before .before .before .before .before .before .before .before .before .before .before .before .before .before .before .before .before .before .encode-record .ensures .1 .0) (c .before .before .before .before .before .before .before .before .before .before .before .before .put-behind .ensures .1 ∙ stood (length (c .before .before .before .before .before .before .before .before .before .before .before .before .before .before .before .before .before .before .before .before .before .before .before .before .before .before .before .before .before .before .args .«record» .now)) (bytesOf (E (c .before .before .before .before .before .before .before .before .before .before .before .before .before .before .before .before .before .before .before .before .before .before .before .before .before .before .before .before .before .before .args .layout .now) (c .before .before .before .before .before .before .before .before .before .before .before .before .before .before .before .before .before .before .before .before .before .before .before .before .before .before .before .before .before .before .args .masks .now) (c .before .before .before .before .before .before .before .before .before .before .before .before .before .before .before .before .before .before .before .before .before .before .before .before .before .before .before .before .before .before .args .page) (c .before .before .before .before .before .before .before .before .before .before .before .before .before .before .before .before .before .before .before .before .before .before .before .before .before .before .before .before .before .before .args .items .now) (c .before .before .before .before .before .before .before .before .before .before .before .before .before .before .before .before .before .before .before .before .before .before .before .before .before .before .before .before .before .before .args .text .now) (c .before .before .before .before .before .before .before .before .before .before .before .before .before .before .before .before .before .before .before .before .before .before .before .before .before .before .before .before .before .before .args .behind .now) (length (c .before .before .before .before .before .before .before .before .before .before .before .before .before .before .before .before .before .before .before .before .before .before .before .before .before .before .before .before .before .before .args .«record» .now)) (length (c .before .before .before .before .before .before .before .before .before .before .before .before .before .before .before .before .before .before .before .before .before .before .before .before .before .before .before .before .before .before .args .counts .now)))) (c .before .before .before .before .before .before .before .before .before .before .before .before .before .before .before .before .before .before .before .before .before .before .before .before .before .before .before .before .before .before .args .behind .now) _ _ _ (c .before .before .before .before .before .before .before .before .before .before .before .before .before .before .before .before .before .before .before .encode-record .ensures .1 .1 .0) (c .before .before .before .before .before .before .before .before .before .before .before .before .before .before .before .before .before .before .before .encode-record .kept .1 .1 .1 .1 .1 .0) (c .before .before .before .before .before .before .before .before .before .before .before .before .before .before .before .before .before .before .before .encode-record .ensures .1 .0) (c .before .before .before .before .before .before .before .before .before .before .before .before .put-behind .ensures .0)) _ (front (length (c .before .before .before .before .before .before .before .before .before .before .before .before .before .before .before .before .before .before .before .before .before .before .before .before .before .before .before .before .before .before .args .«record» .now)) (bytesOf (E (c .before .before .before .before .before .before .before .before .before .before .before .before .before .before .before .before .before .before .before .before .before .before .before .before .before .before .before .before .before .before .args .layout .now) (c .before .before .before .before .before .before .before .before .before .before .before .before .before .before .before .before .before .before .before .before .before .before .before .before .before .before .before .before .before .before .args .masks .now) (c .before .before .before .before .before .before .before .before .before .before .before .before .before .before .before .before .before .before .before .before .before .before .before .before .before .before .before .before .before .before .args .page) (c .before .before .before .before .before .before .before .before .before .before .before .before .before .before .before .before .before .before .before .before .before .before .before .before .before .before .before .before .before .before .args .items .now) (c .before .before .before .before .before .before .before .before .before .before .before .before .before .before .before .before .before .before .before .before .before .before .before .before .before .before .before .before .before .before .args .text .now) (c .before .before .before .before .before .before .before .before .before .before .before .before .before .before .before .before .before .before .before .before .before .before .before .before .before .before .before .before .before .before .args .behind .now) (length (c .before .before .before .before .before .before .before .before .before .before .before .before .before .before .before .before .before .before .before .before .before .before .before .before .before .before .before .before .before .before .args .«record» .now)) (length (c .before .before .before .before .before .before .before .before .before .before .before .before .before .before .before .before .before .before .before .before .before .before .before .before .before .before .before .before .before .before .args .counts .now)))) (c .before .before .before .before .before .before .before .before .before .before .before .before .before .before .before .before .before .before .before .before .before .before .before .before .before .before .before .before .before .before .args .behind .now) _ _ _ (c .before .before .before .before .before .before .before .before .before .before .before .before .before .before .before .before .before .before .before .encode-record .ensures .1 .1 .0) (c .before .before .before .before .before .before .before .before .before .before .before .before .before .before .before .before .before .before .before .encode-record .kept .1 .1 .1 .1 .1 .0) (c .before .before .before .before .before .before .before .before .before .before .before .before .before .before .before .before .before .before .before .encode-record .ensures .1 .0) (c .before .before .before .before .before .before .before .before .before .before .before .before .put-behind .ensures .0) _ (c .before .before .before .before .before .before .before .before .before .before .before .before .put-behind .ensures .1)) _ (c .before .before .before .before .before .before .before .before .before .before .before .before .before .before .before .before .before .before .before .encode-record .kept .1 .1 .1 .1 .1 .1 .0) (c .before .before .before .before .before .decode-record .ensures .0) (c .before .before .before .before .before .decode-record .ensures .1 .0) (c .before .before .before .before .before .decode-record .ensures .1 .1 .0) (c .before .before .before .before .before .decode-record .ensures .1 .1 .1 .0) (c .before .before .before .before .before .decode-record .ensures .1 .1 .1 .1 .0) (c .before .before .before .before .before .decode-record .ensures .1 .1 .1 .1 .1) (c .before .before .before .before .before .decode-record .kept .1 .1 .1 .1 .0) (c .before .before .before .before .before .decode-record .kept .1 .1 .1 .1 .1 .0)
+returns-2 c =
+    let at-args = c .before .before .before .before .before .before .before .before .before .before .before .before .before .before .before .before .before .before .before .before .before .before .before .before .before .before .before .before .before .before .args in
+    let at-encode-record = c .before .before .before .before .before .before .before .before .before .before .before .before .before .before .before .before .before .before .before .encode-record in
+    let at-if1 = c .before .before .before .before .before .before .before .before .before .before .before .before .before .before .if1 in
+    let at-put-behind = c .before .before .before .before .before .before .before .before .before .before .before .before .put-behind in
+    let at-decode-record = c .before .before .before .before .before .decode-record in
+    read-all (at-args .layout .now) (at-args .masks .now) (at-args .page) (at-args .items .now) (at-args .text .now) (at-args .behind .now) (length (at-args .«record» .now)) (length (at-args .counts .now)) (at-args .«record» .now) (at-args .back .now) (at-args .said .now) (at-args .counts .now) refl refl _ _ _ _ _ (at-encode-record .ensures) (at-if1 .left) (at-encode-record .kept .1 .1 .1 .1 .1 .1 .0) (at-put-behind .ensures .1 ∙ stood (length (at-args .«record» .now)) (bytesOf (E (at-args .layout .now) (at-args .masks .now) (at-args .page) (at-args .items .now) (at-args .text .now) (at-args .behind .now) (length (at-args .«record» .now)) (length (at-args .counts .now)))) (at-args .behind .now) _ _ _ (at-encode-record .ensures .recordLeft) (at-encode-record .kept .1 .1 .1 .1 .1 .0) (at-encode-record .ensures .recordBytes) (at-put-behind .ensures .0)) _ (front (length (at-args .«record» .now)) (bytesOf (E (at-args .layout .now) (at-args .masks .now) (at-args .page) (at-args .items .now) (at-args .text .now) (at-args .behind .now) (length (at-args .«record» .now)) (length (at-args .counts .now)))) (at-args .behind .now) _ _ _ (at-encode-record .ensures .recordLeft) (at-encode-record .kept .1 .1 .1 .1 .1 .0) (at-encode-record .ensures .recordBytes) (at-put-behind .ensures .0) _ (at-put-behind .ensures .1)) (at-decode-record .ensures) (at-decode-record .kept .1 .1 .1 .1 .0) (at-decode-record .kept .1 .1 .1 .1 .1 .0)
 
 pub round-trip-spec : {M : Type 1} → statement M
 round-trip-spec =

@@ -14,7 +14,10 @@ refusal-requires : tie.Need-refusal-requires
 refusal-requires c κs = search needs
 
 returns : tie.Need-returns
-returns c = gives-refused _ 16 (c .refusal .result) _ _ (c .refusal .ensures) (layout-long (c .before .before .before .before .before .before .before .args .layout .now) (c .before .before .before .before .before .before .before .args .layout-more) (c .before .before .before .before .before .before .before .args .bytes .now) (c .before .before .before .before .before .before .before .args .more) (sym (c .before .before .too-long .ensures) ∙ c .before .if1 .taken))
+returns c =
+    let at-args = c .before .before .before .before .before .before .before .args in
+    let at-too-long = c .before .before .too-long in
+    gives-refused _ 16 (c .refusal .result) _ _ (c .refusal .ensures) (layout-long (at-args .layout .now) (at-args .layout-more) (at-args .bytes .now) (at-args .more) (sym (at-too-long .ensures) ∙ c .before .if1 .taken))
 
 slice-aggregate-read-layout : tie.Need-slice-aggregate-read-layout
 slice-aggregate-read-layout c = search needs
@@ -30,8 +33,12 @@ refusal-requires-2 c κs = search needs
 
 returns-2 : tie.Need-returns-2
 returns-2 c =
-    let n = number-at (c .before .before .before .before .before .before .before .before .before .before .before .before .before .before .args .layout .now) _ _ (c .before .before .before .before .before .read-layout .result) (length-replicate {A = ℕ} 6144 0) (length-replicate {A = ℕ} 65536 0) (c .before .before .before .before .before .read-layout .ensures .0) in
-    gives-refused _ (c .before .before .before .before .before .read-layout .result .number) (c .refusal2 .result) _ _ (c .refusal2 .ensures) (layout-refused (c .before .before .before .before .before .before .before .before .before .before .before .before .before .before .args .layout .now) (c .before .before .before .before .before .before .before .before .before .before .before .before .before .before .args .layout-more) (c .before .before .before .before .before .before .before .before .before .before .before .before .before .before .args .bytes .now) (c .before .before .before .before .before .before .before .before .before .before .before .before .before .before .args .more) (sym (c .before .before .before .before .before .before .before .before .before .too-long .ensures) ∙ c .before .before .before .before .before .before .before .before .if1 .left) (λ z. c .before .if2 .taken (n ∙ z)) ∙ ap refused (sym n))
+    let at-args = c .before .before .before .before .before .before .before .before .before .before .before .before .before .before .args in
+    let at-too-long = c .before .before .before .before .before .before .before .before .before .too-long in
+    let at-if1 = c .before .before .before .before .before .before .before .before .if1 in
+    let at-read-layout = c .before .before .before .before .before .read-layout in
+    let n = number-at (at-args .layout .now) _ _ (at-read-layout .result) (length-replicate {A = ℕ} 6144 0) (length-replicate {A = ℕ} 65536 0) (at-read-layout .ensures .0) in
+    gives-refused _ (at-read-layout .result .number) (c .refusal2 .result) _ _ (c .refusal2 .ensures) (layout-refused (at-args .layout .now) (at-args .layout-more) (at-args .bytes .now) (at-args .more) (sym (at-too-long .ensures) ∙ at-if1 .left) (λ z. c .before .if2 .taken (n ∙ z)) ∙ ap refused (sym n))
 
 too-long-requires-2 : tie.Need-too-long-requires-2
 too-long-requires-2 c κs = search needs
@@ -41,8 +48,14 @@ refusal-requires-3 c κs = search needs
 
 returns-3 : tie.Need-returns-3
 returns-3 c =
-    let n = number-at (c .before .before .before .before .before .before .before .before .before .before .before .before .before .before .before .before .args .layout .now) _ _ (c .before .before .before .before .before .before .before .read-layout .result) (length-replicate {A = ℕ} 6144 0) (length-replicate {A = ℕ} 65536 0) (c .before .before .before .before .before .before .before .read-layout .ensures .0) in
-    gives-refused _ 4 (c .refusal3 .result) _ _ (c .refusal3 .ensures) (bytes-long (c .before .before .before .before .before .before .before .before .before .before .before .before .before .before .before .before .args .layout .now) (c .before .before .before .before .before .before .before .before .before .before .before .before .before .before .before .before .args .layout-more) (c .before .before .before .before .before .before .before .before .before .before .before .before .before .before .before .before .args .bytes .now) (c .before .before .before .before .before .before .before .before .before .before .before .before .before .before .before .before .args .more) (sym (c .before .before .before .before .before .before .before .before .before .before .before .too-long .ensures) ∙ c .before .before .before .before .before .before .before .before .before .before .if1 .left) (sym n ∙ c .before .before .before .if2 .left) (sym (c .before .before .too-long2 .ensures) ∙ c .before .if3 .taken))
+    let at-args = c .before .before .before .before .before .before .before .before .before .before .before .before .before .before .before .before .args in
+    let at-too-long = c .before .before .before .before .before .before .before .before .before .before .before .too-long in
+    let at-if1 = c .before .before .before .before .before .before .before .before .before .before .if1 in
+    let at-read-layout = c .before .before .before .before .before .before .before .read-layout in
+    let at-if2 = c .before .before .before .if2 in
+    let at-too-long2 = c .before .before .too-long2 in
+    let n = number-at (at-args .layout .now) _ _ (at-read-layout .result) (length-replicate {A = ℕ} 6144 0) (length-replicate {A = ℕ} 65536 0) (at-read-layout .ensures .0) in
+    gives-refused _ 4 (c .refusal3 .result) _ _ (c .refusal3 .ensures) (bytes-long (at-args .layout .now) (at-args .layout-more) (at-args .bytes .now) (at-args .more) (sym (at-too-long .ensures) ∙ at-if1 .left) (sym n ∙ at-if2 .left) (sym (at-too-long2 .ensures) ∙ c .before .if3 .taken))
 
 sub-decode-record : tie.Need-sub-decode-record
 sub-decode-record c = search needs
@@ -51,7 +64,11 @@ part-decode-record-start : tie.Need-part-decode-record-start
 part-decode-record-start c = search needs
 
 part-decode-record-end : tie.Need-part-decode-record-end
-part-decode-record-end c = words-inside (c .before .before .before .before .before .before .before .before .before .before .before .before .before .before .before .before .args .layout .now) _ _ (c .before .before .before .before .before .before .before .read-layout .result) _ _ (c .before .before .before .before .before .before .before .read-layout .ensures .0) (c .before .before .before .if2 .left) (c .before .before .before .before .before .before .before .read-layout .ensures .1 .0) (c .before .before .before .before .before .before .before .read-layout .ensures .1 .1)
+part-decode-record-end c =
+    let at-args = c .before .before .before .before .before .before .before .before .before .before .before .before .before .before .before .before .args in
+    let at-read-layout = c .before .before .before .before .before .before .before .read-layout in
+    let at-if2 = c .before .before .before .if2 in
+    words-inside (at-args .layout .now) _ _ (at-read-layout .result) _ _ (at-read-layout .ensures .0) (at-if2 .left) (at-read-layout .ensures .1 .0) (at-read-layout .ensures .1 .1)
 
 sub-decode-record-2 : tie.Need-sub-decode-record-2
 sub-decode-record-2 c = search needs
@@ -60,7 +77,11 @@ part-decode-record-start-2 : tie.Need-part-decode-record-start-2
 part-decode-record-start-2 c = search needs
 
 part-decode-record-end-2 : tie.Need-part-decode-record-end-2
-part-decode-record-end-2 c = masks-inside (c .before .before .before .before .before .before .before .before .before .before .before .before .before .before .before .before .before .before .args .layout .now) _ _ (c .before .before .before .before .before .before .before .before .before .read-layout .result) _ _ (c .before .before .before .before .before .before .before .before .before .read-layout .ensures .0) (c .before .before .before .before .before .if2 .left) (c .before .before .before .before .before .before .before .before .before .read-layout .ensures .1 .0) (c .before .before .before .before .before .before .before .before .before .read-layout .ensures .1 .1)
+part-decode-record-end-2 c =
+    let at-args = c .before .before .before .before .before .before .before .before .before .before .before .before .before .before .before .before .before .before .args in
+    let at-read-layout = c .before .before .before .before .before .before .before .before .before .read-layout in
+    let at-if2 = c .before .before .before .before .before .if2 in
+    masks-inside (at-args .layout .now) _ _ (at-read-layout .result) _ _ (at-read-layout .ensures .0) (at-if2 .left) (at-read-layout .ensures .1 .0) (at-read-layout .ensures .1 .1)
 
 slice-aggregate-decode-record : tie.Need-slice-aggregate-decode-record
 slice-aggregate-decode-record c = search needs
@@ -76,12 +97,21 @@ same-length-2 c = search needs
 
 returns-4 : tie.Need-returns-4
 returns-4 c =
-    let n = number-at (c .before .before .before .before .before .before .before .before .before .before .before .before .before .before .before .before .before .before .before .before .before .before .before .before .before .before .before .before .args .layout .now) _ _ (c .before .before .before .before .before .before .before .before .before .before .before .before .before .before .before .before .before .before .before .read-layout .result) (length-replicate {A = ℕ} 6144 0) (length-replicate {A = ℕ} 65536 0) (c .before .before .before .before .before .before .before .before .before .before .before .before .before .before .before .before .before .before .before .read-layout .ensures .0) in
-    let d = c .before .before .before .before .before .decode-record .ensures in
-    let l = c .before .before .before .before .before .before .before .before .before .before .before .before .before .before .before .before .before .before .before .read-layout .result in
-    let w = c .before .before .before .before .before .before .before .before .before .before .before .before .before .before .before .before .before .before .before .read-layout .last .1 .0 in
-    let m = c .before .before .before .before .before .before .before .before .before .before .before .before .before .before .before .before .before .before .before .read-layout .last .1 .1 .0 in
-    gives-decoded _ (λ i t k. decodeRecord (take (l .words - 0) w) (take (l .masks - 0) m) (l .page) (c .before .before .before .before .before .before .before .before .before .before .before .before .before .before .before .before .before .before .before .before .before .before .before .before .before .before .before .before .args .bytes .now) i t k) _ _ _ (c .before .before .before .before .before .decode-record .result) _ _ (c .before .before .before .before .before .before .before .before .before .before .before .before .before .before .before .before .before .before .before .before .before .before .before .before .before .before .before .before .pre .0) (c .before .before .before .before .before .before .before .before .before .before .before .before .before .before .before .before .before .before .before .before .before .before .before .before .before .before .before .before .pre .1) refl (decoded-is (c .before .before .before .before .before .before .before .before .before .before .before .before .before .before .before .before .before .before .before .before .before .before .before .before .before .before .before .before .args .layout .now) (c .before .before .before .before .before .before .before .before .before .before .before .before .before .before .before .before .before .before .before .before .before .before .before .before .before .before .before .before .args .layout-more) (c .before .before .before .before .before .before .before .before .before .before .before .before .before .before .before .before .before .before .before .before .before .before .before .before .before .before .before .before .args .bytes .now) (c .before .before .before .before .before .before .before .before .before .before .before .before .before .before .before .before .before .before .before .before .before .before .before .before .before .before .before .before .args .more) (sym (c .before .before .before .before .before .before .before .before .before .before .before .before .before .before .before .before .before .before .before .before .before .before .before .too-long .ensures) ∙ c .before .before .before .before .before .before .before .before .before .before .before .before .before .before .before .before .before .before .before .before .before .before .if1 .left) (sym n ∙ c .before .before .before .before .before .before .before .before .before .before .before .before .before .before .before .if2 .left) (sym (c .before .before .before .before .before .before .before .before .before .before .before .before .before .before .too-long2 .ensures) ∙ c .before .before .before .before .before .before .before .before .before .before .before .before .before .if3 .left) ∙ call-is (c .before .before .before .before .before .before .before .before .before .before .before .before .before .before .before .before .before .before .before .before .before .before .before .before .before .before .before .before .args .layout .now) _ _ l w m (c .before .before .before .before .before .before .before .before .before .before .before .before .before .before .before .before .before .before .before .read-layout .ensures .0) (c .before .before .before .before .before .before .before .before .before .before .before .before .before .before .before .if2 .left) (c .before .before .before .before .before .before .before .before .before .before .before .before .before .before .before .before .before .before .before .read-layout .ensures .1 .0) (c .before .before .before .before .before .before .before .before .before .before .before .before .before .before .before .before .before .before .before .read-layout .ensures .1 .1) (c .before .before .before .before .before .before .before .before .before .before .before .before .before .before .before .before .before .before .before .before .before .before .before .before .before .before .before .before .args .bytes .now)) (d .0) (d .1 .0) (d .1 .1 .0) (d .1 .1 .1 .0) (d .1 .1 .1 .1 .0)
+    let at-args = c .before .before .before .before .before .before .before .before .before .before .before .before .before .before .before .before .before .before .before .before .before .before .before .before .before .before .before .before .args in
+    let at-pre = c .before .before .before .before .before .before .before .before .before .before .before .before .before .before .before .before .before .before .before .before .before .before .before .before .before .before .before .before .pre in
+    let at-too-long = c .before .before .before .before .before .before .before .before .before .before .before .before .before .before .before .before .before .before .before .before .before .before .before .too-long in
+    let at-if1 = c .before .before .before .before .before .before .before .before .before .before .before .before .before .before .before .before .before .before .before .before .before .before .if1 in
+    let at-read-layout = c .before .before .before .before .before .before .before .before .before .before .before .before .before .before .before .before .before .before .before .read-layout in
+    let at-if2 = c .before .before .before .before .before .before .before .before .before .before .before .before .before .before .before .if2 in
+    let at-too-long2 = c .before .before .before .before .before .before .before .before .before .before .before .before .before .before .too-long2 in
+    let at-if3 = c .before .before .before .before .before .before .before .before .before .before .before .before .before .if3 in
+    let at-decode-record = c .before .before .before .before .before .decode-record in
+    let n = number-at (at-args .layout .now) _ _ (at-read-layout .result) (length-replicate {A = ℕ} 6144 0) (length-replicate {A = ℕ} 65536 0) (at-read-layout .ensures .0) in
+    let d = at-decode-record .ensures in
+    let l = at-read-layout .result in
+    let w = at-read-layout .last .1 .0 in
+    let m = at-read-layout .last .1 .1 .0 in
+    gives-decoded _ (λ i t k. decodeRecord (take (l .words - 0) w) (take (l .masks - 0) m) (l .page) (at-args .bytes .now) i t k) _ _ _ (at-decode-record .result) _ _ (at-pre .0) (at-pre .1) refl (decoded-is (at-args .layout .now) (at-args .layout-more) (at-args .bytes .now) (at-args .more) (sym (at-too-long .ensures) ∙ at-if1 .left) (sym n ∙ at-if2 .left) (sym (at-too-long2 .ensures) ∙ at-if3 .left) ∙ call-is (at-args .layout .now) _ _ l w m (at-read-layout .ensures .0) (at-if2 .left) (at-read-layout .ensures .1 .0) (at-read-layout .ensures .1 .1) (at-args .bytes .now)) (d .numbered) (d .itemWords) (d .textBytes) (d .itemsLeft) (d .textLeft)
 
 pub read-both-spec : {M : Type 1} → statement M
 read-both-spec =

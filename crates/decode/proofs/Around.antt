@@ -14,11 +14,12 @@ use Rattle.spans.specs.Tree.{Tree}
 use Rattle.walks.specs.Walk.{single, Codec, Many, times, howMany}
 use Rattle.walks.specs.Reading.{Outcome, refused, read, Reader, wrap, inside, one}
 use Rattle.decode_leaf.specs.declared.Out.{Out}
+use Rattle.decode_leaf.specs.declared.Count.{Count}
 use Rattle.decode_leaf.specs.Counts.{heldIn}
 use Rattle.decode_leaf.specs.Capped.{table, field, seq}
-use Rattle.decode_leaf.specs.Machine.{Held, out, state, kept, leafAt, bare, headOf, Listed, Fine, Met}
+use Rattle.decode_leaf.specs.Machine.{Held, out, state, kept, leafAt, bare, headOf, Listed, Counted, Fine, Met}
 use Rattle.decode_leaf.proofs.Meets.{refuse, fine}
-use Rattle.decode.proofs.Steps.{inside-room, turns, counts-to, field-is, field-refused, Capped, seq-most, one-most}
+use Rattle.decode.proofs.Steps.{inside-room, table-small, table-is, table-refused, turns, counts-to, field-is, field-refused, Capped, seq-most, one-most}
 use Rattle.decode.proofs.Tail.{back}
 use Rattle.decode.proofs.Turns.{Written, tail, returned, returned-same, room-left, TurnsInv, turns-done, wrap-is, wrap-drop}
 
@@ -114,6 +115,28 @@ pub scalars-table : (l : List ℕ) (page : ℕ) (deps : Bool) (r : List ℕ) (e 
     ≡ table e (leafAt (kept l page (length text) deps) r e 65536 false) (howMany (λ name run. heldIn l name run) e counts) at room (state counts told text)
 unfolding howMany
 scalars-table l page deps r e inner at room counts told text n q = field-table (kept l page (length text) deps) r e inner at room (state counts told text) n q
+
+-- a table of scalars or Pads, f reading one, by how many there are
+module _ (e : Entry) (f : Reader Held) (m : Many) (at room : ℕ) (s : Held) (c : Count) (q : Counted m c) where
+  pub scalars-never : (c .refused ≡ 0 → ⊥) → table e f m at room s ≡ refused (c .refused)
+  scalars-never n = ap (λ x. table e f x at room s) (q .refuses n .0)
+
+  module _ (z : c .refused ≡ 0) (head : ℕ) (g : single e ≡ false) (p : head ≡ cond (false || eqb (e .kind) 6) 0 4) where
+    counted : table e f m at room s ≡ table e f (times (c .n)) at room s
+    counted = ap (λ x. table e f x at room s) (q .fine z)
+
+    headed : head ≡ headOf e
+    headed = head-is e false head (sym g) p
+
+    pub scalars-small : room < head → table e f m at room s ≡ refused 16
+    scalars-small h = counted ∙ table-small e f (c .n) at room s head g headed h
+
+    module _ (h : head ≤ room) where
+      pub scalars-are : table e f m at room s ≡ cond (bare e) (turns false f (c .n) at (room - head) s) (wrap (e .name) 6 (turns false f (c .n) at (room - head) s))
+      scalars-are = counted ∙ table-is e f (c .n) at room s head g headed h
+
+      pub scalars-refused : (n : ℕ) → turns false f (c .n) at (room - head) s ≡ refused n → table e f m at room s ≡ refused n
+      scalars-refused n t = counted ∙ table-refused e f (c .n) at room s head g headed h n t
 
 -- an element of a walk takes at most 2^63 bytes
 pub element-most : (k : Codec Held) (r : List ℕ) (e : Entry) (t : Tree Entry) (name : ℕ) (once : Bool) (at room : ℕ) (s : Held) → e .width < 4294967296

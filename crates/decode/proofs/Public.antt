@@ -69,7 +69,7 @@ module _ (l masks : List ℕ) (page : ℕ) (bytes : List ℕ) (items text work :
       unfolding askedOf
       passed = both-passed (layoutAsks l masks page work) (recordAsks l (length bytes) deps) (sym p ∙ z)
 
-      not-long : length bytes ≤ most
+      pub not-long : length bytes ≤ most
       not-long = go (leb (length bytes) most) refl (deps || leb (recordLength l) (length bytes)) (passed .1)
         where
           go : (c : Bool) → leb (length bytes) most ≡ c → (f : Bool) → _≡_ {A = ℕ} (cond (c && f) 0 4) 0 → length bytes ≤ most

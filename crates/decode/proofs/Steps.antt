@@ -2,11 +2,11 @@
 use mathlib.Core.Path.{_≡_, refl, sym, ap, ap₂, _∙_, subst}
 use mathlib.Core.Bool.{Bool, true, false, _||_, _&&_, not, cond}
 use mathlib.Core.List.{List, [], _∷_, _++_, append-nil, append-assoc}
-use Prim.Native.Nat.{ℕ, zero, suc, _+_, _-_, _≤_, _<_, max}
+use Prim.Native.Nat.{ℕ, zero, suc, _+_, _-_, _*_, _≤_, _<_, max}
 use native.Mathlib.Omega.{arith}
 use lib.Dec.{eqb, leb}
 use lib.ListN.{length, take, drop}
-use borrow.Author.Tests.{le-leb, lt-leb}
+use borrow.Author.Tests.{le-leb, lt-leb, leb-true}
 use Rattle.layout.specs.declared.Entry.{Entry}
 use Rattle.layout.specs.Layout.{entryAt, spanOf, part, reservedWidth, isGroup}
 use Rattle.spans.specs.Tree.{Tree, none, node, endOf}
@@ -15,6 +15,16 @@ use Rattle.walks.specs.Walk.{single, isPad, Many, never, times, Leaf, bad, leaf
 use Rattle.walks.specs.Reading.{Outcome, refused, read, Reader, next, wrap, inside, placed, scalar, pad, one, follow}
 use Rattle.decode_leaf.specs.Capped.{sat, behind, elements, table, field, seq}
 use Rattle.decode_leaf.specs.Machine.{bare, headOf}
+
+-- ---- the falling number of the cycle: three for each entry of the span, and the bytes left of the record
+
+-- no call goes to a lower position, but for sums that stop, far behind any record's end
+pub left-behind : (bytes base off at : ℕ) → bytes ≤ 65536 → at ≡ sat (base + off) → bytes - at ≤ bytes - base
+left-behind bytes base off at h p = omega arith
+
+-- from a sequence to the members of one of its entries
+pub fewer : (bytes lo hi base t i end at : ℕ) → 3 * (hi - lo) + (bytes - base) ≡ t → lo ≤ i → i < hi → end ≤ hi → bytes - at ≤ bytes - base → 3 * (end - (i + 1)) + (bytes - at) + 2 < t
+fewer bytes lo hi base t i end at m p h q l = omega arith
 
 abbrev number : Many → ℕ
 number (never n) = n
@@ -300,24 +310,29 @@ module _ {S : Type 0} where
       (cond-most (leb (at + e .width) (length r)) (read [] 0 (e .width) s) (refused 7) h tt)
       (cond-most (leb (at + e .width) (length r)) (placed name once (e .width) room (k .dec e once (take (e .width) (drop at r)) s)) (refused 7) (placed-most name once (e .width) room (k .dec e once (take (e .width) (drop at r)) s) h) tt))
 
-  -- ---- a scalar or Pad takes its width
+  -- ---- a scalar or Pad takes its width, inside the record
 
-  abbrev Took : ℕ → Outcome S → Type 0
-  Took w (refused n) = Unit {0}
-  Took w (read ws m t s) = t ≡ w
+  abbrev Took : List ℕ → ℕ → ℕ → Outcome S → Type 0
+  Took r at w (refused n) = Unit {0}
+  Took r at w (read ws m t s) = (t ≡ w) × (at + w ≤ length r)
 
-  placed-took : (name : ℕ) (once : Bool) (width room : ℕ) (v : Leaf S) → Took width (placed name once width room v)
-  placed-took name once width room (bad n) = tt
-  placed-took name once width room (leaf tag a b s) =
-      either (Took width) (once || leb 1 width) (cond (leb 4 room) (read (name ∷ tag ∷ a ∷ b ∷ []) 1 width s) (refused 16)) (refused 10)
-      (either (Took width) (leb 4 room) (read (name ∷ tag ∷ a ∷ b ∷ []) 1 width s) (refused 16) refl tt) tt
+  placed-took : (r : List ℕ) (at : ℕ) (name : ℕ) (once : Bool) (width room : ℕ) (v : Leaf S) → at + width ≤ length r → Took r at width (placed name once width room v)
+  placed-took r at name once width room (bad n) h = tt
+  placed-took r at name once width room (leaf tag a b s) h =
+      either (Took r at width) (once || leb 1 width) (cond (leb 4 room) (read (name ∷ tag ∷ a ∷ b ∷ []) 1 width s) (refused 16)) (refused 10)
+      (either (Took r at width) (leb 4 room) (read (name ∷ tag ∷ a ∷ b ∷ []) 1 width s) (refused 16) (refl, h) tt) tt
 
-  leaf-took : (k : Codec S) (r : List ℕ) (e : Entry) (name : ℕ) (once : Bool) (at room : ℕ) (s : S) → Took (e .width) (cond (isPad e) (pad r e at room s) (scalar k r e name once at room s))
+  leaf-took : (k : Codec S) (r : List ℕ) (e : Entry) (name : ℕ) (once : Bool) (at room : ℕ) (s : S) → Took r at (e .width) (cond (isPad e) (pad r e at room s) (scalar k r e name once at room s))
   unfolding pad scalar
-  leaf-took k r e name once at room s = either (Took (e .width)) (isPad e) (pad r e at room s) (scalar k r e name once at room s)
-      (either (Took (e .width)) (leb (at + e .width) (length r)) (read [] 0 (e .width) s) (refused 7) refl tt)
-      (either (Took (e .width)) (leb (at + e .width) (length r)) (placed name once (e .width) room (k .dec e once (take (e .width) (drop at r)) s)) (refused 7) (placed-took name once (e .width) room (k .dec e once (take (e .width) (drop at r)) s)) tt)
+  leaf-took k r e name once at room s = either (Took r at (e .width)) (isPad e) (pad r e at room s) (scalar k r e name once at room s)
+      (inside-only (leb (at + e .width) (length r)) refl (read [] 0 (e .width) s) (λ h. (refl, h)))
+      (inside-only (leb (at + e .width) (length r)) refl (placed name once (e .width) room (k .dec e once (take (e .width) (drop at r)) s))
+      (placed-took r at name once (e .width) room (k .dec e once (take (e .width) (drop at r)) s)))
+    where
+      inside-only : (b : Bool) → leb (at + e .width) (length r) ≡ b → (o : Outcome S) → (at + e .width ≤ length r → Took r at (e .width) o) → Took r at (e .width) (cond b o (refused 7))
+      inside-only true q o f = f (leb-true (at + e .width) (length r) q)
+      inside-only false q o f = tt
 
   pub leaf-takes : (k : Codec S) (r : List ℕ) (e : Entry) (name : ℕ) (once : Bool) (at room : ℕ) (s : S) (ws : List ℕ) (m t : ℕ) (s′ : S)
-      → cond (isPad e) (pad r e at room s) (scalar k r e name once at room s) ≡ read ws m t s′ → t ≡ e .width
-  leaf-takes k r e name once at room s ws m t s′ q = subst (Took (e .width)) q (leaf-took k r e name once at room s)
+      → cond (isPad e) (pad r e at room s) (scalar k r e name once at room s) ≡ read ws m t s′ → (t ≡ e .width) × (at + e .width ≤ length r)
+  leaf-takes k r e name once at room s ws m t s′ q = subst (Took r at (e .width)) q (leaf-took k r e name once at room s)

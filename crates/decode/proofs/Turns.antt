@@ -143,7 +143,7 @@ module _ {K : ℕ → Codec Held} {r l i₀ t₀ : List ℕ} {c₀ : List ℤ} {
           → (end′ far′ : ℕ) → length text′ ≡ length text → length counts′ ≡ length counts → end′ ≡ sat (off + o .taken) → far′ ≡ max far end′
           → SeqInv K r l i₀ t₀ c₀ lo hi base told (returned items used ys) text′ counts′ en (used + o .used) (members + o .members) shift far′ (o .told)
       seq-passes sg q end′ far′ ht hc r4 r5 =
-          let w : o .taken ≡ e .width = leaf-takes (K (length text)) r e (e .name) true at (length (tail items used)) (state counts told₁ text) (take (o .used) ys) (o .members) (o .taken) (state counts′ (o .told) text′) (sym q ∙ f .is) in
+          let w : o .taken ≡ e .width = leaf-takes (K (length text)) r e (e .name) true at (length (tail items used)) (state counts told₁ text) (take (o .used) ys) (o .members) (o .taken) (state counts′ (o .told) text′) (sym q ∙ f .is) .0 in
           seq-goes (reservedWidth e) (o .taken - reservedWidth e) shift end′ far′ ht hc refl refl (omega (arith, w, single-reserves e sg, v .capped)) r4 r5
 
 -- ---- the loop of an entry, whose elements stand behind `head` words

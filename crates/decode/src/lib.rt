@@ -73,7 +73,10 @@ fn decode_seq(
     told: usize,
 ) -> Out
     requires { ⌜ told ≤ length (now text) ⌝ }
-    ensures { λ r. ⌜ Met (seq (kept (now (layout .entry)) page (length (now (text .entry))) deps) (now («record» .entry)) (part (now (layout .entry)) lo hi) base 0 (length (now (items .entry))) (state (now (counts .entry)) told (now (text .entry)))) r (now (items .exit)) (now (text .exit)) (now (counts .exit)) ⌝ }
+    requires { ⌜ length (now «record») ≤ 65536 ⌝ }
+    ensures { λ r. ⌜ Met
+        (seq (kept (now (layout .entry)) page (length (now (text .entry))) deps) (now («record» .entry)) (part (now (layout .entry)) lo hi) base 0 (length (now (items .entry)))
+        (state (now (counts .entry)) told (now (text .entry)))) r (now (items .exit)) (now (text .exit)) (now (counts .exit)) ⌝ }
 {
     let mut i = lo;
     let mut used: usize = 0;
@@ -157,7 +160,11 @@ fn decode_table(
 ) -> Out
     requires { ⌜ told ≤ length (now text) ⌝ }
     requires { ⌜ single e ≡ false ⌝ }
-    ensures { λ r. ⌜ Elements (λ deps. table e (leafAt (kept (now (layout .entry)) page (length (now (text .entry))) deps) (now («record» .entry)) e 65536 false) (howMany (λ name run. heldIn (now (layout .entry)) name run) e (now (counts .entry))) at (length (now (items .entry))) (state (now (counts .entry)) told (now (text .entry)))) r (now (items .exit)) (now (text .exit)) (now (counts .entry)) ⌝ }
+    requires { ⌜ length (now «record») ≤ 65536 ⌝ }
+    ensures { λ r. ⌜ Elements
+        (λ deps. table e (leafAt (kept (now (layout .entry)) page (length (now (text .entry))) deps) (now («record» .entry)) e 65536 false)
+        (howMany (λ name run. heldIn (now (layout .entry)) name run) e (now (counts .entry))) at (length (now (items .entry)))
+        (state (now (counts .entry)) told (now (text .entry)))) r (now (items .exit)) (now (text .exit)) (now (counts .entry)) ⌝ }
 {
     let c = how_many(layout, counts, e);
     if c.refused != 0 {
@@ -209,7 +216,11 @@ fn decode_field(
 ) -> Out
     requires { ⌜ told ≤ length (now text) ⌝ }
     requires { ⌜ (not (eqb (e .kind) 9) && single e) ≡ false ⌝ }
-    ensures { λ r. ⌜ Met (field (kept (now (layout .entry)) page (length (now (text .entry))) deps) (now («record» .entry)) e (λ b n s. seq (kept (now (layout .entry)) page (length (now (text .entry))) deps) (now («record» .entry)) (part (now (layout .entry)) lo hi) b 0 n s) at (length (now (items .entry))) (state (now (counts .entry)) told (now (text .entry)))) r (now (items .exit)) (now (text .exit)) (now (counts .exit)) ⌝ }
+    requires { ⌜ length (now «record») ≤ 65536 ⌝ }
+    ensures { λ r. ⌜ Met
+        (field (kept (now (layout .entry)) page (length (now (text .entry))) deps) (now («record» .entry)) e
+        (λ b n s. seq (kept (now (layout .entry)) page (length (now (text .entry))) deps) (now («record» .entry)) (part (now (layout .entry)) lo hi) b 0 n s) at (length (now (items .entry)))
+        (state (now (counts .entry)) told (now (text .entry)))) r (now (items .exit)) (now (text .exit)) (now (counts .exit)) ⌝ }
 {
     if e.kind != 9 {
         return decode_table(layout, record, items, text, counts, page, e, at, told);
@@ -278,7 +289,10 @@ fn decode_one(
     told: usize,
 ) -> Out
     requires { ⌜ told ≤ length (now text) ⌝ }
-    ensures { λ r. ⌜ Met (inside name 7 (λ b n s. seq (kept (now (layout .entry)) page (length (now (text .entry))) deps) (now («record» .entry)) (part (now (layout .entry)) lo hi) b 0 n s) at (length (now (items .entry))) (state (now (counts .entry)) told (now (text .entry)))) r (now (items .exit)) (now (text .exit)) (now (counts .exit)) ⌝ }
+    requires { ⌜ length (now «record») ≤ 65536 ⌝ }
+    ensures { λ r. ⌜ Met
+        (inside name 7 (λ b n s. seq (kept (now (layout .entry)) page (length (now (text .entry))) deps) (now («record» .entry)) (part (now (layout .entry)) lo hi) b 0 n s) at
+        (length (now (items .entry))) (state (now (counts .entry)) told (now (text .entry)))) r (now (items .exit)) (now (text .exit)) (now (counts .exit)) ⌝ }
 {
     if items.len() < 4 {
         return refusal(16);

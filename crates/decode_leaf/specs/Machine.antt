@@ -1,7 +1,7 @@
 -- What the reader's inner functions promise: the walk with the state as the code holds it, by its own answer.
 use mathlib.Core.Path.{_≡_}
-use mathlib.Core.Bool.{Bool, true, false, _||_, _&&_, not, cond}
-use mathlib.Core.List.{List, [], _∷_, _++_}
+use mathlib.Core.Bool.{Bool, _||_, _&&_, not, cond}
+use mathlib.Core.List.{List, _∷_, _++_}
 use Prim.Native.Nat.{ℕ, _+_, _/_, _≤_}
 use lib.Dec.{eqb, leb}
 use lib.IntN.{ℤ}

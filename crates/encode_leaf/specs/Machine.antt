@@ -1,6 +1,6 @@
 -- What the writer's inner functions promise, by their own answer.
 use mathlib.Core.Path.{_≡_}
-use mathlib.Core.Bool.{Bool, true, false, _||_, cond}
+use mathlib.Core.Bool.{Bool, _||_, cond}
 use mathlib.Core.List.{List, []}
 use Prim.Native.Nat.{ℕ, zero, suc, _+_, min}
 use lib.Dec.{eqb, leb}

@@ -1,3 +1,5 @@
+-- A sequence reads fields, a field reads elements, a group element reads a sequence. The falling number is three for each entry of the span and one for each byte left of the record:
+-- from a sequence to a field the entries fall, and the bytes left never rise, since no call goes to a lower position.
 use borrow.Fn.Kinds.{In}
 use borrow.Fn.PlainCycle.{is}
 use Rattle.decode.proofs.decode_field.Reads as decode-field
@@ -29,9 +31,18 @@ use Rattle.spans.proofs.end_of.Reads as end-of-reads
 use Rattle.decode.proofs.+decode_field+decode_one+decode_seq.{statement}
 use Rattle.decode.proofs.+decode_field+decode_one+decode_seq.Tie.{close}
 use Rattle.decode.proofs.+decode_field+decode_one+decode_seq.Proof.Common.{μ-decode-field, μ-decode-one, μ-decode-seq, decode-field-at, decode-one-at, decode-seq-at}
-use Rattle.decode.proofs.+decode_field+decode_one+decode_seq.Proof.Field.{decode-field-claims, decode-field-Inv-loop, decode-field-μ-loop, decode-field-decode-table-requires, decode-field-same-length, decode-field-same-length-2, decode-field-same-length-3, decode-field-returns, decode-field-is-single-requires, decode-field-element-name-requires, decode-field-element-count-requires, decode-field-refusal-requires, decode-field-same-length-4, decode-field-returns-2, decode-field-head-words-requires, decode-field-refusal-requires-2, decode-field-same-length-5, decode-field-returns-3, decode-field-loop-holds, decode-field-mul-decode-one, decode-field-sub-decode-one, decode-field-part-decode-one-start, decode-field-part-decode-one-end, decode-field-decode-one-requires, decode-field-refusal-requires-3, decode-field-same-length-6, decode-field-same-length-7, decode-field-same-length-8, decode-field-returns-4, decode-field-took-none-requires, decode-field-refusal-requires-4, decode-field-same-length-9, decode-field-same-length-10, decode-field-same-length-11, decode-field-returns-5, decode-field-sat-add-requires, decode-field-sat-add-requires-2, decode-field-add-used, decode-field-add-members, decode-field-add-k, decode-field-loop-less, decode-field-loop-again, decode-field-listed-requires, decode-field-same-length-12, decode-field-same-length-13, decode-field-same-length-14, decode-field-returns-6}
-use Rattle.decode.proofs.+decode_field+decode_one+decode_seq.Proof.One.{decode-one-claims, decode-one-refusal-requires, decode-one-returns, decode-one-sub-decode-seq, decode-one-part-decode-seq-start, decode-one-part-decode-seq-end, decode-one-decode-seq-requires, decode-one-refusal-requires-2, decode-one-same-length, decode-one-same-length-2, decode-one-same-length-3, decode-one-returns-2, decode-one-add-used, decode-one-put-header-requires, decode-one-same-length-4, decode-one-same-length-5, decode-one-same-length-6, decode-one-returns-3}
-use Rattle.decode.proofs.+decode_field+decode_one+decode_seq.Proof.Seq.{decode-seq-claims, decode-seq-Inv-loop, decode-seq-μ-loop, decode-seq-loop-holds, decode-seq-load-requires, decode-seq-cast-end-of, decode-seq-end-of-requires, decode-seq-cast-sat-add, decode-seq-sat-add-requires, decode-seq-sat-add-requires-2, decode-seq-is-lone-requires, decode-seq-mul-decode-lone, decode-seq-sub-decode-lone, decode-seq-part-decode-lone-start, decode-seq-part-decode-lone-end, decode-seq-decode-lone-requires, decode-seq-refusal-requires, decode-seq-same-length, decode-seq-same-length-2, decode-seq-same-length-3, decode-seq-returns, decode-seq-sat-add-requires-3, decode-seq-larger-requires, decode-seq-add-used, decode-seq-add-members, decode-seq-loop-less, decode-seq-loop-again, decode-seq-mul-decode-field, decode-seq-sub-decode-field, decode-seq-part-decode-field-start, decode-seq-part-decode-field-end, decode-seq-add-decode-field, decode-seq-decode-field-requires, decode-seq-refusal-requires-2, decode-seq-same-length-4, decode-seq-same-length-5, decode-seq-same-length-6, decode-seq-returns-2, decode-seq-reserved-width-requires, decode-seq-less-requires, decode-seq-sat-add-requires-4, decode-seq-sat-add-requires-5, decode-seq-larger-requires-2, decode-seq-add-used-2, decode-seq-add-members-2, decode-seq-loop-less-2, decode-seq-loop-again-2, decode-seq-same-length-7, decode-seq-same-length-8, decode-seq-same-length-9, decode-seq-returns-3}
+use Rattle.decode.proofs.+decode_field+decode_one+decode_seq.Proof.Field.{decode-field-claims, decode-field-Inv-loop, decode-field-μ-loop, decode-field-decode-table-requires, decode-field-same-length, decode-field-same-length-2, decode-field-same-length-3, decode-field-returns, decode-field-is-single-requires, decode-field-element-name-requires, decode-field-element-count-requires}
+use Rattle.decode.proofs.+decode_field+decode_one+decode_seq.Proof.Field.{decode-field-refusal-requires, decode-field-same-length-4, decode-field-returns-2, decode-field-head-words-requires, decode-field-refusal-requires-2, decode-field-same-length-5, decode-field-returns-3, decode-field-loop-holds, decode-field-mul-decode-one, decode-field-sub-decode-one, decode-field-part-decode-one-start}
+use Rattle.decode.proofs.+decode_field+decode_one+decode_seq.Proof.Field.{decode-field-part-decode-one-end, decode-field-decode-one-requires, decode-field-refusal-requires-3, decode-field-same-length-6, decode-field-same-length-7, decode-field-same-length-8, decode-field-returns-4, decode-field-took-none-requires, decode-field-refusal-requires-4, decode-field-same-length-9}
+use Rattle.decode.proofs.+decode_field+decode_one+decode_seq.Proof.Field.{decode-field-same-length-10, decode-field-same-length-11, decode-field-returns-5, decode-field-sat-add-requires, decode-field-sat-add-requires-2, decode-field-add-used, decode-field-add-members, decode-field-add-k, decode-field-loop-less, decode-field-loop-again, decode-field-listed-requires}
+use Rattle.decode.proofs.+decode_field+decode_one+decode_seq.Proof.Field.{decode-field-same-length-12, decode-field-same-length-13, decode-field-same-length-14, decode-field-returns-6}
+use Rattle.decode.proofs.+decode_field+decode_one+decode_seq.Proof.One.{decode-one-claims, decode-one-refusal-requires, decode-one-returns, decode-one-sub-decode-seq, decode-one-part-decode-seq-start, decode-one-part-decode-seq-end, decode-one-decode-seq-requires, decode-one-refusal-requires-2, decode-one-same-length, decode-one-same-length-2, decode-one-same-length-3, decode-one-returns-2}
+use Rattle.decode.proofs.+decode_field+decode_one+decode_seq.Proof.One.{decode-one-add-used, decode-one-put-header-requires, decode-one-same-length-4, decode-one-same-length-5, decode-one-same-length-6, decode-one-returns-3}
+use Rattle.decode.proofs.+decode_field+decode_one+decode_seq.Proof.Seq.{decode-seq-claims, decode-seq-Inv-loop, decode-seq-μ-loop, decode-seq-loop-holds, decode-seq-load-requires, decode-seq-cast-end-of, decode-seq-end-of-requires, decode-seq-cast-sat-add, decode-seq-sat-add-requires, decode-seq-sat-add-requires-2, decode-seq-is-lone-requires, decode-seq-mul-decode-lone}
+use Rattle.decode.proofs.+decode_field+decode_one+decode_seq.Proof.Seq.{decode-seq-sub-decode-lone, decode-seq-part-decode-lone-start, decode-seq-part-decode-lone-end, decode-seq-decode-lone-requires, decode-seq-refusal-requires, decode-seq-same-length, decode-seq-same-length-2, decode-seq-same-length-3, decode-seq-returns, decode-seq-sat-add-requires-3, decode-seq-larger-requires}
+use Rattle.decode.proofs.+decode_field+decode_one+decode_seq.Proof.Seq.{decode-seq-add-used, decode-seq-add-members, decode-seq-loop-less, decode-seq-loop-again, decode-seq-mul-decode-field, decode-seq-sub-decode-field, decode-seq-part-decode-field-start, decode-seq-part-decode-field-end, decode-seq-add-decode-field, decode-seq-decode-field-requires, decode-seq-refusal-requires-2}
+use Rattle.decode.proofs.+decode_field+decode_one+decode_seq.Proof.Seq.{decode-seq-same-length-4, decode-seq-same-length-5, decode-seq-same-length-6, decode-seq-returns-2, decode-seq-reserved-width-requires, decode-seq-less-requires, decode-seq-sat-add-requires-4, decode-seq-sat-add-requires-5, decode-seq-larger-requires-2, decode-seq-add-used-2, decode-seq-add-members-2}
+use Rattle.decode.proofs.+decode_field+decode_one+decode_seq.Proof.Seq.{decode-seq-loop-less-2, decode-seq-loop-again-2, decode-seq-same-length-7, decode-seq-same-length-8, decode-seq-same-length-9, decode-seq-returns-3}
 mod Common
 mod Field
 mod One

@@ -1,9 +1,10 @@
+-- The questions first; then the counts are started, the entries are read, and what was not read is cleared, after a refusal all of it.
 use mathlib.Core.Path.{refl, ap, _∙_}
 use Prim.Native.Nat.{_-_}
 use native.Mathlib.Omega.{arith}
 use lib.ListN.{length, take, replicate}
 use lib.IntN.{pos}
-use Rattle.decode.proofs.Public.{Whole, not-asked, walk-refused, walk-read, refused-all, read-all}
+use Rattle.decode.proofs.Public.{not-long, Whole, not-asked, walk-refused, walk-read, refused-all, read-all}
 use borrow.Author.Needs.{needs}
 use Rattle.decode.proofs.decode_record.Statement.{statement}
 use Rattle.decode.proofs.decode_record.Tie as tie
@@ -47,7 +48,12 @@ start-counts-requires : tie.Need-start-counts-requires
 start-counts-requires c κs = search needs
 
 decode-seq-requires : tie.Need-decode-seq-requires
-decode-seq-requires c κs = omega arith
+decode-seq-requires c κs =
+    let at-args = c .before .before .before .before .before .before .before .before .before .before .before .before .before .before .args in
+    let at-has-depending-on = c .before .before .before .before .before .before .before .before .has-depending-on in
+    let at-asked = c .before .before .before .before .before .before .before .asked in
+    let at-if1 = c .before .before .before .before .before .before .if1 in
+    (omega arith, not-long (at-args .layout .now) (at-args .masks .now) (at-args .page) (at-args .«record» .now) 0 0 (length (at-args .counts .now)) (at-has-depending-on .result) (at-has-depending-on .ensures) (at-asked .result) (at-asked .ensures) (at-if1 .left))
 
 clear-counts-requires-2 : tie.Need-clear-counts-requires-2
 clear-counts-requires-2 c κs = search needs

@@ -1,4 +1,6 @@
-use mathlib.Core.Path.{refl, sym, ap, _∙_}
+-- The invariant, whether or not some table depends on a count: what all elements come to is what the elements that are left come to, behind those read.
+-- The bytes left of the record fall: an accepted element is inside the record and takes a byte.
+use mathlib.Core.Path.{sym, refl, _∙_}
 use mathlib.Core.Bool.{Bool, true, false}
 use mathlib.Core.List.{[]}
 use Prim.Native.Nat.{_-_}
@@ -10,17 +12,18 @@ use borrow.Author.Needs.{needs}
 use Rattle.decode_leaf.specs.Capped.{table}
 use Rattle.decode_leaf.specs.Machine.{kept, state, leafAt}
 use Rattle.decode_leaf.proofs.Meets.{refuse}
-use Rattle.decode.proofs.Steps.{table-small, table-is, table-refused}
+use Rattle.decode.proofs.Steps.{leaf-takes}
 use Rattle.decode.proofs.Turns.{TurnsInv, turns-starts, turns-stop, turns-nothing, turns-go, returned-same, returned-written}
-use Rattle.decode.proofs.Around.{listed-met, head-is}
+use Rattle.decode.proofs.Around.{listed-met, head-is, scalars-never, scalars-small, scalars-are, scalars-refused}
 use Rattle.decode.proofs.decode_table.Statement.{statement}
 use Rattle.decode.proofs.decode_table.Tie as tie
 
 abbrev Inv-loop : tie.InvT-loop
-Inv-loop layout «record» items₀ text₀ counts page e at told head n k₀ used₀ members₀ place₀ taken₀ behind₀ items text k used members place taken behind = (deps : Bool) → TurnsInv false (λ m. leafAt (kept layout page m deps) «record» e 65536 false) items₀ text₀ counts n at told head items text counts k used members place taken behind
+Inv-loop layout «record» items₀ text₀ counts page e at told head n k₀ used₀ members₀ place₀ taken₀ behind₀ items text k used members place taken behind =
+    (deps : Bool) → TurnsInv false (λ m. leafAt (kept layout page m deps) «record» e 65536 false) items₀ text₀ counts n at told head items text counts k used members place taken behind
 
 abbrev μ-loop : tie.MeasureT-loop
-μ-loop layout «record» items₀ text₀ counts page e at told head n k₀ used₀ members₀ place₀ taken₀ behind₀ items text k used members place taken behind = n - k
+μ-loop layout «record» items₀ text₀ counts page e at told head n k₀ used₀ members₀ place₀ taken₀ behind₀ items text k used members place taken behind = length «record» - place
 
 how-many-requires : tie.Need-how-many-requires Inv-loop μ-loop
 how-many-requires c κs = search needs
@@ -30,9 +33,8 @@ refusal-requires c κs = search needs
 
 returns : tie.Need-returns Inv-loop μ-loop
 returns c =
-    let at-args = c .before .before .before .before .before .before .before .before .args in
     let at-how-many = c .before .before .before .how-many in
-    record { met = λ deps. refuse (at-how-many .result .refused) (c .refusal .ensures) (c .before .if1 .taken) (ap (λ m. table (at-args .e) (leafAt (kept (at-args .layout .now) (at-args .page) (length (at-args .text .now)) deps) (at-args .«record» .now) (at-args .e) 65536 false) m (at-args .at) (length (at-args .items .now)) (state (at-args .counts .now) (at-args .told) (at-args .text .now))) (at-how-many .ensures .refuses (c .before .if1 .taken) .0)) }
+    record { met = λ deps. refuse (at-how-many .result .refused) (c .refusal .ensures) (c .before .if1 .taken) (scalars-never _ _ _ _ _ _ _ (at-how-many .ensures) (c .before .if1 .taken)) }
 
 head-words-requires : tie.Need-head-words-requires Inv-loop μ-loop
 head-words-requires c κs = search needs
@@ -42,16 +44,11 @@ refusal-requires-2 c κs = search needs
 
 returns-2 : tie.Need-returns-2 Inv-loop μ-loop
 returns-2 c =
-    let at-args = c .before .before .before .before .before .before .before .before .before .before .before .args in
     let at-pre = c .before .before .before .before .before .before .before .before .before .before .before .pre in
     let at-how-many = c .before .before .before .before .before .before .how-many in
     let at-if1 = c .before .before .before .before .if1 in
     let at-head-words = c .before .before .head-words in
-    record {
-      met = λ deps. refuse 16 (c .refusal2 .ensures) (λ e. omega arith) (ap (λ m. table (at-args .e) (leafAt (kept (at-args .layout .now) (at-args .page) (length (at-args .text .now)) deps) (at-args .«record» .now) (at-args .e) 65536 false) m (at-args .at) (length (at-args .items .now)) (state
-          (at-args .counts .now) (at-args .told) (at-args .text .now))) (at-how-many .ensures .fine (at-if1 .left)) ∙ table-small (at-args .e) (leafAt (kept (at-args .layout .now) (at-args .page) (length (at-args .text .now)) deps) (at-args .«record» .now) (at-args .e) 65536 false) (at-how-many .result .n)
-          (at-args .at) (length (at-args .items .now)) (state (at-args .counts .now) (at-args .told) (at-args .text .now)) (at-head-words .result) (at-pre .1) (head-is (at-args .e) false (at-head-words .result) (sym (at-pre .1)) (at-head-words .ensures)) (c .before .if2 .taken));
-    }
+    record { met = λ deps. refuse 16 (c .refusal2 .ensures) (λ e. omega arith) (scalars-small _ _ _ _ _ _ _ (at-how-many .ensures) (at-if1 .left) _ (at-pre .1 .0) (at-head-words .ensures) (c .before .if2 .taken)) }
 
 loop-holds : tie.Need-loop-holds Inv-loop μ-loop
 loop-holds c =
@@ -104,10 +101,8 @@ returns-3 c =
     let at-loop-test = c .before .before .before .before .before .before .before .before .before .before .loop-test in
     let at-decode-element = c .before .before .before .before .before .before .before .decode-element in
     record {
-      met = λ deps. refuse (at-decode-element .result .refused) (c .refusal3 .ensures) (c .before .if3 .taken) (ap (λ m. table (at-args .e) (leafAt (kept (at-args .layout .now) (at-args .page) (length (at-args .text .now)) deps) (at-args .«record» .now) (at-args .e) 65536 false) m (at-args .at) (length
-          (at-args .items .now)) (state (at-args .counts .now) (at-args .told) (at-args .text .now))) (at-how-many .ensures .fine (at-if1 .left)) ∙ table-refused (at-args .e) (leafAt (kept (at-args .layout .now) (at-args .page) (length (at-args .text .now)) deps) (at-args .«record» .now) (at-args .e) 65536 false)
-          (at-how-many .result .n) (at-args .at) (length (at-args .items .now)) (state (at-args .counts .now) (at-args .told) (at-args .text .now)) (at-head-words .result) (at-pre .1) (head-is (at-args .e) false (at-head-words .result) (sym (at-pre .1)) (at-head-words .ensures)) (at-if2 .left) _ (turns-stop
-          (at-loop .inv deps) (at-loop-test .taken) (at-decode-element .last .1 .0) (at-decode-element .kept .1 .0) _ ((at-decode-element .ensures .0 .met (at-args .layout .now) deps (at-args .counts .now)) .refuses (c .before .if3 .taken) .0)));
+      met = λ deps. refuse (at-decode-element .result .refused) (c .refusal3 .ensures) (c .before .if3 .taken)
+          (scalars-refused _ _ _ _ _ _ _ (at-how-many .ensures) (at-if1 .left) _ (at-pre .1 .0) (at-head-words .ensures) (at-if2 .left) _ (turns-stop (at-loop .inv deps) (at-loop-test .taken) (at-decode-element .last .1 .0) (at-decode-element .kept .1 .0) _ ((at-decode-element .ensures .0 .met (at-args .layout .now) deps (at-args .counts .now)) .refuses (c .before .if3 .taken) .0)));
     }
 
 refusal-requires-4 : tie.Need-refusal-requires-4 Inv-loop μ-loop
@@ -138,10 +133,10 @@ returns-4 c =
     let at-decode-element = c .before .before .before .before .before .before .before .before .before .decode-element in
     let at-if3 = c .before .before .before .if3 in
     record {
-      met = λ deps. refuse 10 (c .refusal4 .ensures) (λ e. omega arith) (ap (λ m. table (at-args .e) (leafAt (kept (at-args .layout .now) (at-args .page) (length (at-args .text .now)) deps) (at-args .«record» .now) (at-args .e) 65536 false) m (at-args .at) (length (at-args .items .now)) (state
-          (at-args .counts .now) (at-args .told) (at-args .text .now))) (at-how-many .ensures .fine (at-if1 .left)) ∙ table-refused (at-args .e) (leafAt (kept (at-args .layout .now) (at-args .page) (length (at-args .text .now)) deps) (at-args .«record» .now) (at-args .e) 65536 false) (at-how-many .result .n)
-          (at-args .at) (length (at-args .items .now)) (state (at-args .counts .now) (at-args .told) (at-args .text .now)) (at-head-words .result) (at-pre .1) (head-is (at-args .e) false (at-head-words .result) (sym (at-pre .1)) (at-head-words .ensures)) (at-if2 .left) _ (turns-nothing (at-loop .inv deps)
-          (at-loop-test .taken) (at-decode-element .last .1 .0) (at-decode-element .kept .1 .0) (at-decode-element .result) (at-decode-element .last .1 .1 .0) (at-args .counts .now) ((at-decode-element .ensures .0 .met (at-args .layout .now) deps (at-args .counts .now)) .fine (at-if3 .left)) (eqb (at-decode-element .result .taken) 0) refl (eq-eqb (at-decode-element .result .taken) 0 (c .before .if4 .taken))));
+      met = λ deps. refuse 10 (c .refusal4 .ensures) (λ e. omega arith)
+          (scalars-refused _ _ _ _ _ _ _ (at-how-many .ensures) (at-if1 .left) _ (at-pre .1 .0) (at-head-words .ensures) (at-if2 .left) _
+          (turns-nothing (at-loop .inv deps) (at-loop-test .taken) (at-decode-element .last .1 .0) (at-decode-element .kept .1 .0) (at-decode-element .result) (at-decode-element .last .1 .1 .0) (at-args .counts .now) ((at-decode-element .ensures .0 .met (at-args .layout .now) deps (at-args .counts .now)) .fine (at-if3 .left))
+          (eqb (at-decode-element .result .taken) 0) refl (eq-eqb (at-decode-element .result .taken) 0 (c .before .if4 .taken))));
     }
 
 sat-add-requires : tie.Need-sat-add-requires Inv-loop μ-loop
@@ -156,7 +151,8 @@ add-used c =
     let at-loop = c .before .before .before .before .before .before .before .before .before .before .before .before .before .before .before .loop in
     let at-decode-element = c .before .before .before .before .before .before .before .before .before .before .before .decode-element in
     let at-if3 = c .before .before .before .before .before .if3 in
-    omega (arith, returned-written (at-loop .inv true .written) (at-decode-element .last .1 .0) (at-decode-element .kept .1 .0) _ ((at-decode-element .ensures .0 .met [] true [] .fine (at-if3 .left)) .within) .within, at-good .1 .1 .0 .0)
+    let f = at-decode-element .ensures .0 .met [] true [] .fine (at-if3 .left) in
+    omega (arith, returned-written (at-loop .inv true .written) (at-decode-element .last .1 .0) (at-decode-element .kept .1 .0) _ (f .within) .within, at-good .1 .1 .0 .0)
 
 add-members : tie.Need-add-members Inv-loop μ-loop
 add-members c =
@@ -164,7 +160,8 @@ add-members c =
     let at-loop = c .before .before .before .before .before .before .before .before .before .before .before .before .before .before .before .before .loop in
     let at-decode-element = c .before .before .before .before .before .before .before .before .before .before .before .before .decode-element in
     let at-if3 = c .before .before .before .before .before .before .if3 in
-    omega (arith, returned-written (at-loop .inv true .written) (at-decode-element .last .1 .0) (at-decode-element .kept .1 .0) _ ((at-decode-element .ensures .0 .met [] true [] .fine (at-if3 .left)) .within) .within, at-good .1 .1 .0 .0, at-loop .inv true .few, (at-decode-element .ensures .0 .met [] true [] .fine (at-if3 .left)) .few)
+    let f = at-decode-element .ensures .0 .met [] true [] .fine (at-if3 .left) in
+    omega (arith, returned-written (at-loop .inv true .written) (at-decode-element .last .1 .0) (at-decode-element .kept .1 .0) _ (f .within) .within, at-good .1 .1 .0 .0, at-loop .inv true .few, f .few)
 
 add-k : tie.Need-add-k Inv-loop μ-loop
 add-k c =
@@ -174,8 +171,14 @@ add-k c =
 
 loop-less : tie.Need-loop-less Inv-loop μ-loop
 loop-less c =
-    let at-loop-test = c .before .before .before .before .before .before .before .before .before .before .before .before .before .before .before .loop-test in
-    omega (arith, at-loop-test .taken)
+    let at-pre = c .before .before .before .before .before .before .before .before .before .before .before .before .before .before .before .before .before .before .before .before .before .before .before .before .before .before .before .pre in
+    let at-decode-element = c .before .before .before .before .before .before .before .before .before .before .before .before .decode-element in
+    let at-if3 = c .before .before .before .before .before .before .if3 in
+    let at-if4 = c .before .before .before .before .if4 in
+    let at-sat-add = c .before .before .before .sat-add in
+    let f = at-decode-element .ensures .0 .met [] true [] .fine (at-if3 .left) in
+    let lies = leaf-takes _ _ _ _ _ _ _ _ _ _ _ _ (f .is) in
+    omega (arith, lies .0, lies .1, at-if4 .left, at-sat-add .ensures, at-pre .1 .1)
 
 loop-again : tie.Need-loop-again Inv-loop μ-loop
 loop-again c =
@@ -187,8 +190,8 @@ loop-again c =
     let at-if4 = c .before .before .before .before .if4 in
     let at-sat-add = c .before .before .before .sat-add in
     let at-sat-add2 = c .before .before .sat-add2 in
-    λ deps. turns-go (at-loop .inv deps) (at-loop-test .taken) (at-decode-element .last .1 .0) (at-decode-element .kept .1 .0) (at-decode-element .result) (at-decode-element .last .1 .1 .0) (at-args .counts .now) ((at-decode-element .ensures .0 .met (at-args .layout .now) deps (at-args .counts .now)) .fine
-    (at-if3 .left)) (eqb (at-decode-element .result .taken) 0) refl _ _ (at-decode-element .kept .1 .1 .0) refl (ne-eqb (at-decode-element .result .taken) 0 (at-if4 .left)) (at-sat-add .ensures) (at-sat-add2 .ensures)
+    λ deps. turns-go (at-loop .inv deps) (at-loop-test .taken) (at-decode-element .last .1 .0) (at-decode-element .kept .1 .0) (at-decode-element .result) (at-decode-element .last .1 .1 .0) (at-args .counts .now) ((at-decode-element .ensures .0 .met (at-args .layout .now) deps (at-args .counts .now)) .fine (at-if3 .left))
+    (eqb (at-decode-element .result .taken) 0) refl _ _ (at-decode-element .kept .1 .1 .0) refl (ne-eqb (at-decode-element .result .taken) 0 (at-if4 .left)) (at-sat-add .ensures) (at-sat-add2 .ensures)
 
 listed-requires : tie.Need-listed-requires Inv-loop μ-loop
 listed-requires c κs =
@@ -196,7 +199,7 @@ listed-requires c κs =
     let at-pre = c .before .before .before .before .before .before .before .before .before .before .before .before .before .pre in
     let at-head-words = c .before .before .before .before .head-words in
     let at-loop = c .before .before .loop in
-    ((head-is (at-args .e) false (at-head-words .result) (sym (at-pre .1)) (at-head-words .ensures)), (omega (arith, at-loop .inv true .few), omega (arith, at-loop .inv true .written .within, at-loop .inv true .written .same)))
+    ((head-is (at-args .e) false (at-head-words .result) (sym (at-pre .1 .0)) (at-head-words .ensures)), (omega (arith, at-loop .inv true .few), omega (arith, at-loop .inv true .written .within, at-loop .inv true .written .same)))
 
 same-length-5 : tie.Need-same-length-5 Inv-loop μ-loop
 same-length-5 c =
@@ -221,9 +224,7 @@ returns-5 c =
     let at-loop-test = c .before .before .before .before .loop-test in
     let at-listed = c .before .before .listed in
     record {
-      met = λ deps. listed-met (at-args .e) (at-loop .inv deps) (at-loop-test .left) (head-is (at-args .e) false (at-head-words .result) (sym (at-pre .1)) (at-head-words .ensures)) (ap (λ m. table (at-args .e) (leafAt (kept (at-args .layout .now) (at-args .page) (length (at-args .text .now)) deps)
-          (at-args .«record» .now) (at-args .e) 65536 false) m (at-args .at) (length (at-args .items .now)) (state (at-args .counts .now) (at-args .told) (at-args .text .now))) (at-how-many .ensures .fine (at-if1 .left)) ∙ table-is (at-args .e) (leafAt (kept (at-args .layout .now) (at-args .page) (length
-          (at-args .text .now)) deps) (at-args .«record» .now) (at-args .e) 65536 false) (at-how-many .result .n) (at-args .at) (length (at-args .items .now)) (state (at-args .counts .now) (at-args .told) (at-args .text .now)) (at-head-words .result) (at-pre .1) (head-is (at-args .e) false (at-head-words .result) (sym (at-pre .1)) (at-head-words .ensures)) (at-if2 .left)) (at-listed .ensures);
+      met = λ deps. listed-met (at-args .e) (at-loop .inv deps) (at-loop-test .left) (head-is (at-args .e) false (at-head-words .result) (sym (at-pre .1 .0)) (at-head-words .ensures)) (scalars-are _ _ _ _ _ _ _ (at-how-many .ensures) (at-if1 .left) _ (at-pre .1 .0) (at-head-words .ensures) (at-if2 .left)) (at-listed .ensures);
     }
 
 pub decode-table-spec : {M : Type 1} → statement M

@@ -1,3 +1,4 @@
+-- A sequence writes fields, a field writes elements, a group element writes a sequence. The falling number is three for each entry of the span.
 use borrow.Fn.Kinds.{In}
 use borrow.Fn.PlainCycle.{is}
 use Rattle.encode.proofs.encode_field.Reads as encode-field

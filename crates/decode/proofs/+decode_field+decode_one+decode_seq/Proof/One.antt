@@ -1,3 +1,4 @@
+-- One group: the item of a Struct around the sequence of its members, which is read behind the item's words.
 use Prim.Native.Nat.{ℕ}
 use Rattle.decode.proofs.decode_field.Reads as decode-field
 use Rattle.decode.proofs.decode_field.Kinds as decode-field-kinds

@@ -1,3 +1,4 @@
+-- The entries of a sequence. The loop's invariant: what the whole comes to is what the entries that are left come to, behind those read. The entries left fall.
 use Prim.Native.Nat.{ℕ}
 use borrow.Fn.Kinds.{In}
 use borrow.Fn.PlainCycle.{is}
@@ -36,6 +37,7 @@ use Rattle.walks.specs.Reading.{one}
 use Rattle.decode_leaf.specs.Capped.{seq}
 use Rattle.decode_leaf.specs.Machine.{kept}
 use Rattle.decode_leaf.proofs.Meets.{refuse, same-as}
+use Rattle.decode.proofs.Steps.{left-behind, fewer}
 use Rattle.decode.proofs.Turns.{returned-same, returned-written, SeqInv, seq-starts, seq-stops, seq-goes, seq-passes, seq-done}
 use Rattle.decode.proofs.Around.{field-lone, lone-is, lone-kind}
 
@@ -51,7 +53,7 @@ decode-seq-μ-loop layout «record» items₀ text₀ counts₀ page deps lo hi 
 pub decode-seq-loop-holds : (t : ℕ) → decode-seq-lts.Need-loop-holds (decode-seq-claims t) (decode-seq-at t) decode-seq.Post decode-seq-Inv-loop decode-seq-μ-loop
 decode-seq-loop-holds t c =
     let at-pre = c .before .before .before .before .pre in
-    seq-starts _ _ _ _ _ _ _ _ _ _ (at-pre .1)
+    seq-starts _ _ _ _ _ _ _ _ _ _ (at-pre .1 .0)
 
 pub decode-seq-load-requires : (t : ℕ) → decode-seq-lts.Need-load-requires (decode-seq-claims t) (decode-seq-at t) decode-seq.Post decode-seq-Inv-loop decode-seq-μ-loop
 decode-seq-load-requires t c κs = search needs
@@ -206,13 +208,17 @@ decode-seq-add-decode-field t c =
 
 pub decode-seq-decode-field-requires : (t : ℕ) → decode-seq-lts.Need-decode-field-requires (decode-seq-claims t) (decode-seq-at t) decode-seq.Post decode-seq-Inv-loop decode-seq-μ-loop
 decode-seq-decode-field-requires t c κs =
+    let at-args = c .before .before .before .before .before .before .before .before .before .before .before .before .before .before .before .before .before .args in
     let at-pre = c .before .before .before .before .before .before .before .before .before .before .before .before .before .before .before .before .before .pre in
     let at-loop = c .before .before .before .before .before .before .before .before .before .before .before .before .loop in
     let at-loop-test = c .before .before .before .before .before .before .before .before .before .before .before .loop-test in
     let at-end-of = c .before .before .before .before .before .before .before .before .end-of in
+    let at-sat-add2 = c .before .before .before .before .before .sat-add2 in
     let at-is-lone = c .before .before .before .before .is-lone in
-    let at-if1 = c .before .before .before .if1 in
-    (omega (arith, at-pre .0, at-loop .inv .past, at-loop-test .taken, at-end-of .ensures), (at-loop .inv .fits, sym (at-is-lone .ensures) ∙ at-if1 .left))
+    let at-if1 = c .before .before .before .if1 in (
+      fewer (length (at-args .«record» .now)) _ _ _ _ _ _ _ (at-pre .0) (at-loop .inv .past) (at-loop-test .taken) (omega (arith, at-end-of .ensures)) (left-behind _ _ _ _ (at-pre .1 .1) (at-sat-add2 .ensures)),
+      (at-loop .inv .fits, (sym (at-is-lone .ensures) ∙ at-if1 .left, at-pre .1 .1)),
+    )
 
 pub decode-seq-refusal-requires-2 : (t : ℕ) → decode-seq-lts.Need-refusal-requires-2 (decode-seq-claims t) (decode-seq-at t) decode-seq.Post decode-seq-Inv-loop decode-seq-μ-loop
 decode-seq-refusal-requires-2 t c κs = search needs

@@ -1,3 +1,4 @@
+-- The falling number of each function: its entries, lo up to hi.
 use Prim.Native.Nat.{ℕ, _<_}
 use borrow.Fn.Kinds.{In}
 use borrow.Fn.PlainCycle.{Measures, is, falls, and}

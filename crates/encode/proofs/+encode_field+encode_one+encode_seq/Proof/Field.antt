@@ -1,3 +1,4 @@
+-- An entry that is a table or a group. The loop's invariant: what all elements come to is what the elements that are left come to, in the buffer as it is. The elements left fall.
 use Prim.Native.Nat.{ℕ}
 use borrow.Fn.Kinds.{In}
 use Rattle.encode.proofs.encode_field.Reads as encode-field

@@ -1,3 +1,4 @@
+-- One group: the sequence of its members by the members of its value.
 use Prim.Native.Nat.{ℕ}
 use borrow.Fn.PlainCycle.{is}
 use Rattle.encode.proofs.encode_field.Reads as encode-field

@@ -1,3 +1,4 @@
+-- The entries of a sequence. The loop's invariant: what the whole comes to is what the entries that are left come to, in the buffer as it is. The entries left fall.
 use Prim.Native.Nat.{ℕ}
 use borrow.Fn.Kinds.{In}
 use borrow.Fn.PlainCycle.{is}
@@ -37,8 +38,32 @@ use Rattle.encode.proofs.Turns.{SeqInv, seq-starts, seq-stops, seq-goes
 use Rattle.encode.proofs.Steps.{lone-end, lone-field, lone-shift}
 
 abbrev pub encode-seq-claims : ℕ → encode-seq-lts.Claims
-encode-seq-claims t =
-    (load-reads.Asked, load-reads.Learnt, sat-add-reads.Asked, sat-add-reads.Learnt, place-of-reads.Asked, place-of-reads.Learnt, is-lone-leaf-reads.Asked, is-lone-leaf-reads.Learnt, fetch-reads.Asked, fetch-reads.Learnt, encode-leaf-reads.Asked, encode-leaf-reads.Learnt, refusal-reads.Asked, refusal-reads.Learnt, larger-reads.Asked, larger-reads.Learnt, end-of-reads.Asked, end-of-reads.Learnt, encode-field-below t, encode-field.Post, reserved-width-reads.Asked, reserved-width-reads.Learnt, less-reads.Asked, less-reads.Learnt)
+encode-seq-claims t = (
+  load-reads.Asked,
+  load-reads.Learnt,
+  sat-add-reads.Asked,
+  sat-add-reads.Learnt,
+  place-of-reads.Asked,
+  place-of-reads.Learnt,
+  is-lone-leaf-reads.Asked,
+  is-lone-leaf-reads.Learnt,
+  fetch-reads.Asked,
+  fetch-reads.Learnt,
+  encode-leaf-reads.Asked,
+  encode-leaf-reads.Learnt,
+  refusal-reads.Asked,
+  refusal-reads.Learnt,
+  larger-reads.Asked,
+  larger-reads.Learnt,
+  end-of-reads.Asked,
+  end-of-reads.Learnt,
+  encode-field-below t,
+  encode-field.Post,
+  reserved-width-reads.Asked,
+  reserved-width-reads.Learnt,
+  less-reads.Asked,
+  less-reads.Learnt,
+)
 
 abbrev pub encode-seq-Inv-loop : encode-seq-lts.InvT-loop
 encode-seq-Inv-loop layout masks items text rec₀ page lo hi from to base i₀ shift₀ taken₀ past₀ f₀ rec i shift taken past f = SeqInv masks text page layout items rec₀ lo hi from to base rec i shift taken past f

@@ -66,6 +66,12 @@ take-replicate (suc k) (suc n) v h = ap (λ (l : List ℕ). v ∷ l) (take-repli
 pub behind : (out out₀ : List ℕ) (k v : ℕ) → drop k out ≡ drop k out₀ → drop (k + 1) (set out k v) ≡ drop (k + 1) out₀
 behind out out₀ k v e = drop-set-lt (k + 1) out k v (omega arith) ∙ sym (drop-drop 1 k out) ∙ ap (drop 1) e ∙ drop-drop 1 k out₀
 
+-- lists that agree from k on agree from any later place on
+pub later : (s t : List ℕ) (k n : ℕ) → k ≤ n → drop k s ≡ drop k t → drop n s ≡ drop n t
+later s t k n h e =
+    let q : k + (n - k) ≡ n = omega arith in
+    ap (λ (m : ℕ). drop m s) (sym q) ∙ sym (drop-drop (n - k) k s) ∙ ap (drop (n - k)) e ∙ drop-drop (n - k) k t ∙ ap (λ (m : ℕ). drop m t) q
+
 -- a list stored from its right end: what stands from j on after a store at j
 pub drop-set : (l : List ℕ) (j b : ℕ) → j < length l → drop j (set l j b) ≡ b ∷ drop (suc j) l
 drop-set [] j b h = absurd (not-suc-le-zero h)
@@ -99,3 +105,14 @@ copy-all f src dst i e = go (decLe (length src) (length dst))
     go (no h) =
         let k : i ≡ length dst = omega arith in
         rw (k, drop-of-length-le dst {i = length dst} (le-refl (length dst)), drop-of-length-le dst {i = length src} (omega arith))
+
+-- zeros behind a list are what stands past its end
+zeros-at : (n k : ℕ) → _≡_ {A = ℕ} (getD (replicate n 0) k 0) 0
+zeros-at zero k = refl
+zeros-at (suc n) zero = refl
+zeros-at (suc n) (suc k) = zeros-at n k
+
+pub zeros-behind : (s : List ℕ) (n k : ℕ) → getD (s ++ replicate n 0) k 0 ≡ getD s k 0
+zeros-behind [] n k = zeros-at n k
+zeros-behind (x ∷ s) n zero = refl
+zeros-behind (x ∷ s) n (suc k) = zeros-behind s n k

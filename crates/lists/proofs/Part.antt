@@ -1,12 +1,15 @@
--- A part of a list that was lent: what the whole is after the part has changed.
-use mathlib.Core.Path.{_≡_, ap, _∙_}
+-- A part of a list that was lent: what the whole is after the part has changed; and the place of a part of a slice.
+use mathlib.Core.Path.{_≡_, sym, ap, _∙_}
 use mathlib.Core.Bool.{Bool, true, false, cond}
 use mathlib.Core.List.{List, _++_}
 use Prim.Native.Nat.{ℕ, _+_, _-_, _≤_}
 use native.Mathlib.Omega.{arith}
+use native.Mathlib.Nat.{zero-add}
 use lib.ListN.{length, take, drop, length-drop}
 use lib.Seq.{drop-drop, length-take-le}
+use denote.Ref.{RefT, ptr}
 use borrow.Rule.Slice.PartMut.{put-same}
+use Rattle.lists.specs.Part.{placeIn}
 
 pub in-whole : (at w : ℕ) (xs ys : List ℕ) → take at xs ++ (ys ++ drop (at + w - at) (drop at xs)) ≡ take at xs ++ (ys ++ drop (at + w) xs)
 in-whole at w xs ys =
@@ -23,3 +26,18 @@ pub lift : (b : Bool) (at w : ℕ) (xs new last : List ℕ) → last ≡ cond b 
     → take at xs ++ (last ++ drop (at + w - at) (drop at xs)) ≡ cond b (take at xs ++ (new ++ drop (at + w) xs)) xs
 lift true at w xs new last e = rw e (in-whole at w xs new)
 lift false at w xs new last e = rw e (put-same at (at + w - at) xs)
+
+-- ---- the start of a slice, and of a part of a part
+
+pub place-zero : (x : RefT (List ℕ)) → ptr x ≡ placeIn x 0
+place-zero x = λ i. (x .ptr .0, sym (zero-add (x .ptr .1)) i)
+
+pub place-add : (x : RefT (List ℕ)) (a k : ℕ) → _≡_ {A = ℕ × ℕ} (x .ptr .0, k + (a + x .ptr .1)) (placeIn x (a + k))
+place-add x a k =
+    let e : k + (a + x .ptr .1) ≡ a + k + x .ptr .1 = omega arith in
+    λ i. (x .ptr .0, e i)
+
+pub place-front : (x : RefT (List ℕ)) (a k : ℕ) → a ≡ k → _≡_ {A = ℕ × ℕ} (x .ptr .0, 0 + (a + x .ptr .1)) (placeIn x k)
+place-front x a k q =
+    let e : 0 + (a + x .ptr .1) ≡ k + x .ptr .1 = omega (arith, q) in
+    λ i. (x .ptr .0, e i)

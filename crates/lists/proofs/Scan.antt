@@ -6,9 +6,9 @@ use Prim.Native.Nat.{ℕ, zero, suc, _+_, _-_, _≤_, _<_, suc-le-suc}
 use native.Mathlib.Nat.{not-suc-le-zero, le-of-eq, sub-zero, zero-lt-suc, le-refl}
 use native.Mathlib.Numerals.{add-one}
 use native.Mathlib.Omega.{arith}
-use lib.ListN.{length, getD, take, drop, replicate, drop-of-length-le, length-drop}
+use lib.ListN.{length, getD, take, drop, replicate, drop-of-length-le, length-drop, length-map}
 use lib.Seq.{drop-cons, take-suc, take-all, take-length}
-use Rattle.lists.specs.Scan.{leftBy, joinBy, rightBy, beforeBy, keepBy, everyBy}
+use Rattle.lists.specs.Scan.{leftBy, leftCount, joinBy, rightBy, beforeBy, keepBy, everyBy}
 
 module _ (f : ℕ → Bool) (s : List ℕ) where
   pub left-go : (i : ℕ) → i < length s → f (getD s i 0) ≡ true → leftBy f (drop i s) ≡ leftBy f (drop (i + 1) s)
@@ -22,6 +22,9 @@ module _ (f : ℕ → Bool) (s : List ℕ) where
   pub left-end : (i : ℕ) → length s ≤ i → leftBy f (drop i s) ≡ drop i s
   unfolding leftBy
   left-end i h = rw (drop-of-length-le s h)
+
+  pub left-count : (a : ℕ) → a ≤ length s → drop a s ≡ leftBy f s → a ≡ leftCount f s
+  left-count a h e = omega (arith, ap length e, length-drop a s)
 
   snoc-go : (x : ℕ) (xs : List ℕ) → f x ≡ true → rightBy f (xs ++ (x ∷ [])) ≡ rightBy f xs
   unfolding rightBy
@@ -88,6 +91,9 @@ module _ (f h : ℕ → Bool) (g : ℕ → ℕ) where
       by : (t : Bool) → map g (leftBy h s) ≡ leftBy f (map g s) → map g (cond t (leftBy h s) (x ∷ s)) ≡ cond t (leftBy f (map g s)) (g x ∷ map g s)
       by true q = q
       by false q = refl
+
+  pub map-count : (s : List ℕ) → ((k : ℕ) → k < length s → h (getD s k 0) ≡ f (g (getD s k 0))) → leftCount h s ≡ leftCount f (map g s)
+  map-count s e = omega (arith, ap length (map-left s e), length-map (leftBy h s) g, length-map s g)
 
   pub map-right : (s : List ℕ) → ((k : ℕ) → k < length s → h (getD s k 0) ≡ f (g (getD s k 0))) → map g (rightBy h s) ≡ rightBy f (map g s)
   unfolding rightBy

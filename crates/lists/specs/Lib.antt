@@ -1,2 +1,3 @@
--- Definitions on lists that all crates share.
+-- Definitions on lists and slices that all crates share.
 pub mod Scan
+pub mod Part

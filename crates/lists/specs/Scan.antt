@@ -1,12 +1,17 @@
 -- A list without the elements at one end that pass a test; and its elements before the first one that passes.
-use Prim.Native.Nat.{ℕ}
-use mathlib.Core.Bool.{Bool, true, false, _&&_, cond}
+use Prim.Native.Nat.{ℕ, _-_}
+use mathlib.Core.Bool.{Bool, true, _&&_, cond}
 use mathlib.Core.List.{List, [], _∷_}
+use lib.ListN.{length}
 
 -- without the elements at the left end that pass the test f
 unfoldable pub leftBy : (ℕ → Bool) → List ℕ → List ℕ
 leftBy f [] = []
 leftBy f (x ∷ s) = cond (f x) (leftBy f s) (x ∷ s)
+
+-- how many elements at the left end pass the test f
+abbrev pub leftCount : (ℕ → Bool) → List ℕ → ℕ
+leftCount f s = length s - length (leftBy f s)
 
 -- x before what is left of the rest: it goes if nothing is left and it passes
 abbrev pub joinBy : (ℕ → Bool) → ℕ → List ℕ → List ℕ

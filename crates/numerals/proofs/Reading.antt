@@ -12,8 +12,8 @@ use Rattle.value.specs.declared.Number.the-variants.{Bad, Big}
 use Rattle.value.specs.Digits.{valueFrom, valueOf, isDigit, digitIn, limit}
 use Rattle.value.specs.Number.{some, numberOf, withSign}
 use Rattle.value.proofs.Digits.{cap-answer}
-use Rattle.lists.specs.Scan.{leftBy, rightBy, keepBy, everyBy}
-use Rattle.lists.proofs.Scan.{map-left, map-right, both-ends}
+use Rattle.lists.specs.Scan.{leftBy, leftCount, rightBy, keepBy, everyBy}
+use Rattle.lists.proofs.Scan.{left-count, map-left, map-count, map-right, both-ends}
 use Rattle.ebcdic.specs.Ebcdic.{fromPage}
 use Rattle.numerals.specs.Numerals.{isBlank, trimmed, isAscii, keptBy, keptOf}
 
@@ -28,6 +28,9 @@ trim-is page s a e p q =
     ap (map (fromPage page)) (both-ends (blankOn page) s a e p q)
     ∙ map-right isBlank (blankOn page) (fromPage page) (leftBy (blankOn page) s) (λ k b. refl)
     ∙ ap (rightBy isBlank) (map-left isBlank (blankOn page) (fromPage page) s (λ k b. refl))
+
+pub trim-from : (page : ℕ) (s : List ℕ) (a : ℕ) → a ≤ length s → drop a s ≡ leftBy (blankOn page) s → a ≡ leftCount isBlank (map (fromPage page) s)
+trim-from page s a h e = left-count (blankOn page) s a h e ∙ map-count isBlank (blankOn page) (fromPage page) s (λ k b. refl)
 
 -- ---- digits kept, behind a size that is read already
 

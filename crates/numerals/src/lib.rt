@@ -6,7 +6,9 @@ ghost use mathlib.Core.List.{map};
 ghost use mathlib.Core.Bool.{Bool, false};
 ghost use Prim.Native.Nat.{_+_, _≤_, _<_};
 ghost use lib.ListN.{length, take, drop};
-ghost use Rattle.lists.specs.Scan.{leftBy, rightBy};
+ghost use denote.Ref.{ptr};
+ghost use Rattle.lists.specs.Part.{placeIn};
+ghost use Rattle.lists.specs.Scan.{leftBy, leftCount, rightBy};
 ghost use Rattle.value.specs.Digits.{digitText, isDigit, digitIn};
 ghost use Rattle.ebcdic.specs.Ebcdic.{fromPage, ontoPage};
 ghost use Rattle.numerals.specs.Numerals.{isBlank, trimmed, keptOf, isSign, signByte};
@@ -61,9 +63,10 @@ fn blanks_right(part: &[u8], page: u32) -> usize
     e
 }
 
-// The text without the blanks at its ends.
+// The text without the blanks at its ends, as a part of it.
 pub fn trim(part: &[u8], page: u32) -> &[u8]
     ensures { λ r. ⌜ map (fromPage page) (now r) ≡ trimmed (map (fromPage page) (now (part .entry))) ⌝ }
+    ensures { λ r. ⌜ ptr r ≡ placeIn (part .entry) (leftCount isBlank (map (fromPage page) (now (part .entry)))) ⌝ }
 {
     let a = blanks_left(part, page);
     let t = &part[a..];

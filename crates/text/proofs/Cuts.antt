@@ -1,17 +1,15 @@
 -- The cut of a field's raw bytes, each compared with the pad as it stands on the page, is the cut of the bytes that were read.
-use mathlib.Core.Path.{_≡_, refl, sym, ap, _∙_}
+use mathlib.Core.Path.{_≡_, refl, ap, _∙_}
 use mathlib.Core.Bool.{Bool, true, false, cond}
 use mathlib.Core.List.{List, [], _∷_, map}
-use Prim.Native.Nat.{ℕ, zero, suc, _+_, _-_, _≤_, _<_, suc-le-suc}
-use native.Mathlib.Nat.{not-suc-le-zero, le-of-suc-le-suc, zero-lt-suc, sub-zero, zero-add}
-use native.Mathlib.Omega.{arith}
-use lib.ListN.{length, getD, take, drop, length-map, length-drop}
-use denote.Ref.{RefT, ptr}
-use Rattle.lists.specs.Scan.{leftBy, joinBy, rightBy, beforeBy}
-use Rattle.lists.proofs.Scan.{map-left, map-right, map-before, tail-part}
+use Prim.Native.Nat.{ℕ, zero, suc, _-_, _<_, suc-le-suc}
+use native.Mathlib.Nat.{not-suc-le-zero, le-of-suc-le-suc, zero-lt-suc, sub-zero}
+use lib.ListN.{length, getD, take, drop}
+use Rattle.lists.specs.Scan.{leftBy, leftCount, joinBy, rightBy, beforeBy}
+use Rattle.lists.proofs.Scan.{map-left, map-count, map-right, map-before, tail-part}
 use Rattle.ebcdic.specs.Ebcdic.{fromPage, ontoPage}
 use Rattle.ebcdic.proofs.Laws.{same-byte, zero-byte}
-use Rattle.text.specs.Text.{isByte, cut, cutFrom, placeIn, readText}
+use Rattle.text.specs.Text.{isByte, cut, cutFrom, readText}
 
 abbrev pub Bytes : List ℕ → Type 0
 Bytes s = (k : ℕ) → k < length s → getD s k 0 < 256
@@ -78,30 +76,11 @@ module _ (page pad : ℕ) (p : pad < 256) (s : List ℕ) (h : Bytes s) where
       ∙ left-cut
 
   -- where the first of them starts
-  left-size : leftBy (isByte pad) (map (fromPage page) s) ≡ map (fromPage page) (leftBy (isByte (ontoPage page pad)) s)
-  left-size = sym (map-left (isByte pad) (isByte (ontoPage page pad)) (fromPage page) s (λ k i. same-byte page (getD s k 0) pad (h k i) p))
-
-  pub right-from : (q a : ℕ) → q ≡ ontoPage page pad → a ≤ length s → drop a s ≡ leftBy (isByte q) s → a ≡ cutFrom true true pad (map (fromPage page) s)
+  pub right-from : (q a : ℕ) → q ≡ ontoPage page pad → a ≡ leftCount (isByte q) s → a ≡ cutFrom true true pad (map (fromPage page) s)
   unfolding cutFrom
-  right-from q a r b e =
-      let l : length (leftBy (isByte pad) (map (fromPage page) s)) ≡ length s - a =
-      ap length left-size ∙ length-map (leftBy (isByte (ontoPage page pad)) s) (fromPage page) ∙ ap (λ (n : ℕ). length (leftBy (isByte n) s)) (sym r) ∙ ap length (sym e) ∙ length-drop a s in
-      let t : a ≡ length s - (length s - a) = omega arith in
-      rw (l, length-map) t
-
--- the start of a slice, and of a part of a part
-pub place-zero : (x : RefT (List ℕ)) → ptr x ≡ placeIn x 0
-place-zero x = λ i. (x .ptr .0, sym (zero-add (x .ptr .1)) i)
-
-pub place-add : (x : RefT (List ℕ)) (a k : ℕ) → _≡_ {A = ℕ × ℕ} (x .ptr .0, k + (a + x .ptr .1)) (placeIn x (a + k))
-place-add x a k =
-    let e : k + (a + x .ptr .1) ≡ a + k + x .ptr .1 = omega arith in
-    λ i. (x .ptr .0, e i)
-
-pub place-front : (x : RefT (List ℕ)) (a k : ℕ) → a ≡ k → _≡_ {A = ℕ × ℕ} (x .ptr .0, 0 + (a + x .ptr .1)) (placeIn x k)
-place-front x a k q =
-    let e : 0 + (a + x .ptr .1) ≡ k + x .ptr .1 = omega (arith, q) in
-    λ i. (x .ptr .0, e i)
+  right-from q a r e =
+      e ∙ ap (λ (n : ℕ). leftCount (isByte n) s) r
+      ∙ map-count (isByte pad) (isByte (ontoPage page pad)) (fromPage page) s (λ k i. same-byte page (getD s k 0) pad (h k i) p)
 
 pub from-zero : (right : Bool) (pad : ℕ) (s : List ℕ) → 0 ≡ cutFrom right false pad s
 unfolding cutFrom

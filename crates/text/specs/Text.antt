@@ -5,8 +5,7 @@ use mathlib.Core.Bool.{Bool, true, false, cond}
 use mathlib.Core.List.{List, _++_, map}
 use lib.ListN.{length, drop, replicate, getD}
 use lib.Dec.{eqb, leb}
-use denote.Ref.{RefT, ptr}
-use Rattle.lists.specs.Scan.{leftBy, rightBy, beforeBy}
+use Rattle.lists.specs.Scan.{leftBy, leftCount, rightBy, beforeBy}
 use Rattle.ebcdic.specs.Ebcdic.{fromPage, ontoPage}
 use Rattle.text.specs.declared.Put.{Put}
 use Rattle.text.specs.declared.Put.the-variants.{Length, Full}
@@ -26,11 +25,7 @@ readText page right trim pad s = cut right trim pad (map (fromPage page) s)
 
 -- how many bytes the cut takes off at the left end
 unfoldable pub cutFrom : Bool → Bool → ℕ → List ℕ → ℕ
-cutFrom right trim pad s = cond trim (cond right (length s - length (leftBy (isByte pad) s)) 0) 0
-
--- the place k bytes into a slice
-abbrev pub placeIn : RefT (List ℕ) → ℕ → ℕ × ℕ
-placeIn x k = (ptr x .0, k + ptr x .1)
+cutFrom right trim pad s = cond trim (cond right (leftCount (isByte pad) s) 0) 0
 
 -- a text at the front of a buffer, the rest of which stays
 abbrev pub front : List ℕ → List ℕ → List ℕ

@@ -8,9 +8,10 @@ ghost use Prim.Native.Nat.{_+_, _≤_, _<_};
 ghost use lib.Dec.{leb};
 ghost use lib.ListN.{length, take, drop};
 ghost use denote.Ref.{ptr};
-ghost use Rattle.lists.specs.Scan.{leftBy, rightBy, beforeBy};
+ghost use Rattle.lists.specs.Part.{placeIn};
+ghost use Rattle.lists.specs.Scan.{leftBy, leftCount, rightBy, beforeBy};
 ghost use Rattle.ebcdic.specs.Ebcdic.{fromPage};
-ghost use Rattle.text.specs.Text.{isByte, readText, cutFrom, placeIn, front, putOf, putIn, writtenIn, padded};
+ghost use Rattle.text.specs.Text.{isByte, readText, cutFrom, front, putOf, putIn, writtenIn, padded};
 ghost use Rattle.value.specs.Digits.{digitText};
 ghost use Rattle.text.specs.Shown.{digitCount, wholeText, minusText, intText, decimalText, boolText, placed};
 ghost use Rattle.text.specs.Shown.{shows, isText, shownOf, textIn, answerOf, shownIn, roomOf, refusalAt, encodedIn};
@@ -31,7 +32,7 @@ pub enum Shown {
 
 // How many pads stand at the left end.
 pub fn pad_start(s: &[u8], pad: u8) -> usize
-    ensures { λ r. ⌜ (r ≤ length (now (s .entry))) × (drop r (now (s .entry)) ≡ leftBy (isByte pad) (now (s .entry))) ⌝ }
+    ensures { λ r. ⌜ (r ≡ leftCount (isByte pad) (now (s .entry))) × (drop r (now (s .entry)) ≡ leftBy (isByte pad) (now (s .entry))) ⌝ }
 {
     let mut i = 0;
     while i < s.len() {
@@ -119,7 +120,7 @@ pub fn fill_pad(part: &mut [u8], pad: u8, page: u32)
 }
 
 // The text at the left or right of a field's bytes, pads elsewhere, each byte on its page; whether it has room.
-pub fn justify_pad(part: &mut [u8], text: &[u8], right: bool, pad: u8, page: u32) -> bool
+fn justify_pad(part: &mut [u8], text: &[u8], right: bool, pad: u8, page: u32) -> bool
     ensures { λ r. ⌜ r ≡ leb (length (now (text .entry))) (length (now (part .entry))) ⌝ }
     ensures { λ _. ⌜ now (part .exit) ≡ writtenIn page right pad (now (part .entry)) (now (text .entry)) ⌝ }
 {

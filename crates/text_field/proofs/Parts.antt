@@ -6,13 +6,14 @@ use Prim.Native.Nat.{ℕ, _+_, _-_, _%_, _≤_}
 use native.Mathlib.Nat.{le-trans, le-of-eq, min-le-left}
 use native.Mathlib.Omega.{arith}
 use lib.Dec.{eqb}
-use lib.ListN.{length, take, drop, length-take, length-drop}
+use lib.ListN.{length, take, drop, length-take}
 use denote.Ref.{RefT, ptr, now}
 use borrow.Author.Tests.{eq-eqb, ne-eqb}
-use Rattle.lists.specs.Scan.{leftBy}
+use Rattle.lists.specs.Scan.{leftCount}
 use Rattle.ebcdic.specs.Ebcdic.{fromPage}
-use Rattle.text.specs.Text.{isByte, cut, cutFrom, placeIn, readText}
-use Rattle.text.proofs.Cuts.{place-add}
+use Rattle.lists.specs.Part.{placeIn}
+use Rattle.lists.proofs.Part.{place-add}
+use Rattle.text.specs.Text.{isByte, cut, cutFrom, readText}
 use Rattle.layout.specs.declared.Entry.{Entry}
 use Rattle.decode_scalar.specs.Decode.{flag}
 use Rattle.text_field.specs.Single.{entryOf, askedOf, fieldText, startOf, placeOf}
@@ -40,13 +41,6 @@ module _ (e : Entry) (right trim : Bool) (pad : ℕ) (s : List ℕ) (f : right �
   part-place x y z at i j =
       let k : cutFrom right trim pad (map (fromPage 0) s) ≡ cutFrom (flag (e .p)) (flag (e .q)) (e .r) s = rw (f, g, pad-same, page-zero s) refl in
       j ∙ ap (placeIn y) k ∙ ap (onward (cutFrom (flag (e .p)) (flag (e .q)) (e .r) s)) i ∙ place-add x at (cutFrom (flag (e .p)) (flag (e .q)) (e .r) s)
-
--- where the text of a right-justified field starts
-pub part-start : (pad a : ℕ) (s : List ℕ) → a ≤ length s → drop a s ≡ leftBy (isByte pad) s → a ≡ cutFrom true true pad s
-unfolding cutFrom
-part-start pad a s b q =
-    let l : length (leftBy (isByte pad) s) ≡ length s - a = ap length (sym q) ∙ length-drop a s in
-    omega (arith, l, b)
 
 -- ---- the two calls' answers, by page
 
@@ -93,10 +87,11 @@ module _ (e : Entry) (at : ℕ) (b : Bool) where
       by false = omega arith
 
   pub padded-start : b ≡ flag (e .q) → b ≡ true → (d : Bool) → d ≡ flag (e .p) → d ≡ true → (pad : ℕ) → pad ≡ e .r % 256 → e .r ≤ 255
-      → (a : ℕ) (s u : List ℕ) → s ≡ u → a ≤ length s → drop a s ≡ leftBy (isByte pad) s → at + a ≡ at + cutFrom (flag (e .p)) (flag (e .q)) (e .r) u
-  padded-start i j d v w pad h k a s u m n o =
+      → (a : ℕ) (s u : List ℕ) → s ≡ u → a ≡ leftCount (isByte pad) s → at + a ≡ at + cutFrom (flag (e .p)) (flag (e .q)) (e .r) u
+  unfolding cutFrom
+  padded-start i j d v w pad h k a s u m n =
       let r : pad ≡ e .r = omega (arith, h, k) in
-      ap (λ (x : ℕ). at + x) (part-start pad a s n o) ∙ rw (sym i ∙ j, sym v ∙ w, r, m) refl
+      ap (λ (x : ℕ). at + x) n ∙ rw (sym i ∙ j, sym v ∙ w, r, m) refl
 
 -- a place inside a field is a place inside its slice
 pub within : (at w a : ℕ) (s u : List ℕ) → at + w ≤ length s → u ≡ take w (drop at s) → a ≤ length u → at + a ≤ length s

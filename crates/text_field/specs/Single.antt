@@ -8,7 +8,8 @@ use lib.Dec.{eqb, leb}
 use lib.ListN.{length, take, drop, replicate}
 use denote.Ref.{RefT, now}
 use Rattle.ebcdic.specs.Ebcdic.{fromPage}
-use Rattle.text.specs.Text.{cut, cutFrom, placeIn}
+use Rattle.lists.specs.Part.{placeIn}
+use Rattle.text.specs.Text.{cut, cutFrom}
 use Rattle.layout.specs.declared.Entry.{Entry}
 use Rattle.layout.specs.Layout.{absent, entryAt, entryOk}
 use Rattle.decode_scalar.specs.Decode.{flag, Says, text, says}

@@ -8,7 +8,8 @@ ghost use Prim.Native.Nat.{_+_, _≤_};
 ghost use lib.Dec.{eqb};
 ghost use lib.ListN.{length, take, drop};
 ghost use denote.Ref.{ptr};
-ghost use Rattle.text.specs.Text.{cut, cutFrom, placeIn};
+ghost use Rattle.lists.specs.Part.{placeIn};
+ghost use Rattle.text.specs.Text.{cut, cutFrom};
 ghost use Rattle.decode_scalar.specs.Decode.{flag};
 ghost use Rattle.text_field.specs.Single.{entryOf, textEntry, roomOf, askedOf, textAsks, translatedOf, scratchOf, fieldText, startOf, placeOf};
 

@@ -24,7 +24,7 @@ with-sign-requires c κs = search needs
 returns : tie.Need-returns
 returns c =
     let a = c .before .before .before .before .before .before .args in
-    c .with-sign .ensures ∙ rw (c .before .before .before .sign-at .ensures, c .before .kept-digits .ensures) (decimal-is (fromPage (a .page)) (a .sign) (a .part .now) (c .before .before .before .before .trim .result .now) (c .before .before .strip-separate-sign .result .now) (c .before .before .before .before .trim .ensures) (c .before .before .strip-separate-sign .ensures))
+    c .with-sign .ensures ∙ rw (c .before .before .before .sign-at .ensures, c .before .kept-digits .ensures) (decimal-is (fromPage (a .page)) (a .sign) (a .part .now) (c .before .before .before .before .trim .result .now) (c .before .before .strip-separate-sign .result .now) (c .before .before .before .before .trim .ensures .0) (c .before .before .strip-separate-sign .ensures))
 
 pub parse-display-decimal-spec : {M : Type 1} → statement M
 parse-display-decimal-spec =

@@ -23,7 +23,7 @@ trim-requires-2 c κs = search needs
 returns : tie.Need-returns
 returns c =
     let a = c .before .before .before .before .before .before .args in
-    int-empty (fromPage (a .page)) (a .sign) (a .part .now) (c .before .before .before .before .trim .result .now) (c .before .before .strip-separate-sign .result .now) (c .before .before .before .before .trim .ensures) (c .before .before .strip-separate-sign .ensures) (c .before .trim2 .result .now) (c .before .trim2 .ensures) (c .if1 .taken)
+    int-empty (fromPage (a .page)) (a .sign) (a .part .now) (c .before .before .before .before .trim .result .now) (c .before .before .strip-separate-sign .result .now) (c .before .before .before .before .trim .ensures .0) (c .before .before .strip-separate-sign .ensures) (c .before .trim2 .result .now) (c .before .trim2 .ensures .0) (c .if1 .taken)
 
 is-sign-requires : tie.Need-is-sign-requires
 is-sign-requires c κs = search needs
@@ -34,7 +34,7 @@ digits-in-requires c κs = search needs
 returns-2 : tie.Need-returns-2
 returns-2 c =
     let a = c .before .before .before .before .before .before .before .before .before .args in
-    c .digits-in .ensures ∙ rw (c .before .before .before .before .before .before .sign-at .ensures) (int-taken (fromPage (a .page)) (a .sign) (a .part .now) (c .before .before .before .before .before .before .before .trim .result .now) (c .before .before .before .before .before .strip-separate-sign .result .now) (c .before .before .before .before .before .before .before .trim .ensures) (c .before .before .before .before .before .strip-separate-sign .ensures) (c .before .before .before .before .trim2 .result .now) (c .before .before .before .before .trim2 .ensures) (c .before .before .before .if1 .left) (ap isSign (sym (c .before .before .before .before .before .before .sign-at .ensures)) ∙ sym (c .before .before .is-sign .ensures) ∙ c .before .if2 .taken))
+    c .digits-in .ensures ∙ rw (c .before .before .before .before .before .before .sign-at .ensures) (int-taken (fromPage (a .page)) (a .sign) (a .part .now) (c .before .before .before .before .before .before .before .trim .result .now) (c .before .before .before .before .before .strip-separate-sign .result .now) (c .before .before .before .before .before .before .before .trim .ensures .0) (c .before .before .before .before .before .strip-separate-sign .ensures) (c .before .before .before .before .trim2 .result .now) (c .before .before .before .before .trim2 .ensures .0) (c .before .before .before .if1 .left) (ap isSign (sym (c .before .before .before .before .before .before .sign-at .ensures)) ∙ sym (c .before .before .is-sign .ensures) ∙ c .before .if2 .taken))
 
 whole-of-requires : tie.Need-whole-of-requires
 whole-of-requires c κs = search needs
@@ -42,7 +42,7 @@ whole-of-requires c κs = search needs
 returns-3 : tie.Need-returns-3
 returns-3 c =
     let a = c .before .before .before .before .before .before .before .before .before .args in
-    c .whole-of .ensures ∙ int-plain (fromPage (a .page)) (a .sign) (a .part .now) (c .before .before .before .before .before .before .before .trim .result .now) (c .before .before .before .before .before .strip-separate-sign .result .now) (c .before .before .before .before .before .before .before .trim .ensures) (c .before .before .before .before .before .strip-separate-sign .ensures) (c .before .before .before .before .trim2 .result .now) (c .before .before .before .before .trim2 .ensures) (c .before .before .before .if1 .left) (ap isSign (sym (c .before .before .before .before .before .before .sign-at .ensures)) ∙ sym (c .before .before .is-sign .ensures) ∙ c .before .if2 .left)
+    c .whole-of .ensures ∙ int-plain (fromPage (a .page)) (a .sign) (a .part .now) (c .before .before .before .before .before .before .before .trim .result .now) (c .before .before .before .before .before .strip-separate-sign .result .now) (c .before .before .before .before .before .before .before .trim .ensures .0) (c .before .before .before .before .before .strip-separate-sign .ensures) (c .before .before .before .before .trim2 .result .now) (c .before .before .before .before .trim2 .ensures .0) (c .before .before .before .if1 .left) (ap isSign (sym (c .before .before .before .before .before .before .sign-at .ensures)) ∙ sym (c .before .before .is-sign .ensures) ∙ c .before .if2 .left)
 
 pub parse-display-int-spec : {M : Type 1} → statement M
 parse-display-int-spec =

@@ -29,7 +29,7 @@ returns c =
     let kept = c .before .before .before .before in
     let a = kept .before .before .args in
     let ascii = map (fromPage (a .page)) (a .part .now) in
-    let minus : c .before .is-negative .result ≡ negativeOf (trimmed ascii) = c .before .is-negative .ensures ∙ ap negativeOf (c .before .before .trim .ensures) in
+    let minus : c .before .is-negative .result ≡ negativeOf (trimmed ascii) = c .before .is-negative .ensures ∙ ap negativeOf (c .before .before .trim .ensures .0) in
     rw (c .before .before .before .if1 .taken) (c .with-sign .ensures ∙ (λ i. withSign (minus i) (kept .kept-digits .ensures i)) ∙ kept-signed (negativeOf (trimmed ascii)) ascii)
 
 with-sign-requires-2 : tie.Need-with-sign-requires-2

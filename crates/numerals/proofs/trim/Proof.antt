@@ -1,5 +1,7 @@
+-- `numerals::trim` meets its contract: what the two scans leave is the trimmed text (`trim-is`), and starts behind the blanks at the left end (`trim-from`).
 use Prim.Native.Nat.{_-_}
-use Rattle.numerals.proofs.Reading.{trim-is}
+use Rattle.numerals.proofs.Reading.{trim-is, trim-from}
+use Rattle.lists.proofs.Part.{place-front}
 use borrow.Author.Needs.{needs}
 use Rattle.numerals.proofs.trim.Statement.{statement}
 use Rattle.numerals.proofs.trim.Tie as tie
@@ -29,7 +31,13 @@ part-result-end : tie.Need-part-result-end
 part-result-end c = search needs
 
 returns : tie.Need-returns
-returns c = trim-is (c .before .before .before .before .before .args .page) (c .before .before .before .before .before .args .part .now) (c .before .before .before .blanks-left .result) (c .before .blanks-right .result) (c .before .before .before .blanks-left .ensures .1) (c .before .blanks-right .ensures .1)
+returns c =
+    let a = c .before .before .before .before .before .args in
+    let l = c .before .before .before .blanks-left in
+    let r = c .before .blanks-right in (
+      trim-is (a .page) (a .part .now) (l .result) (r .result) (l .ensures .1) (r .ensures .1),
+      place-front (a .part) (l .result) _ (trim-from (a .page) (a .part .now) (l .result) (l .ensures .0) (l .ensures .1)),
+    )
 
 pub trim-spec : {M : Type 1} → statement M
 trim-spec =

@@ -3,9 +3,11 @@ use mathlib.Core.List.{map}
 use Prim.Native.Nat.{zero, _-_}
 use native.Mathlib.Omega.{arith}
 use lib.ListN.{take}
-use Rattle.text.specs.Text.{cut, placeIn}
+use Rattle.text.specs.Text.{cut}
 use Rattle.ebcdic.specs.Ebcdic.{fromPage}
-use Rattle.text.proofs.Cuts.{right-part, right-from, left-part, place-zero, place-front, from-zero, from-right}
+use Rattle.text.proofs.Cuts.{right-part, right-from, left-part, from-zero, from-right}
+use Rattle.lists.specs.Part.{placeIn}
+use Rattle.lists.proofs.Part.{place-zero, place-front}
 use borrow.Author.Needs.{needs}
 use Rattle.text.proofs.trimmed.Statement.{statement}
 use Rattle.text.proofs.trimmed.Tie as tie
@@ -45,7 +47,7 @@ returns c =
           (c .before .before .before .before .before .onto-page .ensures) (c .before .before .before .pad-start .ensures .1) (c .before .zero-at .ensures .1),
       place-front (a .s) (c .before .before .before .pad-start .result) _
           (right-from (a .page) (a .pad) (omega arith) (a .s .now) (λ k _. omega (arith, c .before .before .before .before .before .before .before .shared-slice-known .given k)) (c .before .before .before .before .before .onto-page .result) (c .before .before .before .pad-start .result)
-          (c .before .before .before .before .before .onto-page .ensures) (c .before .before .before .pad-start .ensures .0) (c .before .before .before .pad-start .ensures .1)),
+          (c .before .before .before .before .before .onto-page .ensures) (c .before .before .before .pad-start .ensures .0)),
     )
 
 pad-end-requires : tie.Need-pad-end-requires

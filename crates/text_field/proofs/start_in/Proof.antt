@@ -36,14 +36,14 @@ pad-start-requires c κs = search needs
 add-result : tie.Need-add-result
 add-result c =
     let a = c .before .before .before .before .before .before .before .before .args in
-    let k : a .at + c .pad-start .result ≤ length (a .s .now) = within (a .at) (a .e .width) (c .pad-start .result) (a .s .now) (c .before .before .field .result .now) (c .before .before .before .before .before .before .before .before .pre .0) (c .before .before .field .ensures .0) (c .pad-start .ensures .0) in
+    let k : a .at + c .pad-start .result ≤ length (a .s .now) = within (a .at) (a .e .width) (c .pad-start .result) (a .s .now) (c .before .before .field .result .now) (c .before .before .before .before .before .before .before .before .pre .0) (c .before .before .field .ensures .0) (omega (arith, c .pad-start .ensures .0)) in
     omega (arith, k)
 
 returns-3 : tie.Need-returns-3
 returns-3 c =
     let a = c .before .before .before .before .before .before .before .before .args in
     padded-start (a .e) (a .at) (c .before .before .before .before .before .before .flag .result) (c .before .before .before .before .before .before .flag .ensures) (not-false _ (c .before .before .before .before .before .if1 .left)) (c .before .before .before .before .flag2 .result) (c .before .before .before .before .flag2 .ensures) (not-false _ (c .before .before .before .if2 .left)) (c .before .low-byte .result) (c .before .low-byte .ensures) (c .before .before .before .before .before .before .before .before .pre .1)
-    (c .pad-start .result) (c .before .before .field .result .now) _ (c .before .before .field .ensures .0) (c .pad-start .ensures .0) (c .pad-start .ensures .1)
+    (c .pad-start .result) (c .before .before .field .result .now) _ (c .before .before .field .ensures .0) (c .pad-start .ensures .0)
 
 pub start-in-spec : {M : Type 1} → statement M
 start-in-spec =

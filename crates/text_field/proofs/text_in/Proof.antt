@@ -6,7 +6,8 @@ use lib.Dec.{eqb}
 use lib.ListN.{take}
 use Rattle.text_field.proofs.Parts.{part-bytes, part-place}
 use Rattle.decode_scalar.specs.Decode.{flag}
-use Rattle.text.specs.Text.{cut, cutFrom, placeIn}
+use Rattle.lists.specs.Part.{placeIn}
+use Rattle.text.specs.Text.{cut, cutFrom}
 use borrow.Author.Needs.{needs}
 use Rattle.text_field.proofs.text_in.Statement.{statement}
 use Rattle.text_field.proofs.text_in.Tie as tie

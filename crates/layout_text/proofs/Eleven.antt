@@ -14,7 +14,7 @@ use Rattle.layout_text.specs.declared.Said.{Said}
 use Rattle.layout_text.specs.Form.{linesOf, isNone, isNumber, optional, maskFor, kindSaid, all, tests, entryLawful, nameWord, offsetWord, widthWord, kindWord, occursWord, dependingWord, spanWord, pWord, qWord, rWord, maskWord}
 use Rattle.layout_text.specs.Reading.{dependingSaid, maskSaid}
 use Rattle.layout_text.specs.Walk.{Here, lineAt, bytesOf, numberIn, optionIn, nameIn, dependingIn, maskIn, Told, Tells}
-use Rattle.layout_text.proofs.Place.{Lined}
+use Rattle.layout_text.proofs.Place.{Lined, here-at}
 use Rattle.layout_text.proofs.Step.{Track, Goes, lined-long}
 use Rattle.layout_text.proofs.Lines.{number-line, option-line, name-line, depending-line, mask-line, number-said, option-said, next-is, number-reach, option-reach, name-reach, depending-reach}
 use Rattle.layout_text.proofs.Values.{line-within, name-is, depending-is, mask-is}
@@ -244,6 +244,9 @@ module _ (text : List ℕ) (at : ℕ) (p0 p1 p2 p3 p4 p5 p6 p7 p8 p9 p10 : Part)
           let e : p10 .end ≡ p10 .start + length (maskSaid l k) = lined-long maskWord text (k * 11 + 1 + 10) (n9 .next) p10 l10 in
           ap (λ (x : Part). x .end - x .start) mask-read ∙ omega (arith, e)
 
+      at-some : at ≡ 0 → ⊥
+      at-some = g0 .back z0
+
       some-place : p5 .start ≡ 0 → ⊥
       some-place x = omega (arith, l5 .start, x)
 
@@ -253,6 +256,7 @@ module _ (text : List ℕ) (at : ℕ) (p0 p1 p2 p3 p4 p5 p6 p7 p8 p9 p10 : Part)
         fine = g10 .track .goes z10 .1;
         here = let e : k * 11 + 1 + 11 ≡ suc k * 11 + 1 = omega arith in subst (λ (i : ℕ). Here text i (n10 .next)) e (g10 .track .goes z10 .0);
         name = ap (λ (x : Part). lineFrom text (x .start)) name-read ∙ l0 .name;
+        name-at = ap (λ (x : Part). x .start) name-read ∙ l0 .start ∙ ap (λ (n : ℕ). n + length nameWord) (here-at text (k * 11 + 1 + 0) at (t0 .goes at-some .0));
         name-inside = omega (arith, ap (λ (x : Part). x .start) name-read, l0 .order, l0 .inside);
         offset = number-said offsetWord text (k * 11 + 1 + 1) (n0 .next) p1 l1 n1 q1;
         width = number-said widthWord text (k * 11 + 1 + 2) (n1 .next) p2 l2 n2 q2;
@@ -260,6 +264,7 @@ module _ (text : List ℕ) (at : ℕ) (p0 p1 p2 p3 p4 p5 p6 p7 p8 p9 p10 : Part)
         occurs = option-said occursWord text (k * 11 + 1 + 4) (n3 .next) p4 l4 (line-within occursWord text (n3 .next) p4 e4) n4 q4;
         none = none-start (dependingSaid l k) (n5 .start) (p5 .start) some-place depending-read;
         depending = λ x. ap (lineFrom text) (some-start (dependingSaid l k) (n5 .start) (p5 .start) x depending-read) ∙ l5 .name;
+        depending-at = λ x. some-start (dependingSaid l k) (n5 .start) (p5 .start) x depending-read ∙ l5 .start ∙ ap (λ (n : ℕ). n + length dependingWord) (here-at text (k * 11 + 1 + 5) (n4 .next) (g4 .track .goes z4 .0));
         depending-inside = omega (arith, start-most (dependingSaid l k) (n5 .start) (p5 .start) depending-read, l5 .order, l5 .inside);
         span = number-said spanWord text (k * 11 + 1 + 6) (n5 .next) p6 l6 n6 q6;
         p = number-said pWord text (k * 11 + 1 + 7) (n6 .next) p7 l7 n7 q7;

@@ -11,5 +11,6 @@ pub mod Words
 pub mod Ranges
 pub mod Answers
 pub mod Sights
+pub mod Starts
 pub mod Storing
 pub mod Spellings

@@ -6,7 +6,7 @@ use Prim.Native.Nat.{ℕ, zero, suc, _+_, _-_, _≤_, _<_, zero-le, suc-le-suc}
 use native.Mathlib.Nat.{not-suc-le-zero, le-of-suc-le-suc}
 use native.Mathlib.Omega.{arith}
 use lib.Dec.{ltb}
-use lib.ListN.{length, drop, getD, length-drop, drop-of-length-le, List·getD-eq-default}
+use lib.ListN.{length, take, drop, getD, length-drop, drop-of-length-le, List·getD-eq-default}
 use lib.Seq.{drop-drop, getD-drop}
 use borrow.Author.Tests.{ltb-true, ltb-false}
 use Rattle.lists.specs.Scan.{beforeBy}
@@ -15,7 +15,7 @@ use Rattle.lines.specs.Lines.{isEnd, lineFrom, endsIn, startsWith, valueAt}
 use Rattle.lines.proofs.Inside.{value-inside, Inside}
 use Rattle.lines.proofs.Laws.{starts-long}
 use Rattle.layout_text.specs.declared.Part.{Part}
-use Rattle.layout_text.specs.Form.{onto, linesOf, ended}
+use Rattle.layout_text.specs.Form.{onto, linesOf, sizeOf, lineStart, ended}
 use Rattle.layout_text.specs.Walk.{Here, bytesOf}
 
 -- ---- a run of bytes up to the first 0x0A
@@ -197,3 +197,40 @@ here-more text i at h k = go (drop at text) (h .rest) (length-drop at text)
         let a : length (drop i (linesOf text)) ≡ length (linesOf text) - i = length-drop i (linesOf text) in
         let b : 1 ≤ length (linesOf (x ∷ r)) = some x r in
         omega (arith, ap length e)
+
+-- ---- where a line starts
+
+size-split : (i : ℕ) (l : List (List ℕ)) → sizeOf (take i l) + sizeOf (drop i l) ≡ sizeOf l
+unfolding sizeOf
+size-split zero l = omega arith
+size-split (suc i) [] = refl
+size-split (suc i) (x ∷ l) = omega (arith, size-split i l)
+
+size-onto : (x : ℕ) (l : List (List ℕ)) → 1 ≤ length l → sizeOf (onto x l) ≡ suc (sizeOf l)
+unfolding sizeOf
+size-onto x [] h = absurd (not-suc-le-zero h)
+size-onto x (y ∷ l) h = omega arith
+
+-- the lines of an ended text take its bytes; those of another, one more
+size-lines : (s : List ℕ) → sizeOf (linesOf s) ≡ length s + cond (ended s) 0 1
+unfolding linesOf ended sizeOf
+size-lines [] = omega arith
+size-lines (x ∷ []) = by (isEnd x)
+  where
+    by : (t : Bool) → sizeOf (cond t ([] ∷ []) ((x ∷ []) ∷ [])) ≡ 1 + cond t 0 1
+    by true = refl
+    by false = refl
+size-lines (x ∷ y ∷ s) = by (isEnd x) (size-lines (y ∷ s))
+  where
+    by : (t : Bool) → sizeOf (linesOf (y ∷ s)) ≡ length (y ∷ s) + cond (ended (y ∷ s)) 0 1
+        → sizeOf (cond t ([] ∷ linesOf (y ∷ s)) (onto x (linesOf (y ∷ s)))) ≡ suc (length (y ∷ s)) + cond (ended (y ∷ s)) 0 1
+    by true e = omega arith
+    by false e = omega (arith, size-onto x (linesOf (y ∷ s)) (some y s))
+
+pub here-at : (text : List ℕ) (i at : ℕ) → Here text i at → at ≡ lineStart (linesOf text) i
+here-at text i at h =
+    let a : sizeOf (take i (linesOf text)) + sizeOf (drop i (linesOf text)) ≡ sizeOf (linesOf text) = size-split i (linesOf text) in
+    let b : sizeOf (linesOf text) ≡ length text + cond (ended text) 0 1 = size-lines text in
+    let c : sizeOf (drop i (linesOf text)) ≡ length (drop at text) + cond (ended text) 0 1 =
+    ap sizeOf (h .rest) ∙ size-lines (drop at text) ∙ ap (λ (t : Bool). length (drop at text) + cond t 0 1) (sym (h .same)) in
+    omega (arith, length-drop at text, h .inside)

@@ -10,7 +10,7 @@ use borrow.Author.Tests.{le-leb, eqb-true}
 use Rattle.layout.specs.declared.Entry.{Entry}
 use Rattle.layout.specs.Layout.{absent, entryAt, allBelow, upTo, plainOk, floatOk, boolOk, editedOk, kindOk, optionOk, placeOk, entryOk, entriesOk}
 use Rattle.lines.specs.Names.{distinct, numberIn}
-use Rattle.lines.proofs.Sight.{place-most, distinct-few}
+use Rattle.lines.proofs.Sight.{index-most, distinct-few}
 use Rattle.layout_text.specs.Form.{countOf, kindSaid}
 use Rattle.layout_text.specs.Reading.{nameSaid, dependingSaid, widthSaid, maskSaid, namesOf, masksBelow, masksOf, orAbsent, maskLong, entrySaid, wordsOf}
 use Rattle.layout_text.specs.Walk.{bareSaid, fineIn}
@@ -37,7 +37,7 @@ all-same f g (suc n) h = λ i. all-same f g n (λ j k. h j (omega arith)) i && h
 -- ---- the numbers of names are in range
 
 pub number-few : (l : List (List ℕ)) (n : List ℕ) → countOf l ≤ 512 → numberIn (namesOf l) n ≤ 1024
-number-few l n h = omega (arith, place-most n (distinct (namesOf l)), distinct-few (namesOf l), names-few l (countOf l))
+number-few l n h = omega (arith, index-most n (distinct (namesOf l)), distinct-few (namesOf l), names-few l (countOf l))
 
 option-ok : (n : ℕ) → n ≤ 65535 → optionOk n ≡ true
 unfolding optionOk

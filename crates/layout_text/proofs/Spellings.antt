@@ -1,23 +1,26 @@
--- The first spelling of a name, by the table of starts.
+-- The first spelling of a name and where it starts, by the table of starts; and how many names there are.
 use mathlib.Core.Path.{_≡_, refl, sym, ap, _∙_}
 use mathlib.Core.Bool.{Bool, true, false, _||_, not, cond, false≢true}
-use mathlib.Core.List.{List, [], _∷_}
+use mathlib.Core.List.{List, [], _∷_, _++_, map}
 use Prim.Native.Nat.{ℕ, zero, suc, _-_, _*_, _/_, _≤_, _<_, min}
 use native.Mathlib.Omega.{arith}
 use lib.Dec.{eqb}
-use lib.ListN.{length, getD, take, length-append, length-take, List·getD-eq-default}
-use lib.Seq.{getD-take}
+use lib.ListN.{length, getD, take, drop, replicate, length-append, length-map, length-take, List·getD-eq-default}
+use lib.Seq.{getD-take, take-append-seam}
 use borrow.Author.Tests.{ne-eqb, eqb-true, eqb-false}
 use Rattle.spans.proofs.Tree.{and-left, and-right}
 use Rattle.layout.specs.Layout.{entryOk}
 use Rattle.layout.proofs.Laws.{all-at}
 use Rattle.layout.proofs.Lawful.{width-lawful}
-use Rattle.lines.specs.Lines.{lineFrom, startsWith, maskOk}
+use Rattle.lists.proofs.Lists.{drop-replicate, zeros-behind}
+use Rattle.lines.specs.Lines.{lineFrom, startIn, startsWith, maskOk}
 use Rattle.lines.specs.Names.{distinct, namesAt}
+use Rattle.lines.proofs.Laws.{start-there}
 use Rattle.lines.proofs.Sight.{getD-map-at, names-long}
 use Rattle.layout_text.specs.declared.LayoutRead.{LayoutRead}
 use Rattle.layout_text.specs.Form.{linesOf, isNone, maskFor, countOf, lineIn, kindSaid, all, tests, entryLawful, lawful, maskWord}
-use Rattle.layout_text.specs.Reading.{widthSaid, maskSaid, namesOf, masksBelow, masksOf, maskLong, textChecked, refusal, readOf, spelling, Spells}
+use Rattle.layout_text.specs.Reading.{widthSaid, maskSaid, namesOf, masksBelow, masksOf, maskLong, textChecked, refusal, readOf, spelling, firstStart, spellingAt, nameCount}
+use Rattle.layout_text.specs.Firsts.{firstsOf, Firsts}
 use Rattle.layout_text.specs.Walk.{bareSaid, fineIn, Lasts}
 use Rattle.layout_text.proofs.Words.{words-long}
 use Rattle.layout_text.proofs.Answers.{Passed, passed, number-read, refusal-place, refusal-other, lasts}
@@ -72,27 +75,72 @@ module _ (text starts : List ℕ) (count number : ℕ) where
   pub name-none : min count (length starts) ≤ number → [] ≡ getD (namesAt text starts count) number []
   name-none h = sym (List·getD-eq-default (namesAt text starts count) [] {n = number} (omega (arith, names-long text starts count)))
 
+  pub start-none : min count (length starts) ≤ number → 0 ≡ startIn text (getD (take count starts) number 0)
+  start-none h =
+      let z : getD (take count starts) number 0 ≡ 0 = List·getD-eq-default (take count starts) 0 {n = number} (omega (arith, length-take count starts)) in
+      start-there text 0 (omega arith) ∙ ap (startIn text) (sym z)
+
   pub name-there : number < count → number < length starts → lineFrom text (getD starts number 0) ≡ getD (namesAt text starts count) number []
   name-there a l =
       let t : length (take count starts) ≡ min count (length starts) = length-take count starts in
       sym (getD-map-at (lineFrom text) (take count starts) number 0 (omega arith) ∙ ap (lineFrom text) (getD-take count starts number 0 a))
 
--- ---- the first spelling
+-- ---- the table that the pass over a text makes
 
-pub spelled-there : (text : List ℕ) (number : ℕ) (r : LayoutRead) → r ≡ readOf text 18446744073709551615 18446744073709551615 → r .number ≡ 0 → getD (distinct (namesOf (linesOf text))) number [] ≡ spelling text number
-unfolding spelling
-spelled-there text number r e z = rw (sym (number-read text 18446744073709551615 18446744073709551615 r e ∙ room-enough text) ∙ z) refl
+module _ {text starts : List ℕ} (starts₀ : List ℕ) {count : ℕ} (e : count ≡ length (firstsOf text)) (q : starts ≡ firstsOf text ++ drop (length (firstsOf text)) starts₀) (f : Firsts text) where
+  table-is : take count starts ≡ firstsOf text
+  table-is = rw (e, q) (take-append-seam (firstsOf text) (drop (length (firstsOf text)) starts₀))
 
-pub spelled-not : (text : List ℕ) (number : ℕ) (r : LayoutRead) → r ≡ readOf text 18446744073709551615 18446744073709551615 → (r .number ≡ 0 → ⊥) → [] ≡ spelling text number
-unfolding spelling
-spelled-not text number r e z = rw (ne-eqb (textChecked text) 0 (λ x. z (number-read text 18446744073709551615 18446744073709551615 r e ∙ room-enough text ∙ x))) refl
+  pub table-names : namesAt text starts count ≡ distinct (namesOf (linesOf text))
+  table-names = ap (map (lineFrom text)) table-is ∙ f .names
 
--- the whole table
-pub spells-not : (text starts : List ℕ) (r : LayoutRead) → r ≡ readOf text 18446744073709551615 18446744073709551615 → (r .number ≡ 0 → ⊥) → Spells text starts 0
-spells-not text starts r e z number = spelled-not text number r e z
+  pub table-count : count ≡ length (distinct (namesOf (linesOf text)))
+  table-count = e ∙ sym (length-map (firstsOf text) (lineFrom text)) ∙ ap length (f .names)
 
-pub spells-there : (text starts : List ℕ) (seen : ℕ) (r : LayoutRead) → r ≡ readOf text 18446744073709551615 18446744073709551615 → r .number ≡ 0 → namesAt text starts seen ≡ distinct (namesOf (linesOf text)) → Spells text starts seen
-spells-there text starts seen r e z n number = ap (λ (l : List (List ℕ)). getD l number []) n ∙ spelled-there text number r e z
+  pub table-place : (number : ℕ) → startIn text (getD (take count starts) number 0) ≡ firstStart (linesOf text) number
+  table-place number = ap (λ (s : List ℕ). startIn text (getD s number 0)) table-is ∙ sym (start-there text (getD (firstsOf text) number 0) (f .inside number)) ∙ f .places number
 
-pub names-last : (text : List ℕ) (r : LayoutRead) → r ≡ readOf text 18446744073709551615 18446744073709551615 → r .number ≡ 0 → length text < 4294967296 → Lasts text (r .words / 12)
-names-last text r e z s = lasts text 18446744073709551615 18446744073709551615 (sym (number-read text 18446744073709551615 18446744073709551615 r e) ∙ z) r e s
+  pub table-cells : (n : ℕ) → starts₀ ≡ replicate n 0 → (number : ℕ) → getD starts number 0 ≡ firstStart (linesOf text) number
+  table-cells n z number =
+      rw (q, z, drop-replicate) (zeros-behind (firstsOf text) (n - length (firstsOf text)) number ∙ f .places number)
+
+-- ---- the first spelling, where it starts, and how many names there are
+
+module _ (text : List ℕ) (r : LayoutRead) (e : r ≡ readOf text 18446744073709551615 18446744073709551615) where
+  asked : r .number ≡ textChecked text
+  asked = number-read text 18446744073709551615 18446744073709551615 r e ∙ room-enough text
+
+  module _ (z : r .number ≡ 0) where
+    pub spelled-there : (number : ℕ) → getD (distinct (namesOf (linesOf text))) number [] ≡ spelling text number
+    unfolding spelling
+    spelled-there number = rw (sym asked ∙ z) refl
+
+    pub place-there : (number : ℕ) → firstStart (linesOf text) number ≡ spellingAt text number
+    unfolding spellingAt
+    place-there number = rw (sym asked ∙ z) refl
+
+    pub count-there : length (distinct (namesOf (linesOf text))) ≡ nameCount text
+    unfolding nameCount
+    count-there = rw (sym asked ∙ z) refl
+
+    pub names-last : length text < 4294967296 → Lasts text (r .words / 12)
+    names-last s = lasts text 18446744073709551615 18446744073709551615 (sym (number-read text 18446744073709551615 18446744073709551615 r e) ∙ z) r e s
+
+  module _ (z : r .number ≡ 0 → ⊥) where
+    refused : eqb (textChecked text) 0 ≡ false
+    refused = ne-eqb (textChecked text) 0 (λ x. z (asked ∙ x))
+
+    pub spelled-not : (number : ℕ) → [] ≡ spelling text number
+    unfolding spelling
+    spelled-not number = rw refused refl
+
+    pub place-not : (number : ℕ) → 0 ≡ spellingAt text number
+    unfolding spellingAt
+    place-not number = rw refused refl
+
+    pub count-not : 0 ≡ nameCount text
+    unfolding nameCount
+    count-not = rw refused refl
+
+    pub cells-not : (starts : List ℕ) (n : ℕ) → starts ≡ replicate n 0 → (number : ℕ) → getD starts number 0 ≡ spellingAt text number
+    cells-not starts n q number = ap (λ (s : List ℕ). getD s number 0) q ∙ zeros-behind [] n number ∙ place-not number

@@ -1,7 +1,7 @@
 -- The words, the names and the masks of a text's entries.
 use mathlib.Core.Path.{_≡_, refl, sym, ap, _∙_, subst}
 use mathlib.Core.Bool.{Bool, true, false, cond}
-use mathlib.Core.List.{List, [], _∷_, _++_, append-assoc, append-nil}
+use mathlib.Core.List.{List, [], _∷_, _++_, append-assoc, append-nil, map-append}
 use Prim.Native.Nat.{ℕ, zero, suc, _+_, _-_, _*_, _≤_, _<_}
 use native.Mathlib.Nat.{not-suc-le-zero}
 use native.Mathlib.Omega.{arith}
@@ -13,8 +13,8 @@ use Rattle.layout.specs.Layout.{entryAt, entryCount}
 use Rattle.layout.proofs.Judged.{entry-of}
 use Rattle.lines.specs.Names.{sameName, distinct, numberIn}
 use Rattle.lines.proofs.Sight.{number-sight, same-number}
-use Rattle.layout_text.specs.Form.{isNone, countOf}
-use Rattle.layout_text.specs.Reading.{nameSaid, dependingSaid, namesIn, namesBelow, namesOf, maskSaid, masksBelow, entrySaid, twelve, wordsBelow}
+use Rattle.layout_text.specs.Form.{isNone, countOf, valueStart, dependingWord}
+use Rattle.layout_text.specs.Reading.{Sight, sightsIn, sightsBelow, nameSaid, dependingSaid, namesIn, namesOf, maskSaid, masksBelow, entrySaid, twelve, wordsBelow}
 
 pub words-long : (l : List (List ℕ)) (k : ℕ) → length (wordsBelow l k) ≡ k * 12
 unfolding wordsBelow twelve
@@ -52,32 +52,46 @@ entry-words l n k h =
 
 -- ---- names
 
-names-in-few : (l : List (List ℕ)) (k : ℕ) → length (namesIn l k) ≤ 2
-names-in-few l k = by (isNone (dependingSaid l k))
+abbrev pub namesBelow : List (List ℕ) → ℕ → List (List ℕ)
+namesBelow l k = namesIn (sightsBelow l k)
+
+-- the names of the k-th entry
+abbrev pub namesSaid : List (List ℕ) → ℕ → List (List ℕ)
+namesSaid l k = nameSaid l k ∷ cond (isNone (dependingSaid l k)) [] (dependingSaid l k ∷ [])
+
+pub names-suc : (l : List (List ℕ)) (k : ℕ) → namesBelow l (suc k) ≡ namesBelow l k ++ namesSaid l k
+unfolding sightsBelow
+names-suc l k = map-append (λ (s : Sight). s .name) (sightsBelow l k) (sightsIn l k) ∙ ap (λ (x : List (List ℕ)). namesBelow l k ++ (nameSaid l k ∷ x)) (by (isNone (dependingSaid l k)))
+  where
+    by : (t : Bool) → namesIn (cond t [] (record { name = dependingSaid l k; at = valueStart dependingWord l k 5 } ∷ [])) ≡ cond t [] (dependingSaid l k ∷ [])
+    by true = refl
+    by false = refl
+
+names-said-few : (l : List (List ℕ)) (k : ℕ) → length (namesSaid l k) ≤ 2
+names-said-few l k = by (isNone (dependingSaid l k))
   where
     by : (t : Bool) → suc (length (cond t [] (dependingSaid l k ∷ []))) ≤ 2
     by true = omega arith
     by false = omega arith
 
 pub names-few : (l : List (List ℕ)) (k : ℕ) → length (namesBelow l k) ≤ k * 2
-unfolding namesBelow
+unfolding sightsBelow
 names-few l zero = omega arith
-names-few l (suc k) = omega (arith, length-append (namesBelow l k) (namesIn l k), names-few l k, names-in-few l k)
+names-few l (suc k) = omega (arith, ap length (names-suc l k), length-append (namesBelow l k) (namesSaid l k), names-few l k, names-said-few l k)
 
 -- the names of the k-th entry stand behind those of the entries before it
-pub names-from : (l : List (List ℕ)) (n k : ℕ) → k < n → ((more : List (List ℕ)) × (namesBelow l n ≡ namesBelow l k ++ (namesIn l k ++ more)))
-unfolding namesBelow
+pub names-from : (l : List (List ℕ)) (n k : ℕ) → k < n → ((more : List (List ℕ)) × (namesBelow l n ≡ namesBelow l k ++ (namesSaid l k ++ more)))
 names-from l zero k h = absurd (not-suc-le-zero h)
 names-from l (suc n) k h = by (ltb k n) refl (λ a. names-from l n k a)
   where
-    by : (t : Bool) → ltb k n ≡ t → (k < n → ((more : List (List ℕ)) × (namesBelow l n ≡ namesBelow l k ++ (namesIn l k ++ more))))
-        → ((more : List (List ℕ)) × (namesBelow l n ++ namesIn l n ≡ namesBelow l k ++ (namesIn l k ++ more)))
+    by : (t : Bool) → ltb k n ≡ t → (k < n → ((more : List (List ℕ)) × (namesBelow l n ≡ namesBelow l k ++ (namesSaid l k ++ more))))
+        → ((more : List (List ℕ)) × (namesBelow l (suc n) ≡ namesBelow l k ++ (namesSaid l k ++ more)))
     by true q ih =
         let r = ih (ltb-true k n q) in
-        (r .0 ++ namesIn l n, ap (λ (x : List (List ℕ)). x ++ namesIn l n) (r .1) ∙ simp append-assoc)
+        (r .0 ++ namesSaid l n, names-suc l n ∙ ap (λ (x : List (List ℕ)). x ++ namesSaid l n) (r .1) ∙ simp append-assoc)
     by false q ih =
         let e : n ≡ k = omega (arith, ltb-false k n q) in
-        ([], ap (λ (m : ℕ). namesBelow l m ++ namesIn l m) e ∙ ap (λ (x : List (List ℕ)). namesBelow l k ++ x) (sym (append-nil (namesIn l k))))
+        ([], ap (λ (m : ℕ). namesBelow l (suc m)) e ∙ names-suc l k ∙ ap (λ (x : List (List ℕ)). namesBelow l k ++ x) (sym (append-nil (namesSaid l k))))
 
 -- ---- masks
 

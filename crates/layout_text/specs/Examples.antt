@@ -1,15 +1,16 @@
 -- Worked examples, by computation.
 use mathlib.Core.Path.{_≡_, refl}
-use mathlib.Core.Bool.{Bool, true, false}
+use mathlib.Core.Bool.{true}
 use mathlib.Core.List.{List, [], _∷_, _++_}
 use Prim.Native.Nat.{ℕ}
 use Rattle.lists.specs.Scan.{everyBy}
 use Rattle.spans.specs.Tree.{tree, treeIn, size, nested}
 use Rattle.layout.specs.Layout.{absent, entryAt, allBelow, wordsOk, upTo, plainOk, editedOk, kindOk, optionOk, placeOk, entryOk, entriesOk, spansOk}
 use Rattle.lines.specs.Lines.{startsWith, numberOf}
-use Rattle.lines.specs.Names.{equal, placeIn}
-use Rattle.layout_text.specs.Form.{linesOf, ended, all, entryLawful, lawful, pageWord, nameWord, offsetWord, widthWord, kindWord, occursWord, dependingWord, spanWord, pWord, qWord, rWord, maskWord}
-use Rattle.layout_text.specs.Reading.{namesBelow, masksBelow, entrySaid, twelve, wordsBelow, wordsOf, masksOf, textChecked, refusal, spelling}
+use lib.ListN.{length}
+use Rattle.lines.specs.Names.{equal, indexIn, distinct}
+use Rattle.layout_text.specs.Form.{linesOf, sizeOf, ended, all, entryLawful, lawful, pageWord, nameWord, offsetWord, widthWord, kindWord, occursWord, dependingWord, spanWord, pWord, qWord, rWord, maskWord}
+use Rattle.layout_text.specs.Reading.{sightsBelow, masksBelow, entrySaid, twelve, wordsBelow, wordsOf, masksOf, textChecked, refusal, spelling, namesOf, firstAt, firstStart}
 
 abbrev line : List ℕ → List ℕ → List ℕ
 line word value = word ++ (value ++ (0x0A ∷ []))
@@ -57,7 +58,7 @@ text-words : wordsOf (linesOf text)
     ≡ 0 ∷ 0 ∷ 2 ∷ 1 ∷ absent ∷ absent ∷ 1 ∷ 0 ∷ 0 ∷ 0 ∷ 0 ∷ 0
     ∷ 1 ∷ 0 ∷ 2 ∷ 7 ∷ 5 ∷ 0 ∷ 1 ∷ 1 ∷ 0 ∷ 1 ∷ 2 ∷ 0
     ∷ 2 ∷ 0 ∷ 2 ∷ 8 ∷ absent ∷ absent ∷ 1 ∷ 0 ∷ 0 ∷ 0 ∷ 0 ∷ 0 ∷ []
-unfolding wordsBelow twelve entrySaid namesBelow masksBelow linesOf numberOf everyBy placeIn equal
+unfolding wordsBelow twelve entrySaid sightsBelow masksBelow linesOf numberOf everyBy indexIn equal
 text-words = refl
 
 text-masks : masksOf (linesOf text) ≡ 0x39 ∷ 0x2D ∷ []
@@ -65,16 +66,16 @@ unfolding masksBelow linesOf
 text-masks = refl
 
 text-accepted : refusal text 36 2 ≡ 0
-unfolding refusal textChecked lawful all ended linesOf entryLawful allBelow startsWith numberOf everyBy wordsBelow twelve entrySaid namesBelow masksBelow placeIn equal wordsOk entriesOk entryOk placeOk optionOk kindOk plainOk editedOk upTo spansOk nested size tree treeIn entryAt
+unfolding refusal textChecked lawful all ended linesOf entryLawful allBelow startsWith numberOf everyBy wordsBelow twelve entrySaid sightsBelow masksBelow indexIn equal wordsOk entriesOk entryOk placeOk optionOk kindOk plainOk editedOk upTo spansOk nested size tree treeIn entryAt
 text-accepted = refl
 
 -- place for 36 words and for 2 mask bytes
 no-place : refusal text 35 2 ≡ 16
-unfolding refusal textChecked lawful all ended linesOf entryLawful allBelow startsWith numberOf everyBy wordsBelow twelve entrySaid namesBelow masksBelow placeIn equal wordsOk entriesOk entryOk placeOk optionOk kindOk plainOk editedOk upTo spansOk nested size tree treeIn entryAt
+unfolding refusal textChecked lawful all ended linesOf entryLawful allBelow startsWith numberOf everyBy wordsBelow twelve entrySaid sightsBelow masksBelow indexIn equal wordsOk entriesOk entryOk placeOk optionOk kindOk plainOk editedOk upTo spansOk nested size tree treeIn entryAt
 no-place = refl
 
 no-mask-place : refusal text 36 1 ≡ 16
-unfolding refusal textChecked lawful all ended linesOf entryLawful allBelow startsWith numberOf everyBy wordsBelow twelve entrySaid namesBelow masksBelow placeIn equal wordsOk entriesOk entryOk placeOk optionOk kindOk plainOk editedOk upTo spansOk nested size tree treeIn entryAt
+unfolding refusal textChecked lawful all ended linesOf entryLawful allBelow startsWith numberOf everyBy wordsBelow twelve entrySaid sightsBelow masksBelow indexIn equal wordsOk entriesOk entryOk placeOk optionOk kindOk plainOk editedOk upTo spansOk nested size tree treeIn entryAt
 no-mask-place = refl
 
 -- no entries; the last line not ended; a line too many; nothing at all
@@ -100,7 +101,7 @@ unfolding refusal textChecked lawful all ended linesOf entryLawful allBelow star
 other-page = refl
 
 short-mask : refusal (line pageWord d0 ++ entry (0x41 ∷ []) d2 d8 [] [] d0 d0 (0x39 ∷ [])) 0 0 ≡ 2
-unfolding refusal textChecked lawful all ended linesOf entryLawful allBelow startsWith numberOf everyBy wordsBelow twelve entrySaid namesBelow masksBelow placeIn equal wordsOk entriesOk entryOk placeOk optionOk kindOk editedOk upTo entryAt
+unfolding refusal textChecked lawful all ended linesOf entryLawful allBelow startsWith numberOf everyBy wordsBelow twelve entrySaid sightsBelow masksBelow indexIn equal wordsOk entriesOk entryOk placeOk optionOk kindOk editedOk upTo entryAt
 short-mask = refl
 
 masked-text : refusal (line pageWord d0 ++ entry (0x41 ∷ []) d2 d0 [] [] d0 d0 (0x39 ∷ 0x39 ∷ [])) 0 0 ≡ 17
@@ -109,13 +110,30 @@ masked-text = refl
 
 -- the first spelling of number 0 is N, of 2 it is A, and 3 is nobody's number
 first-name : spelling text 0 ≡ 0x4E ∷ []
-unfolding spelling textChecked lawful all ended linesOf entryLawful allBelow startsWith numberOf everyBy wordsBelow twelve entrySaid namesBelow masksBelow placeIn equal wordsOk entriesOk entryOk placeOk optionOk kindOk plainOk editedOk upTo spansOk nested size tree treeIn entryAt
+unfolding spelling textChecked lawful all ended linesOf entryLawful allBelow startsWith numberOf everyBy wordsBelow twelve entrySaid sightsBelow masksBelow indexIn equal wordsOk entriesOk entryOk placeOk optionOk kindOk plainOk editedOk upTo spansOk nested size tree treeIn entryAt
 first-name = refl
 
 last-name : spelling text 2 ≡ 0x41 ∷ []
-unfolding spelling textChecked lawful all ended linesOf entryLawful allBelow startsWith numberOf everyBy wordsBelow twelve entrySaid namesBelow masksBelow placeIn equal wordsOk entriesOk entryOk placeOk optionOk kindOk plainOk editedOk upTo spansOk nested size tree treeIn entryAt
+unfolding spelling textChecked lawful all ended linesOf entryLawful allBelow startsWith numberOf everyBy wordsBelow twelve entrySaid sightsBelow masksBelow indexIn equal wordsOk entriesOk entryOk placeOk optionOk kindOk plainOk editedOk upTo spansOk nested size tree treeIn entryAt
 last-name = refl
 
 no-name : spelling text 3 ≡ []
-unfolding spelling textChecked lawful all ended linesOf entryLawful allBelow startsWith numberOf everyBy wordsBelow twelve entrySaid namesBelow masksBelow placeIn equal wordsOk entriesOk entryOk placeOk optionOk kindOk plainOk editedOk upTo spansOk nested size tree treeIn entryAt
+unfolding spelling textChecked lawful all ended linesOf entryLawful allBelow startsWith numberOf everyBy wordsBelow twelve entrySaid sightsBelow masksBelow indexIn equal wordsOk entriesOk entryOk placeOk optionOk kindOk plainOk editedOk upTo spansOk nested size tree treeIn entryAt
 no-name = refl
+
+-- these start behind `name=` of the first and of the third entry: n, which the second depends on, is no first spelling; three names
+first-start : firstStart (linesOf text) 0 ≡ 12
+unfolding firstAt sightsBelow linesOf sizeOf indexIn equal
+first-start = refl
+
+last-start : firstStart (linesOf text) 2 ≡ 165
+unfolding firstAt sightsBelow linesOf sizeOf indexIn equal
+last-start = refl
+
+no-start : firstStart (linesOf text) 3 ≡ 0
+unfolding firstAt sightsBelow linesOf sizeOf indexIn equal
+no-start = refl
+
+three-names : length (distinct (namesOf (linesOf text))) ≡ 3
+unfolding sightsBelow linesOf indexIn equal
+three-names = refl

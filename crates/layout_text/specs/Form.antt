@@ -1,9 +1,9 @@
 -- "As text (layout.txt): `page=` and its number, then per entry eleven lines `word=value`, each ended by 0x0A": which texts are lawful.
 use mathlib.Core.Bool.{Bool, true, false, _&&_, _||_, cond}
 use mathlib.Core.List.{List, [], _∷_}
-use Prim.Native.Nat.{ℕ, _+_, _*_, _/_, _%_}
+use Prim.Native.Nat.{ℕ, suc, _+_, _*_, _/_, _%_}
 use lib.Dec.{eqb}
-use lib.ListN.{length, drop, getD}
+use lib.ListN.{length, take, drop, getD}
 use Rattle.layout.specs.Layout.{allBelow}
 use Rattle.lines.specs.declared.Parsed.{Parsed}
 use Rattle.lines.specs.declared.Parsed.the-variants.{Value, Bad}
@@ -18,6 +18,15 @@ onto x (l ∷ ls) = (x ∷ l) ∷ ls
 unfoldable pub linesOf : List ℕ → List (List ℕ)
 linesOf [] = []
 linesOf (x ∷ s) = cond (isEnd x) ([] ∷ linesOf s) (onto x (linesOf s))
+
+-- how many bytes lines take, each with the 0x0A that ends it
+unfoldable pub sizeOf : List (List ℕ) → ℕ
+sizeOf [] = 0
+sizeOf (x ∷ l) = suc (length x) + sizeOf l
+
+-- where the i-th line starts: behind the lines before it
+abbrev pub lineStart : List (List ℕ) → ℕ → ℕ
+lineStart l i = sizeOf (take i l)
 
 -- "each ended by 0x0A": the last byte, if there is one, is 0x0A
 unfoldable pub ended : List ℕ → Bool
@@ -111,6 +120,10 @@ countOf l = length l / 11
 
 abbrev pub lineIn : List (List ℕ) → ℕ → ℕ → List ℕ
 lineIn l k j = getD l (k * 11 + 1 + j) []
+
+-- where its value starts, behind its word
+abbrev pub valueStart : List ℕ → List (List ℕ) → ℕ → ℕ → ℕ
+valueStart word l k j = lineStart l (k * 11 + 1 + j) + length word
 
 abbrev pub kindSaid : List (List ℕ) → ℕ → ℕ
 kindSaid l k = worth (numberOf (drop (length kindWord) (lineIn l k 3)))

@@ -2,4 +2,5 @@
 pub mod Form
 pub mod Reading
 pub mod Walk
+pub mod Firsts
 pub mod Examples

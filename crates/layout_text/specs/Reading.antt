@@ -1,8 +1,8 @@
 -- What a lawful text says: its entries' words and its masks; and what a reader of it answers.
 use mathlib.Core.Path.{_≡_}
-use mathlib.Core.Bool.{Bool, true, false, _&&_, _||_, not, cond}
-use mathlib.Core.List.{List, [], _∷_, _++_}
-use Prim.Native.Nat.{ℕ, zero, suc, _+_, _-_, _*_, _/_, _%_}
+use mathlib.Core.Bool.{Bool, _&&_, _||_, not, cond}
+use mathlib.Core.List.{List, [], _∷_, _++_, map}
+use Prim.Native.Nat.{ℕ, zero, suc, _+_, _-_, _/_, _%_}
 use lib.Dec.{eqb, leb}
 use lib.ListN.{length, drop, getD, replicate}
 use Rattle.layout.specs.declared.Entry.{Entry}
@@ -10,7 +10,8 @@ use Rattle.layout.specs.Layout.{absent, allBelow, wordsOk, entriesOk, spansOk}
 use Rattle.lines.specs.Lines.{numberOf}
 use Rattle.lines.specs.Names.{distinct, numberIn, namesAt}
 use Rattle.layout_text.specs.declared.LayoutRead.{LayoutRead}
-use Rattle.layout_text.specs.Form.{linesOf, nameWord, offsetWord, widthWord, kindWord, occursWord, dependingWord, spanWord, pWord, qWord, rWord, maskWord, pageWord, isNone, worth, countOf, lineIn, kindSaid, lawful}
+use Rattle.layout_text.specs.Form.{linesOf, nameWord, offsetWord, widthWord, occursWord, dependingWord, spanWord, pWord}
+use Rattle.layout_text.specs.Form.{qWord, rWord, maskWord, pageWord, isNone, worth, countOf, lineIn, valueStart, kindSaid, lawful}
 
 -- ---- the values of the k-th entry
 
@@ -41,16 +42,30 @@ maskSaid l k = drop (length maskWord) (lineIn l k 10)
 
 -- ---- names: "Name numbers follow first sight, from 0." Both `name=` and `depending=` lines are sights, in the order of the text.
 
-abbrev pub namesIn : List (List ℕ) → ℕ → List (List ℕ)
-namesIn l k = nameSaid l k ∷ cond (isNone (dependingSaid l k)) [] (dependingSaid l k ∷ [])
+-- a sight of a name: how it is spelled, and where that starts in the text
+pub record Sight : Type 0 where
+  pub name : List ℕ
+  pub at : ℕ
 
--- the names in the first k entries, and in all
-unfoldable pub namesBelow : List (List ℕ) → ℕ → List (List ℕ)
-namesBelow l zero = []
-namesBelow l (suc k) = namesBelow l k ++ namesIn l k
+abbrev pub sightsIn : List (List ℕ) → ℕ → List Sight
+sightsIn l k =
+    record { name = nameSaid l k; at = valueStart nameWord l k 0 }
+    ∷ cond (isNone (dependingSaid l k)) [] (record { name = dependingSaid l k; at = valueStart dependingWord l k 5 } ∷ [])
+
+-- the sights in the first k entries, and in all
+unfoldable pub sightsBelow : List (List ℕ) → ℕ → List Sight
+sightsBelow l zero = []
+sightsBelow l (suc k) = sightsBelow l k ++ sightsIn l k
+
+abbrev pub sightsOf : List (List ℕ) → List Sight
+sightsOf l = sightsBelow l (countOf l)
+
+-- the names alone
+abbrev pub namesIn : List Sight → List (List ℕ)
+namesIn sights = map (λ s. s .name) sights
 
 abbrev pub namesOf : List (List ℕ) → List (List ℕ)
-namesOf l = namesBelow l (countOf l)
+namesOf l = namesIn (sightsOf l)
 
 -- ---- masks: "packed in entry order"
 
@@ -146,6 +161,23 @@ buffer number used size = cond (eqb number 0) (used ++ replicate (size - length 
 -- the first spelling of the name with a number; nothing where the text is refused by 17, 1, 2 or 3, or where no name has the number
 unfoldable pub spelling : List ℕ → ℕ → List ℕ
 spelling text number = cond (eqb (textChecked text) 0) (getD (distinct (namesOf (linesOf text))) number []) []
+
+-- where the first of these sights whose name has a number starts; 0 where none has it
+unfoldable pub firstAt : (List ℕ → ℕ) → ℕ → List Sight → ℕ
+firstAt numbered number [] = 0
+firstAt numbered number (s ∷ sights) = cond (eqb (numbered (s .name)) number) (s .at) (firstAt numbered number sights)
+
+-- where the first spelling of the name with a number starts, by a text's lines
+abbrev pub firstStart : List (List ℕ) → ℕ → ℕ
+firstStart l number = firstAt (numberIn (namesOf l)) number (sightsOf l)
+
+-- the same by the text; 0 where it has no such spelling
+unfoldable pub spellingAt : List ℕ → ℕ → ℕ
+spellingAt text number = cond (eqb (textChecked text) 0) (firstStart (linesOf text) number) 0
+
+-- how many different names a text has; 0 where it is refused by 17, 1, 2 or 3
+unfoldable pub nameCount : List ℕ → ℕ
+nameCount text = cond (eqb (textChecked text) 0) (length (distinct (namesOf (linesOf text)))) 0
 
 -- a table of where the names of a text start, by number: each of its first `count` starts points at the first spelling of a name, and no name has another number
 abbrev pub Spells : List ℕ → List ℕ → ℕ → Type 0

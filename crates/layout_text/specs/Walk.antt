@@ -1,7 +1,7 @@
 -- How the passes walk over a text: line by line, by positions. Only inner functions cite this file.
 use mathlib.Core.Path.{_≡_}
 use mathlib.Core.Bool.{Bool, true, false, _&&_, _||_, not, cond}
-use mathlib.Core.List.{List, [], _∷_}
+use mathlib.Core.List.{List, []}
 use Prim.Native.Nat.{ℕ, suc, _+_, _-_, _*_, _≤_, _<_}
 use lib.Dec.{eqb, leb}
 use lib.ListN.{length, take, drop, getD}
@@ -18,8 +18,10 @@ use Rattle.layout_text.specs.declared.Number.{Number}
 use Rattle.layout_text.specs.declared.Said.{Said}
 use Rattle.layout_text.specs.declared.LayoutRead.{LayoutRead}
 use Rattle.layout_text.specs.declared.Judged.{Judged}
-use Rattle.layout_text.specs.Form.{linesOf, ended, isNone, isNumber, says, lineIn, countOf, kindSaid, entryLawful, lawful, pageWord, offsetWord, widthWord, kindWord, occursWord, spanWord, pWord, qWord, rWord}
-use Rattle.layout_text.specs.Reading.{numberSaid, orAbsent, nameSaid, occursSaid, dependingSaid, widthSaid, rSaid, maskSaid, scaleOf, precisionOf, maskWordOf, masksBelow, masksOf, maskLong, pageOf}
+use Rattle.layout_text.specs.Form.{linesOf, ended, isNone, isNumber, says, lineIn, valueStart, countOf, kindSaid, entryLawful, lawful, pageWord}
+use Rattle.layout_text.specs.Form.{nameWord, dependingWord, offsetWord, occursWord, spanWord, pWord, qWord}
+use Rattle.layout_text.specs.Reading.{numberSaid, orAbsent, nameSaid, occursSaid, dependingSaid, widthSaid, rSaid, maskSaid}
+use Rattle.layout_text.specs.Reading.{scaleOf, precisionOf, maskWordOf, masksOf, maskLong, pageOf}
 
 -- position `at` is where the i-th line of a text starts, or its end behind the last
 pub record Here (text : List ℕ) (i at : ℕ) : Type 0 where
@@ -81,6 +83,7 @@ pub record Told (text : List ℕ) (k at : ℕ) (s : Said) : Type 0 where
   pub fine : entryLawful (linesOf text) k ≡ true
   pub here : Here text (suc k * 11 + 1) (s .next)
   pub name : lineFrom text (s .name) ≡ nameSaid (linesOf text) k
+  pub name-at : s .name ≡ valueStart nameWord (linesOf text) k 0
   pub name-inside : s .name < length text
   pub offset : s .offset ≡ numberSaid offsetWord (lineIn (linesOf text) k 1)
   pub width : s .width ≡ widthSaid (linesOf text) k
@@ -88,6 +91,7 @@ pub record Told (text : List ℕ) (k at : ℕ) (s : Said) : Type 0 where
   pub occurs : s .occurs ≡ orAbsent (occursSaid (linesOf text) k) (numberSaid occursWord (lineIn (linesOf text) k 4))
   pub none : eqb (s .depending) 0 ≡ isNone (dependingSaid (linesOf text) k)
   pub depending : (s .depending ≡ 0 → ⊥) → lineFrom text (s .depending) ≡ dependingSaid (linesOf text) k
+  pub depending-at : (s .depending ≡ 0 → ⊥) → s .depending ≡ valueStart dependingWord (linesOf text) k 5
   pub depending-inside : s .depending < length text
   pub span : s .span ≡ numberSaid spanWord (lineIn (linesOf text) k 6)
   pub p : s .p ≡ numberSaid pWord (lineIn (linesOf text) k 7)

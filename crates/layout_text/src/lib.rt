@@ -13,15 +13,20 @@ use spans::end_of;
 ghost use mathlib.Core.Path.{_≡_};
 ghost use mathlib.Core.Bool.{true, _&&_, cond};
 ghost use mathlib.Core.List.{[], _++_};
-ghost use Prim.Native.Nat.{_+_, _*_, _≤_, _<_, min};
+ghost use Prim.Native.Nat.{ℕ, _+_, _*_, _≤_, _<_, min};
 ghost use lib.Dec.{eqb};
 ghost use lib.ListN.{length, getD, take, drop, set, replicate};
 ghost use Rattle.layout.specs.Layout.{absent};
-ghost use Rattle.lines.specs.Lines.{lineFrom, IsPart};
-ghost use Rattle.lines.specs.Names.{placeIn, see, distinct, namesAt};
+ghost use denote.Ref.{ptr};
+ghost use Rattle.lists.specs.Part.{placeIn};
+ghost use Rattle.lines.specs.Lines.{lineFrom, startIn};
+ghost use Rattle.lines.specs.Names.{indexIn, see, distinct, namesAt};
 ghost use Rattle.layout_text.specs.Form.{linesOf, countOf, lawful};
-ghost use Rattle.layout_text.specs.Reading.{namesOf, masksOf, scaleOf, precisionOf, maskWordOf, twelve, wordsOf, refusal, readOf, buffer, spelling, Spells};
-ghost use Rattle.layout_text.specs.Walk.{partOf, lineAt, Within, numberWith, numberIn, optionIn, nameIn, dependingIn, maskIn, PageTold, Tells, entryWith, fineAlone, notLawful, Finds, spanFits, nestedIn, refusedBy, answerGiven, Lasts};
+ghost use Rattle.layout_text.specs.Reading.{namesOf, masksOf, scaleOf, precisionOf, maskWordOf, twelve, wordsOf};
+ghost use Rattle.layout_text.specs.Reading.{refusal, readOf, buffer, spelling, firstStart, spellingAt, nameCount, Spells};
+ghost use Rattle.layout_text.specs.Firsts.{seeBoth, firstsOf, Firsts};
+ghost use Rattle.layout_text.specs.Walk.{partOf, lineAt, Within, numberWith, numberIn, optionIn, nameIn, dependingIn, maskIn, PageTold, Tells};
+ghost use Rattle.layout_text.specs.Walk.{entryWith, fineAlone, notLawful, Finds, spanFits, nestedIn, refusedBy, answerGiven, Lasts};
 
 // ---- one line. A part or a number whose `next` is 0 stands for an unlawful line.
 
@@ -562,10 +567,11 @@ fn see_entry(
     requires { ⌜ length (now starts) ≡ 1024 ⌝ }
     requires { ⌜ name < 4294967296 ⌝ }
     requires { ⌜ depending < 4294967296 ⌝ }
-    ensures { λ r. ⌜ r .name ≡ placeIn (lineFrom (now (text .entry)) name) (namesAt (now (text .entry)) (now (starts .entry)) count) ⌝ }
-    ensures { λ r. ⌜ r .depending ≡ cond (eqb depending 0) absent (placeIn (lineFrom (now (text .entry)) depending) (see (namesAt (now (text .entry)) (now (starts .entry)) count) (lineFrom (now (text .entry)) name))) ⌝ }
-    ensures { λ r. ⌜ namesAt (now (text .entry)) (now (starts .exit)) (r .count) ≡ cond (eqb depending 0) (see (namesAt (now (text .entry)) (now (starts .entry)) count) (lineFrom (now (text .entry)) name)) (see (see (namesAt (now (text .entry)) (now (starts .entry)) count) (lineFrom (now (text .entry)) name)) (lineFrom (now (text .entry)) depending)) ⌝ }
-    ensures { λ r. ⌜ r .count ≤ count + 2 ⌝ }
+    ensures { λ r. ⌜ r .name ≡ indexIn (lineFrom (now (text .entry)) name) (namesAt (now (text .entry)) (now (starts .entry)) count) ⌝ }
+    ensures { λ r. ⌜ r .depending ≡ cond (eqb depending 0) absent (indexIn (lineFrom (now (text .entry)) depending) (see (namesAt (now (text .entry)) (now (starts .entry)) count) (lineFrom (now (text .entry)) name))) ⌝ }
+    ensures { λ r. ⌜ take (r .count) (now (starts .exit)) ≡ seeBoth (now (text .entry)) (take count (now (starts .entry))) name depending ⌝ }
+    ensures { λ r. ⌜ drop (r .count) (now (starts .exit)) ≡ drop (r .count) (now (starts .entry)) ⌝ }
+    ensures { λ r. ⌜ (count ≤ r .count) × (r .count ≤ count + 2) ⌝ }
     ensures { λ _. ⌜ length (now (starts .exit)) ≡ length (now (starts .entry)) ⌝ }
 {
     let a = see_name(text, starts, count, name);
@@ -652,11 +658,13 @@ pub fn read_layout(text: &[u8], words: &mut [u32], masks: &mut [u8]) -> LayoutRe
 
 // ---- names
 
+// Where each different name of a text is first spelled, to the front of the table; how many.
 fn see_all(text: &[u8], count: usize, starts: &mut [u32]) -> usize
     requires { ⌜ Lasts (now text) count ⌝ }
     requires { ⌜ length (now starts) ≡ 1024 ⌝ }
-    ensures { λ r. ⌜ namesAt (now (text .entry)) (now (starts .exit)) r ≡ distinct (namesOf (linesOf (now (text .entry)))) ⌝ }
-    ensures { λ r. ⌜ r ≤ 1024 ⌝ }
+    ensures { λ r. ⌜ r ≡ length (firstsOf (now (text .entry))) ⌝ }
+    ensures { λ _. ⌜ now (starts .exit) ≡ firstsOf (now (text .entry)) ++ drop (length (firstsOf (now (text .entry)))) (now (starts .entry)) ⌝ }
+    ensures { λ _. ⌜ Firsts (now (text .entry)) ⌝ }
 {
     let page = page_line(text);
     let mut at = page.next;
@@ -678,10 +686,10 @@ fn wide(p: u32) -> usize
     p as usize
 }
 
-// The name with a number, by a table of where `count` different names start, as a part of the text; empty where the table has no such number.
+// The name with a number, by a table of where `count` different names start, as a part of the text; the empty part at its front where the table has no such number.
 pub fn name_with<'a>(text: &'a [u8], starts: &[u32], count: usize, number: u32) -> &'a [u8]
     ensures { λ r. ⌜ now r ≡ getD (namesAt (now (text .entry)) (now (starts .entry)) count) number [] ⌝ }
-    ensures { λ r. ⌜ IsPart (text .entry) r ⌝ }
+    ensures { λ r. ⌜ ptr r ≡ placeIn (text .entry) (startIn (now (text .entry)) (getD (take count (now (starts .entry))) number 0)) ⌝ }
 {
     let n = number as usize;
     if count <= n {
@@ -698,17 +706,17 @@ pub fn name_with<'a>(text: &'a [u8], starts: &[u32], count: usize, number: u32) 
 fn spelled(text: &[u8], count: usize, number: u32) -> &[u8]
     requires { ⌜ Lasts (now text) count ⌝ }
     ensures { λ r. ⌜ now r ≡ getD (distinct (namesOf (linesOf (now (text .entry))))) number [] ⌝ }
-    ensures { λ r. ⌜ IsPart (text .entry) r ⌝ }
+    ensures { λ r. ⌜ ptr r ≡ placeIn (text .entry) (firstStart (linesOf (now (text .entry))) number) ⌝ }
 {
     let mut starts = [0u32; 1024];
     let seen = see_all(text, count, &mut starts);
     name_with(text, &starts, seen, number)
 }
 
-// The first spelling of the name with a number, as a part of the text; empty where the text is refused by 17, 1, 2 or 3, or no name has the number.
+// The first spelling of the name with a number, as a part of the text; the empty part at its front where the text is refused by 17, 1, 2 or 3, or no name has the number.
 pub fn name_of(text: &[u8], number: u32) -> &[u8]
     ensures { λ r. ⌜ now r ≡ spelling (now (text .entry)) number ⌝ }
-    ensures { λ r. ⌜ IsPart (text .entry) r ⌝ }
+    ensures { λ r. ⌜ ptr r ≡ placeIn (text .entry) (spellingAt (now (text .entry)) number) ⌝ }
 {
     let r = questions(text, 18446744073709551615, 18446744073709551615);
     if r.number != 0 {
@@ -717,11 +725,13 @@ pub fn name_of(text: &[u8], number: u32) -> &[u8]
     spelled(text, r.words / 12, number)
 }
 
-// Where each different name of a text is first spelled, by number, for `name_with`; how many. None where the text is refused by 17, 1, 2 or 3.
+// Where each different name of a text is first spelled, by number, for `name_with`, and zeros behind these; how many. None where the text is refused by 17, 1, 2 or 3.
 pub fn name_starts(text: &[u8], starts: &mut [u32; 1024]) -> usize
+    ensures { λ r. ⌜ r ≡ nameCount (now (text .entry)) ⌝ }
+    ensures { λ _. ⌜ ((number : ℕ) → getD (now (starts .exit)) number 0 ≡ spellingAt (now (text .entry)) number) ⌝ }
     ensures { λ r. ⌜ Spells (now (text .entry)) (now (starts .exit)) r ⌝ }
-    ensures { λ r. ⌜ r ≤ 1024 ⌝ }
 {
+    zero_words(starts);
     let r = questions(text, 18446744073709551615, 18446744073709551615);
     if r.number != 0 {
         return 0;

@@ -13,7 +13,7 @@ use Rattle.lines.specs.Lines.{isEnd, lineFrom, endsIn, startsWith, value
 use Rattle.lines.specs.declared.Found.the-variants.{At, Unlawful}
 use Rattle.lines.proofs.Laws.{starts-long}
 
-pub before-take : (f : ℕ → Bool) (s : List ℕ) → take (length (beforeBy f s)) s ≡ beforeBy f s
+before-take : (f : ℕ → Bool) (s : List ℕ) → take (length (beforeBy f s)) s ≡ beforeBy f s
 unfolding beforeBy
 before-take f [] = refl
 before-take f (x ∷ s) = by (f x) (before-take f s)
@@ -87,7 +87,3 @@ before-every (x ∷ s) = by (isEnd x) refl (before-every s)
 
 pub no-end : (text : List ℕ) (at : ℕ) → everyBy (λ x. not (isEnd x)) (lineFrom text at) ≡ true
 no-end text at = before-every (drop at text)
-
--- the bytes of a line that was cut out stand where it starts
-pub line-there : (text r : List ℕ) (at : ℕ) → r ≡ lineFrom text at → take (length r) (drop at text) ≡ r
-line-there text r at e = ap (λ (l : List ℕ). take (length l) (drop at text)) e ∙ before-take isEnd (drop at text) ∙ sym e

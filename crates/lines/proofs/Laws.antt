@@ -9,11 +9,11 @@ use native.Mathlib.Omega.{arith}
 use lib.Dec.{eqb, leb, ltb}
 use lib.ListN.{length, getD, take, drop, drop-of-length-le}
 use lib.Seq.{drop-cons, length-take-le}
-use borrow.Author.Tests.{eq-eqb, ne-eqb, lt-ltb, le-ltb, leb-true}
+use borrow.Author.Tests.{eq-eqb, ne-eqb, lt-ltb, le-ltb, le-leb, lt-leb, leb-true}
 use Rattle.lists.specs.Scan.{beforeBy, everyBy}
 use Rattle.lists.proofs.Scan.{tail-part}
 use Rattle.value.specs.Digits.{valueFrom, isDigit, digitIn}
-use Rattle.lines.specs.Lines.{isEnd, lineFrom, startsWith, valueAt, leads, bound, numberOf}
+use Rattle.lines.specs.Lines.{isEnd, lineFrom, startIn, startsWith, valueAt, leads, bound, numberOf}
 use Rattle.lines.specs.declared.Found.the-variants.{At, Unlawful}
 use Rattle.lines.specs.declared.Parsed.{Parsed}
 use Rattle.lines.specs.declared.Parsed.the-variants.{Value, Bad}
@@ -84,6 +84,12 @@ module _ (text : List ℕ) (at n : ℕ) where
 pub line-past : (word text : List ℕ) (at : ℕ) → length text < at → Unlawful ≡ valueAt word text at
 unfolding valueAt beforeBy
 line-past word text at h = rw (drop-of-length-le text (le-of-lt h))
+
+pub start-past : (text : List ℕ) (at : ℕ) → length text < at → 0 ≡ startIn text at
+start-past text at h = rw (lt-leb at (length text) h) refl
+
+pub start-there : (text : List ℕ) (at : ℕ) → at ≤ length text → at ≡ startIn text at
+start-there text at h = rw (le-leb at (length text) h) refl
 
 pub none-past : (text : List ℕ) (at : ℕ) → length text < at → [] ≡ lineFrom text at
 unfolding beforeBy

@@ -6,7 +6,7 @@ use Rattle.lists.specs.Scan.{beforeBy, everyBy}
 use Rattle.lines.specs.declared.Found.the-variants.{At, Unlawful}
 use Rattle.lines.specs.declared.Parsed.the-variants.{Value, Bad}
 use Rattle.lines.specs.Lines.{startsWith, valueAt, numberOf, nameOk, maskOk}
-use Rattle.lines.specs.Names.{equal, sameName, placeIn, numberIn}
+use Rattle.lines.specs.Names.{equal, sameName, indexIn, numberIn}
 
 -- `p=12` and 0x0A, at 0; without 0x0A; another word; past the end
 value-found : valueAt (0x70 ∷ 0x3D ∷ []) (0x70 ∷ 0x3D ∷ 0x31 ∷ 0x32 ∷ 0x0A ∷ 0x71 ∷ []) 0 ≡ At 2 4 5
@@ -93,9 +93,9 @@ no-letter = refl
 
 -- the names B, A, b, C: C is the third different one
 third : numberIn ((0x42 ∷ []) ∷ (0x41 ∷ []) ∷ (0x62 ∷ []) ∷ (0x43 ∷ []) ∷ []) (0x63 ∷ []) ≡ 2
-unfolding placeIn equal
+unfolding indexIn equal
 third = refl
 
 again : numberIn ((0x42 ∷ []) ∷ (0x41 ∷ []) ∷ (0x62 ∷ []) ∷ []) (0x62 ∷ []) ≡ 0
-unfolding placeIn equal
+unfolding indexIn equal
 again = refl

@@ -1,10 +1,8 @@
 -- The lines of a layout's text form: "lines `word=value`, each ended by 0x0A". A word is given with its `=`.
-use Prim.Native.Nat.{ℕ, _+_, _-_}
-use mathlib.Core.Path.{_≡_}
+use Prim.Native.Nat.{ℕ, _+_}
 use mathlib.Core.Bool.{Bool, true, false, not, _&&_, _||_, cond}
 use mathlib.Core.List.{List, [], _∷_, map}
-use lib.ListN.{length, take, drop}
-use denote.Ref.{RefT, ptr, now}
+use lib.ListN.{length, drop}
 use lib.Dec.{eqb, leb, ltb}
 use Rattle.lists.specs.Scan.{beforeBy, everyBy}
 use Rattle.value.specs.Digits.{valueOf, isDigit, digitIn}
@@ -20,9 +18,9 @@ isEnd x = eqb x 0x0A
 abbrev pub lineFrom : List ℕ → ℕ → List ℕ
 lineFrom text at = beforeBy isEnd (drop at text)
 
--- a slice that is a part of another: it starts k bytes on in it, and holds the bytes that stand there
-abbrev pub IsPart : RefT (List ℕ) → RefT (List ℕ) → Type 0
-IsPart whole r = (k : ℕ) × ((ptr r ≡ (ptr whole .0, k + ptr whole .1)) × (take (length (now r)) (drop k (now whole)) ≡ now r))
+-- where that part of the text starts; the empty part of a position past the text's end stands at the front
+abbrev pub startIn : List ℕ → ℕ → ℕ
+startIn text at = cond (leb at (length text)) at 0
 
 -- "each ended by 0x0A": it stands there
 abbrev pub endsIn : List ℕ → ℕ → Bool

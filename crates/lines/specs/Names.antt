@@ -22,14 +22,14 @@ sameName a b = equal (map foldOf a) (map foldOf b)
 
 -- ---- "Name numbers follow first sight, from 0."
 
--- the place, from 0, of a name among different names; their count where it is none of them
-unfoldable pub placeIn : List ℕ → List (List ℕ) → ℕ
-placeIn n [] = 0
-placeIn n (x ∷ xs) = cond (sameName n x) 0 (suc (placeIn n xs))
+-- the index, from 0, of a name among different names; their count where it is none of them
+unfoldable pub indexIn : List ℕ → List (List ℕ) → ℕ
+indexIn n [] = 0
+indexIn n (x ∷ xs) = cond (sameName n x) 0 (suc (indexIn n xs))
 
 -- the different names seen, in the order of first sight, after one more sight
 abbrev pub see : List (List ℕ) → List ℕ → List (List ℕ)
-see seen n = cond (ltb (placeIn n seen) (length seen)) seen (seen ++ (n ∷ []))
+see seen n = cond (ltb (indexIn n seen) (length seen)) seen (seen ++ (n ∷ []))
 
 -- the same after a run of sights
 abbrev pub seeAll : List (List ℕ) → List (List ℕ) → List (List ℕ)
@@ -42,7 +42,7 @@ distinct names = seeAll [] names
 
 -- the number of a name in a text whose names, in order, are these
 abbrev pub numberIn : List (List ℕ) → List ℕ → ℕ
-numberIn names n = placeIn n (distinct names)
+numberIn names n = indexIn n (distinct names)
 
 -- ---- a table of where each different name starts in the text
 
@@ -50,9 +50,13 @@ numberIn names n = placeIn n (distinct names)
 abbrev pub namesAt : List ℕ → List ℕ → ℕ → List (List ℕ)
 namesAt text starts count = map (lineFrom text) (take count starts)
 
+-- the starts of the different names seen, in the order of first sight, after one more sight, of the name at `at`
+abbrev pub seeAt : List ℕ → List ℕ → ℕ → List ℕ
+seeAt text starts at = cond (ltb (indexIn (lineFrom text at) (map (lineFrom text) starts)) (length starts)) starts (starts ++ (at ∷ []))
+
 -- the number of the name at `at`
 abbrev pub numberAt : List ℕ → List ℕ → ℕ → ℕ → ℕ
-numberAt text starts count at = placeIn (lineFrom text at) (namesAt text starts count)
+numberAt text starts count at = indexIn (lineFrom text at) (namesAt text starts count)
 
 -- it is new, and the table can hold it: a place is left, and a start is below 4294967296
 abbrev pub isNew : List ℕ → List ℕ → ℕ → ℕ → Bool

@@ -3,9 +3,11 @@
 ghost use mathlib.Core.Path.{_≡_};
 ghost use Prim.Native.Nat.{_≤_, _<_};
 ghost use lib.ListN.{length, take};
+ghost use denote.Ref.{ptr};
+ghost use Rattle.lists.specs.Part.{placeIn};
 ghost use Rattle.lists.specs.Scan.{beforeBy};
-ghost use Rattle.lines.specs.Lines.{isEnd, lineFrom, IsPart, startsWith, valueAt, leads, numberOf, isLetter, inName, nameOk, maskOk};
-ghost use Rattle.lines.specs.Names.{foldOf, sameName, placeIn, namesAt, numberAt, countAfter, startsAfter};
+ghost use Rattle.lines.specs.Lines.{isEnd, lineFrom, startIn, startsWith, valueAt, leads, numberOf, isLetter, inName, nameOk, maskOk};
+ghost use Rattle.lines.specs.Names.{foldOf, sameName, indexIn, namesAt, numberAt, countAfter, startsAfter};
 ghost use Rattle.value.specs.Digits.{isDigit};
 
 // Where a value starts and ends in a text, and where the next line starts.
@@ -70,10 +72,10 @@ pub fn value_at(text: &[u8], at: usize, word: &[u8]) -> Found
     Found::Unlawful
 }
 
-// The bytes from a position up to the next 0x0A, or to the text's end.
+// The bytes from a position up to the next 0x0A, or to the text's end, as a part of the text.
 pub fn name_at(text: &[u8], at: usize) -> &[u8]
     ensures { λ r. ⌜ now r ≡ lineFrom (now (text .entry)) at ⌝ }
-    ensures { λ r. ⌜ IsPart (text .entry) r ⌝ }
+    ensures { λ r. ⌜ ptr r ≡ placeIn (text .entry) (startIn (now (text .entry)) at) ⌝ }
 {
     if text.len() < at {
         return &text[0..0];
@@ -208,7 +210,7 @@ fn fold(x: u8) -> u8
 }
 
 // The same but for letter case.
-pub fn same_name(a: &[u8], b: &[u8]) -> bool
+fn same_name(a: &[u8], b: &[u8]) -> bool
     ensures { λ r. ⌜ r ≡ sameName (now (a .entry)) (now (b .entry)) ⌝ }
 {
     if a.len() != b.len() {
@@ -230,9 +232,9 @@ fn wide(p: u32) -> usize
     p as usize
 }
 
-// The place of a name among the first `count` that the table points at, or how many these are.
+// The index of a name among the first `count` that the table points at, or how many these are.
 fn find_name(text: &[u8], starts: &[u32], count: usize, name: &[u8]) -> usize
-    ensures { λ r. ⌜ r ≡ placeIn (now (name .entry)) (namesAt (now (text .entry)) (now (starts .entry)) count) ⌝ }
+    ensures { λ r. ⌜ r ≡ indexIn (now (name .entry)) (namesAt (now (text .entry)) (now (starts .entry)) count) ⌝ }
 {
     let mut k = 0;
     while k < count {

@@ -1,7 +1,9 @@
-use mathlib.Core.Path.{refl, _∙_}
+-- `layout_text::name_of` meets its contract: a refused text has no names, and of any other `spelled` gives the first spelling.
+use mathlib.Core.Path.{ap, _∙_}
 use Prim.Native.Nat.{_-_}
 use lib.ListN.{take}
-use Rattle.layout_text.proofs.Spellings.{spelled-not, spelled-there, names-last}
+use Rattle.lists.specs.Part.{placeIn}
+use Rattle.layout_text.proofs.Spellings.{spelled-there, place-there, names-last, spelled-not, place-not}
 use borrow.Author.Needs.{needs}
 use Rattle.layout_text.proofs.name_of.Statement.{statement}
 use Rattle.layout_text.proofs.name_of.Tie as tie
@@ -19,13 +21,27 @@ part-result-end : tie.Need-part-result-end
 part-result-end c = search needs
 
 returns : tie.Need-returns
-returns c = (spelled-not (c .before .before .before .before .before .args .text .now) (c .before .before .before .before .before .args .number) (c .before .before .before .questions .result) (c .before .before .before .questions .ensures .0) (c .before .if1 .taken), (0, (refl, refl)))
+returns c =
+    let a = c .before .before .before .before .before .args in
+    let q = c .before .before .before .questions in
+    let h = c .before .if1 .taken in
+    (spelled-not (a .text .now) (q .result) (q .ensures .0) h (a .number), ap (placeIn (a .text)) (place-not (a .text .now) (q .result) (q .ensures .0) h (a .number)))
 
 spelled-requires : tie.Need-spelled-requires
-spelled-requires c κs = names-last (c .before .before .before .before .before .args .text .now) (c .before .before .before .questions .result) (c .before .before .before .questions .ensures .0) (c .before .if1 .left) (c .before .before .before .questions .ensures .1 (c .before .if1 .left))
+spelled-requires c κs =
+    let at-args = c .before .before .before .before .before .args in
+    let q = c .before .before .before .questions in
+    let h = c .before .if1 .left in
+    names-last (at-args .text .now) (q .result) (q .ensures .0) h (q .ensures .1 h)
 
 returns-2 : tie.Need-returns-2
-returns-2 c = (c .spelled .ensures .0 ∙ spelled-there (c .before .before .before .before .before .before .args .text .now) (c .before .before .before .before .before .before .args .number) (c .before .before .before .before .questions .result) (c .before .before .before .before .questions .ensures .0) (c .before .before .if1 .left), c .spelled .ensures .1)
+returns-2 c =
+    let a = c .before .before .before .before .before .before .args in
+    let q = c .before .before .before .before .questions in
+    let h = c .before .before .if1 .left in (
+      c .spelled .ensures .0 ∙ spelled-there (a .text .now) (q .result) (q .ensures .0) h (a .number),
+      c .spelled .ensures .1 ∙ ap (placeIn (a .text)) (place-there (a .text .now) (q .result) (q .ensures .0) h (a .number)),
+    )
 
 pub name-of-spec : {M : Type 1} → statement M
 name-of-spec =

@@ -1,9 +1,12 @@
-use mathlib.Core.Path.{refl, ap, _∙_}
-use Prim.Native.Nat.{_-_}
+-- `layout_text::name_with` meets its contract: a number that the table lacks has the empty part at the front of the text, any other the line at its start.
+use mathlib.Core.Path.{sym, ap, _∙_}
+use Prim.Native.Nat.{ℕ, _-_}
 use native.Mathlib.Omega.{arith}
-use lib.ListN.{take}
-use Rattle.lines.specs.Lines.{lineFrom}
-use Rattle.layout_text.proofs.Spellings.{name-none, name-there}
+use lib.ListN.{take, getD}
+use Rattle.lists.specs.Part.{placeIn}
+use Rattle.lines.specs.Lines.{lineFrom, startIn}
+use lib.Seq.{getD-take}
+use Rattle.layout_text.proofs.Spellings.{name-none, start-none, name-there}
 use borrow.Author.Needs.{needs}
 use Rattle.layout_text.proofs.name_with.Statement.{statement}
 use Rattle.layout_text.proofs.name_with.Tie as tie
@@ -18,7 +21,12 @@ part-result-end : tie.Need-part-result-end
 part-result-end c = search needs
 
 returns : tie.Need-returns
-returns c = (name-none (c .before .before .before .before .args .text .now) (c .before .before .before .before .args .starts .now) (c .before .before .before .before .args .count) (c .before .before .before .before .args .number) (omega (arith, c .before .if1 .taken)), (0, (refl, refl)))
+returns c =
+    let a = c .before .before .before .before .args in
+    let h = c .before .if1 .taken in (
+      name-none (a .text .now) (a .starts .now) (a .count) (a .number) (omega arith),
+      ap (placeIn (a .text)) (start-none (a .text .now) (a .starts .now) (a .count) (a .number) (omega arith)),
+    )
 
 sub-result-2 : tie.Need-sub-result-2
 sub-result-2 c = search needs
@@ -30,7 +38,12 @@ part-result-end-2 : tie.Need-part-result-end-2
 part-result-end-2 c = search needs
 
 returns-2 : tie.Need-returns-2
-returns-2 c = (name-none (c .before .before .before .before .before .args .text .now) (c .before .before .before .before .before .args .starts .now) (c .before .before .before .before .before .args .count) (c .before .before .before .before .before .args .number) (omega (arith, c .before .if2 .taken)), (0, (refl, refl)))
+returns-2 c =
+    let a = c .before .before .before .before .before .args in
+    let h = c .before .if2 .taken in (
+      name-none (a .text .now) (a .starts .now) (a .count) (a .number) (omega arith),
+      ap (placeIn (a .text)) (start-none (a .text .now) (a .starts .now) (a .count) (a .number) (omega arith)),
+    )
 
 mul-wide : tie.Need-mul-wide
 mul-wide c = search needs
@@ -45,7 +58,14 @@ name-at-requires : tie.Need-name-at-requires
 name-at-requires c κs = search needs
 
 returns-3 : tie.Need-returns-3
-returns-3 c = (c .name-at .ensures .0 ∙ ap (lineFrom (c .before .before .before .before .before .before .before .args .text .now)) (c .before .wide .ensures) ∙ name-there (c .before .before .before .before .before .before .before .args .text .now) (c .before .before .before .before .before .before .before .args .starts .now) (c .before .before .before .before .before .before .before .args .count) (c .before .before .before .before .before .before .before .args .number) (c .before .before .before .before .if1 .left) (c .before .before .before .if2 .left), c .name-at .ensures .1)
+returns-3 c =
+    let at-if1 = c .before .before .before .before .if1 in
+    let at-if2 = c .before .before .before .if2 in
+    let a = c .before .before .before .before .before .before .before .args in
+    let e = c .before .wide .ensures in (
+      c .name-at .ensures .0 ∙ ap (lineFrom (a .text .now)) e ∙ name-there (a .text .now) (a .starts .now) (a .count) (a .number) (at-if1 .left) (at-if2 .left),
+      c .name-at .ensures .1 ∙ ap (λ (n : ℕ). placeIn (a .text) (startIn (a .text .now) n)) (e ∙ sym (getD-take (a .count) (a .starts .now) (a .number) 0 (at-if1 .left))),
+    )
 
 pub name-with-spec : {M : Type 1} → statement M
 name-with-spec =

@@ -1,7 +1,10 @@
+-- `layout_text::spelled` meets its contract: the table that `see_all` leaves has the different names and their first starts (`table-names`, `table-place`).
 use mathlib.Core.Path.{ap, _∙_}
 use mathlib.Core.List.{List, []}
 use Prim.Native.Nat.{ℕ, _-_}
 use lib.ListN.{getD}
+use Rattle.lists.specs.Part.{placeIn}
+use Rattle.layout_text.proofs.Spellings.{table-names, table-place}
 use borrow.Author.Needs.{needs}
 use Rattle.layout_text.proofs.spelled.Statement.{statement}
 use Rattle.layout_text.proofs.spelled.Tie as tie
@@ -19,7 +22,12 @@ name-with-requires : tie.Need-name-with-requires
 name-with-requires c κs = search needs
 
 returns : tie.Need-returns
-returns c = (c .name-with .ensures .0 ∙ ap (λ (l : List (List ℕ)). getD l (c .before .before .before .before .before .before .args .number) []) (c .before .before .before .see-all .ensures .0), c .name-with .ensures .1)
+returns c =
+    let a = c .before .before .before .before .before .before .args in
+    let s = c .before .before .before .see-all .ensures in (
+      c .name-with .ensures .0 ∙ ap (λ (l : List (List ℕ)). getD l (a .number) []) (table-names _ (s .0) (s .1 .0) (s .1 .1)),
+      c .name-with .ensures .1 ∙ ap (placeIn (a .text)) (table-place _ (s .0) (s .1 .0) (s .1 .1) (a .number)),
+    )
 
 pub spelled-spec : {M : Type 1} → statement M
 spelled-spec =

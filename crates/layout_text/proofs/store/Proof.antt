@@ -1,3 +1,4 @@
+-- `layout_text::store` meets its contract. The invariant `Stored` says what table, words and masks hold before the k-th entry; `stored-next` is one entry, and the entries that are left fall.
 use mathlib.Core.Path.{_≡_, sym, ap, _∙_}
 use Prim.Native.Nat.{ℕ, _-_, _≤_}
 use native.Mathlib.Omega.{arith}
@@ -6,12 +7,12 @@ use borrow.Author.Needs.{needs}
 use Rattle.layout_text.specs.Form.{linesOf, countOf}
 use Rattle.layout_text.specs.Reading.{masksBelow}
 use Rattle.layout_text.proofs.Words.{words-long}
-use Rattle.layout_text.proofs.Storing.{Stored, page-lasts, stored-start, words-same, masks-same, told, inside, masks-room, part-long, stored-next, stored-end}
+use Rattle.layout_text.proofs.Storing.{Stored, page-lasts, seen-room, seen-next, stored-start, words-same, masks-same, told, inside, masks-room, part-long, stored-next, stored-end}
 use Rattle.layout_text.proofs.store.Statement.{statement}
 use Rattle.layout_text.proofs.store.Tie as tie
 
 abbrev Inv-loop : tie.InvT-loop
-Inv-loop text count starts₀ words₀ masks₀ at₀ seen₀ m₀ k₀ starts words masks at seen m k = (k ≤ count) × Stored text at k seen m starts words masks words₀ masks₀
+Inv-loop text count starts₀ words₀ masks₀ at₀ seen₀ m₀ k₀ starts words masks at seen m k = (k ≤ count) × Stored text at k seen m starts words masks starts₀ words₀ masks₀
 
 abbrev μ-loop : tie.MeasureT-loop
 μ-loop text count starts₀ words₀ masks₀ at₀ seen₀ m₀ k₀ starts words masks at seen m k = count - k
@@ -20,24 +21,26 @@ page-line-requires : tie.Need-page-line-requires Inv-loop μ-loop
 page-line-requires c κs = search needs
 
 loop-holds : tie.Need-loop-holds Inv-loop μ-loop
-loop-holds c = (omega arith, stored-start (c .before .before .before .before .before .args .text .now) (c .page-line .result .next) (c .before .before .before .before .before .args .starts .now) (c .before .before .before .before .before .args .words .now) (c .before .before .before .before .before .args .masks .now) (page-lasts (c .before .before .before .before .before .args .text .now) (c .before .before .before .before .before .args .count) (c .page-line .result) (c .before .before .before .before .before .pre .0) (c .page-line .ensures)) (c .before .before .before .before .before .pre .1 .0))
+loop-holds c =
+    let at-args = c .before .before .before .before .before .args in
+    let at-pre = c .before .before .before .before .before .pre in
+    (omega arith, stored-start (at-args .text .now) (c .page-line .result .next) (at-args .starts .now) (at-args .words .now) (at-args .masks .now) (page-lasts (at-args .text .now) (at-args .count) (c .page-line .result) (at-pre .0) (c .page-line .ensures)) (at-pre .1 .0))
 
 entry-lines-requires : tie.Need-entry-lines-requires Inv-loop μ-loop
 entry-lines-requires c κs = search needs
 
 see-entry-requires : tie.Need-see-entry-requires Inv-loop μ-loop
 see-entry-requires c κs =
-    let t = told (c .before .before .before .before .before .before .before .before .before .args .text .now) (c .before .before .before .loop .at) (c .before .before .before .loop .k) (c .before .before .before .loop .seen) (c .before .before .before .loop .m) (c .before .before .before .loop .starts) (c .before .before .before .loop .words) (c .before .before .before .loop .masks) (c .before .before .before .before .before .before .before .before .before .args .words .now) (c .before .before .before .before .before .before .before .before .before .args .masks .now) (c .before .before .before .loop .inv .1) (c .before .before .before .before .before .before .before .before .before .args .count) (c .before .before .before .before .before .before .before .before .before .pre .0) (c .before .before .loop-test .taken) (c .before .entry-lines .result) (c .before .entry-lines .ensures) in
-    let f = c .before .before .before .loop .inv .1 .few in
-    let g = c .before .before .before .loop .inv .1 .long in
-    let w = c .before .before .before .before .before .before .before .before .before .pre .0 .few in
-    let v = c .before .before .before .before .before .before .before .before .before .pre .0 .small in
-    (omega arith, (g, (omega (arith, t .name-inside), omega (arith, t .depending-inside))))
+    let at-pre = c .before .before .before .before .before .before .before .before .before .pre in
+    let at-loop = c .before .before .before .loop in
+    let at-loop-test = c .before .before .loop-test in
+    seen-room (at-loop .inv .1 .table) (at-pre .0) (at-loop-test .taken) (c .before .entry-lines .ensures)
 
 cast-entry-of : tie.Need-cast-entry-of Inv-loop μ-loop
 cast-entry-of c =
-    let r = c .before .before .before .before .before .before .loop .inv .1 .room in
-    let i = c .before .before .before .before .before .before .loop .inv .1 .here .inside in
+    let at-loop = c .before .before .before .before .before .before .loop in
+    let r = at-loop .inv .1 .room in
+    let i = at-loop .inv .1 .table .here .inside in
     let v = c .before .before .before .before .before .before .before .before .before .before .before .before .pre .0 .small in
     search needs
 
@@ -46,52 +49,79 @@ entry-of-requires c κs = search needs
 
 put-entry-requires : tie.Need-put-entry-requires Inv-loop μ-loop
 put-entry-requires c κs =
-    let n = words-long (linesOf (c .before .before .before .before .before .before .before .before .before .before .before .before .before .before .args .text .now)) (countOf (linesOf (c .before .before .before .before .before .before .before .before .before .before .before .before .before .before .args .text .now))) in
-    let i = inside (c .before .before .before .before .before .before .before .before .before .before .before .before .before .before .args .text .now) (c .before .before .before .before .before .before .before .before .loop .at) (c .before .before .before .before .before .before .before .before .loop .k) (c .before .before .before .before .before .before .before .before .loop .seen) (c .before .before .before .before .before .before .before .before .loop .m) (c .before .before .before .before .before .before .before .before .loop .starts) (c .before .before .before .before .before .before .before .before .loop .words) (c .before .before .before .before .before .before .before .before .loop .masks) (c .before .before .before .before .before .before .before .before .before .before .before .before .before .before .args .words .now) (c .before .before .before .before .before .before .before .before .before .before .before .before .before .before .args .masks .now) (c .before .before .before .before .before .before .before .before .loop .inv .1) (c .before .before .before .before .before .before .before .before .before .before .before .before .before .before .args .count) (c .before .before .before .before .before .before .before .before .before .before .before .before .before .before .pre .0) (c .before .before .before .before .before .before .before .loop-test .taken) (c .before .before .before .before .before .before .entry-lines .result) (c .before .before .before .before .before .before .entry-lines .ensures) in
-    let h = c .before .before .before .before .before .before .before .before .before .before .before .before .before .before .pre .1 .1 .0 in
-    let w : length (c .before .before .before .before .before .before .before .before .loop .words) ≡ length (c .before .before .before .before .before .before .before .before .before .before .before .before .before .before .args .words .now) = words-same (c .before .before .before .before .before .before .before .before .before .before .before .before .before .before .args .text .now) (c .before .before .before .before .before .before .before .before .loop .at) (c .before .before .before .before .before .before .before .before .loop .k) (c .before .before .before .before .before .before .before .before .loop .seen) (c .before .before .before .before .before .before .before .before .loop .m) (c .before .before .before .before .before .before .before .before .loop .starts) (c .before .before .before .before .before .before .before .before .loop .words) (c .before .before .before .before .before .before .before .before .loop .masks) (c .before .before .before .before .before .before .before .before .before .before .before .before .before .before .args .words .now) (c .before .before .before .before .before .before .before .before .before .before .before .before .before .before .args .masks .now) (c .before .before .before .before .before .before .before .before .loop .inv .1) (omega arith) in
+    let at-args = c .before .before .before .before .before .before .before .before .before .before .before .before .before .before .args in
+    let at-pre = c .before .before .before .before .before .before .before .before .before .before .before .before .before .before .pre in
+    let at-loop = c .before .before .before .before .before .before .before .before .loop in
+    let at-loop-test = c .before .before .before .before .before .before .before .loop-test in
+    let at-entry-lines = c .before .before .before .before .before .before .entry-lines in
+    let l = linesOf (at-args .text .now) in
+    let n = words-long l (countOf l) in
+    let i = inside (at-loop .inv .1) (at-pre .0) (at-loop-test .taken) (at-entry-lines .ensures) in
+    let h = at-pre .1 .1 .0 in
+    let w : length (at-loop .words) ≡ length (at-args .words .now) = words-same (at-loop .inv .1) (omega arith) in
     omega arith
 
 add-t : tie.Need-add-t Inv-loop μ-loop
 add-t c =
-    let t = told (c .before .before .before .before .before .before .before .before .before .before .before .before .before .before .before .before .before .before .args .text .now) (c .before .before .before .before .before .before .before .before .before .before .before .before .loop .at) (c .before .before .before .before .before .before .before .before .before .before .before .before .loop .k) (c .before .before .before .before .before .before .before .before .before .before .before .before .loop .seen) (c .before .before .before .before .before .before .before .before .before .before .before .before .loop .m) (c .before .before .before .before .before .before .before .before .before .before .before .before .loop .starts) (c .before .before .before .before .before .before .before .before .before .before .before .before .loop .words) (c .before .before .before .before .before .before .before .before .before .before .before .before .loop .masks) (c .before .before .before .before .before .before .before .before .before .before .before .before .before .before .before .before .before .before .args .words .now) (c .before .before .before .before .before .before .before .before .before .before .before .before .before .before .before .before .before .before .args .masks .now) (c .before .before .before .before .before .before .before .before .before .before .before .before .loop .inv .1) (c .before .before .before .before .before .before .before .before .before .before .before .before .before .before .before .before .before .before .args .count) (c .before .before .before .before .before .before .before .before .before .before .before .before .before .before .before .before .before .before .pre .0) (c .before .before .before .before .before .before .before .before .before .before .before .loop-test .taken) (c .before .before .before .before .before .before .before .before .before .before .entry-lines .result) (c .before .before .before .before .before .before .before .before .before .before .entry-lines .ensures) in
-    let i = t .mask-inside in
-    let v = c .before .before .before .before .before .before .before .before .before .before .before .before .before .before .before .before .before .before .pre .0 .small in
+    let at-pre = c .before .before .before .before .before .before .before .before .before .before .before .before .before .before .before .before .before .before .pre in
+    let at-loop = c .before .before .before .before .before .before .before .before .before .before .before .before .loop in
+    let at-loop-test = c .before .before .before .before .before .before .before .before .before .before .before .loop-test in
+    let at-entry-lines = c .before .before .before .before .before .before .before .before .before .before .entry-lines in
+    let i = told (at-loop .inv .1) (at-pre .0) (at-loop-test .taken) (at-entry-lines .ensures) .mask-inside in
+    let v = at-pre .0 .small in
     search needs
 
 sub-put-mask : tie.Need-sub-put-mask Inv-loop μ-loop
 sub-put-mask c =
-    let t = told (c .before .before .before .before .before .before .before .before .before .before .before .before .before .before .before .before .before .before .before .args .text .now) (c .before .before .before .before .before .before .before .before .before .before .before .before .before .loop .at) (c .before .before .before .before .before .before .before .before .before .before .before .before .before .loop .k) (c .before .before .before .before .before .before .before .before .before .before .before .before .before .loop .seen) (c .before .before .before .before .before .before .before .before .before .before .before .before .before .loop .m) (c .before .before .before .before .before .before .before .before .before .before .before .before .before .loop .starts) (c .before .before .before .before .before .before .before .before .before .before .before .before .before .loop .words) (c .before .before .before .before .before .before .before .before .before .before .before .before .before .loop .masks) (c .before .before .before .before .before .before .before .before .before .before .before .before .before .before .before .before .before .before .before .args .words .now) (c .before .before .before .before .before .before .before .before .before .before .before .before .before .before .before .before .before .before .before .args .masks .now) (c .before .before .before .before .before .before .before .before .before .before .before .before .before .loop .inv .1) (c .before .before .before .before .before .before .before .before .before .before .before .before .before .before .before .before .before .before .before .args .count) (c .before .before .before .before .before .before .before .before .before .before .before .before .before .before .before .before .before .before .before .pre .0) (c .before .before .before .before .before .before .before .before .before .before .before .before .loop-test .taken) (c .before .before .before .before .before .before .before .before .before .before .before .entry-lines .result) (c .before .before .before .before .before .before .before .before .before .before .before .entry-lines .ensures) in
-    let i = t .mask-inside in
+    let at-pre = c .before .before .before .before .before .before .before .before .before .before .before .before .before .before .before .before .before .before .before .pre in
+    let at-loop = c .before .before .before .before .before .before .before .before .before .before .before .before .before .loop in
+    let at-loop-test = c .before .before .before .before .before .before .before .before .before .before .before .before .loop-test in
+    let at-entry-lines = c .before .before .before .before .before .before .before .before .before .before .before .entry-lines in
+    let i = told (at-loop .inv .1) (at-pre .0) (at-loop-test .taken) (at-entry-lines .ensures) .mask-inside in
     search needs
 
 part-put-mask-start : tie.Need-part-put-mask-start Inv-loop μ-loop
 part-put-mask-start c =
-    let t = told (c .before .before .before .before .before .before .before .before .before .before .before .before .before .before .before .before .before .before .before .args .text .now) (c .before .before .before .before .before .before .before .before .before .before .before .before .before .loop .at) (c .before .before .before .before .before .before .before .before .before .before .before .before .before .loop .k) (c .before .before .before .before .before .before .before .before .before .before .before .before .before .loop .seen) (c .before .before .before .before .before .before .before .before .before .before .before .before .before .loop .m) (c .before .before .before .before .before .before .before .before .before .before .before .before .before .loop .starts) (c .before .before .before .before .before .before .before .before .before .before .before .before .before .loop .words) (c .before .before .before .before .before .before .before .before .before .before .before .before .before .loop .masks) (c .before .before .before .before .before .before .before .before .before .before .before .before .before .before .before .before .before .before .before .args .words .now) (c .before .before .before .before .before .before .before .before .before .before .before .before .before .before .before .before .before .before .before .args .masks .now) (c .before .before .before .before .before .before .before .before .before .before .before .before .before .loop .inv .1) (c .before .before .before .before .before .before .before .before .before .before .before .before .before .before .before .before .before .before .before .args .count) (c .before .before .before .before .before .before .before .before .before .before .before .before .before .before .before .before .before .before .before .pre .0) (c .before .before .before .before .before .before .before .before .before .before .before .before .loop-test .taken) (c .before .before .before .before .before .before .before .before .before .before .before .entry-lines .result) (c .before .before .before .before .before .before .before .before .before .before .before .entry-lines .ensures) in
-    let i = t .mask-inside in
+    let at-pre = c .before .before .before .before .before .before .before .before .before .before .before .before .before .before .before .before .before .before .before .pre in
+    let at-loop = c .before .before .before .before .before .before .before .before .before .before .before .before .before .loop in
+    let at-loop-test = c .before .before .before .before .before .before .before .before .before .before .before .before .loop-test in
+    let at-entry-lines = c .before .before .before .before .before .before .before .before .before .before .before .entry-lines in
+    let i = told (at-loop .inv .1) (at-pre .0) (at-loop-test .taken) (at-entry-lines .ensures) .mask-inside in
     search needs
 
 part-put-mask-end : tie.Need-part-put-mask-end Inv-loop μ-loop
 part-put-mask-end c =
-    let t = told (c .before .before .before .before .before .before .before .before .before .before .before .before .before .before .before .before .before .before .before .args .text .now) (c .before .before .before .before .before .before .before .before .before .before .before .before .before .loop .at) (c .before .before .before .before .before .before .before .before .before .before .before .before .before .loop .k) (c .before .before .before .before .before .before .before .before .before .before .before .before .before .loop .seen) (c .before .before .before .before .before .before .before .before .before .before .before .before .before .loop .m) (c .before .before .before .before .before .before .before .before .before .before .before .before .before .loop .starts) (c .before .before .before .before .before .before .before .before .before .before .before .before .before .loop .words) (c .before .before .before .before .before .before .before .before .before .before .before .before .before .loop .masks) (c .before .before .before .before .before .before .before .before .before .before .before .before .before .before .before .before .before .before .before .args .words .now) (c .before .before .before .before .before .before .before .before .before .before .before .before .before .before .before .before .before .before .before .args .masks .now) (c .before .before .before .before .before .before .before .before .before .before .before .before .before .loop .inv .1) (c .before .before .before .before .before .before .before .before .before .before .before .before .before .before .before .before .before .before .before .args .count) (c .before .before .before .before .before .before .before .before .before .before .before .before .before .before .before .before .before .before .before .pre .0) (c .before .before .before .before .before .before .before .before .before .before .before .before .loop-test .taken) (c .before .before .before .before .before .before .before .before .before .before .before .entry-lines .result) (c .before .before .before .before .before .before .before .before .before .before .before .entry-lines .ensures) in
-    let i = t .mask-inside in
+    let at-pre = c .before .before .before .before .before .before .before .before .before .before .before .before .before .before .before .before .before .before .before .pre in
+    let at-loop = c .before .before .before .before .before .before .before .before .before .before .before .before .before .loop in
+    let at-loop-test = c .before .before .before .before .before .before .before .before .before .before .before .before .loop-test in
+    let at-entry-lines = c .before .before .before .before .before .before .before .before .before .before .before .entry-lines in
+    let i = told (at-loop .inv .1) (at-pre .0) (at-loop-test .taken) (at-entry-lines .ensures) .mask-inside in
     search needs
 
 put-mask-requires : tie.Need-put-mask-requires Inv-loop μ-loop
 put-mask-requires c κs =
-    let p = part-long (c .before .before .before .before .before .before .before .before .before .before .before .before .before .before .before .before .before .before .before .before .args .text .now) (c .before .before .before .before .before .before .before .before .before .before .before .before .before .before .loop .at) (c .before .before .before .before .before .before .before .before .before .before .before .before .before .before .loop .k) (c .before .before .before .before .before .before .before .before .before .before .before .before .before .before .loop .seen) (c .before .before .before .before .before .before .before .before .before .before .before .before .before .before .loop .m) (c .before .before .before .before .before .before .before .before .before .before .before .before .before .before .loop .starts) (c .before .before .before .before .before .before .before .before .before .before .before .before .before .before .loop .words) (c .before .before .before .before .before .before .before .before .before .before .before .before .before .before .loop .masks) (c .before .before .before .before .before .before .before .before .before .before .before .before .before .before .before .before .before .before .before .before .args .words .now) (c .before .before .before .before .before .before .before .before .before .before .before .before .before .before .before .before .before .before .before .before .args .masks .now) (c .before .before .before .before .before .before .before .before .before .before .before .before .before .before .loop .inv .1) (c .before .before .before .before .before .before .before .before .before .before .before .before .before .before .before .before .before .before .before .before .args .count) (c .before .before .before .before .before .before .before .before .before .before .before .before .before .before .before .before .before .before .before .before .pre .0) (c .before .before .before .before .before .before .before .before .before .before .before .before .before .loop-test .taken) (c .before .before .before .before .before .before .before .before .before .before .before .before .entry-lines .result) (c .before .before .before .before .before .before .before .before .before .before .before .before .entry-lines .ensures) in
-    let r = masks-room (c .before .before .before .before .before .before .before .before .before .before .before .before .before .before .before .before .before .before .before .before .args .text .now) (c .before .before .before .before .before .before .before .before .before .before .before .before .before .before .loop .at) (c .before .before .before .before .before .before .before .before .before .before .before .before .before .before .loop .k) (c .before .before .before .before .before .before .before .before .before .before .before .before .before .before .loop .seen) (c .before .before .before .before .before .before .before .before .before .before .before .before .before .before .loop .m) (c .before .before .before .before .before .before .before .before .before .before .before .before .before .before .loop .starts) (c .before .before .before .before .before .before .before .before .before .before .before .before .before .before .loop .words) (c .before .before .before .before .before .before .before .before .before .before .before .before .before .before .loop .masks) (c .before .before .before .before .before .before .before .before .before .before .before .before .before .before .before .before .before .before .before .before .args .words .now) (c .before .before .before .before .before .before .before .before .before .before .before .before .before .before .before .before .before .before .before .before .args .masks .now) (c .before .before .before .before .before .before .before .before .before .before .before .before .before .before .loop .inv .1) (c .before .before .before .before .before .before .before .before .before .before .before .before .before .before .before .before .before .before .before .before .args .count) (c .before .before .before .before .before .before .before .before .before .before .before .before .before .before .before .before .before .before .before .before .pre .0) (c .before .before .before .before .before .before .before .before .before .before .before .before .before .loop-test .taken) (c .before .before .before .before .before .before .before .before .before .before .before .before .entry-lines .result) (c .before .before .before .before .before .before .before .before .before .before .before .before .entry-lines .ensures) in
-    let h = c .before .before .before .before .before .before .before .before .before .before .before .before .before .before .before .before .before .before .before .before .pre .1 .1 .1 in
-    let w : length (c .before .before .before .before .before .before .before .before .before .before .before .before .before .before .loop .masks) ≡ length (c .before .before .before .before .before .before .before .before .before .before .before .before .before .before .before .before .before .before .before .before .args .masks .now) = masks-same (c .before .before .before .before .before .before .before .before .before .before .before .before .before .before .before .before .before .before .before .before .args .text .now) (c .before .before .before .before .before .before .before .before .before .before .before .before .before .before .loop .at) (c .before .before .before .before .before .before .before .before .before .before .before .before .before .before .loop .k) (c .before .before .before .before .before .before .before .before .before .before .before .before .before .before .loop .seen) (c .before .before .before .before .before .before .before .before .before .before .before .before .before .before .loop .m) (c .before .before .before .before .before .before .before .before .before .before .before .before .before .before .loop .starts) (c .before .before .before .before .before .before .before .before .before .before .before .before .before .before .loop .words) (c .before .before .before .before .before .before .before .before .before .before .before .before .before .before .loop .masks) (c .before .before .before .before .before .before .before .before .before .before .before .before .before .before .before .before .before .before .before .before .args .words .now) (c .before .before .before .before .before .before .before .before .before .before .before .before .before .before .before .before .before .before .before .before .args .masks .now) (c .before .before .before .before .before .before .before .before .before .before .before .before .before .before .loop .inv .1) (omega arith) in
+    let at-args = c .before .before .before .before .before .before .before .before .before .before .before .before .before .before .before .before .before .before .before .before .args in
+    let at-pre = c .before .before .before .before .before .before .before .before .before .before .before .before .before .before .before .before .before .before .before .before .pre in
+    let at-loop = c .before .before .before .before .before .before .before .before .before .before .before .before .before .before .loop in
+    let at-loop-test = c .before .before .before .before .before .before .before .before .before .before .before .before .before .loop-test in
+    let at-entry-lines = c .before .before .before .before .before .before .before .before .before .before .before .before .entry-lines in
+    let p = part-long (at-loop .inv .1) (at-pre .0) (at-loop-test .taken) (at-entry-lines .ensures) in
+    let r = masks-room (at-loop .inv .1) (at-pre .0) (at-loop-test .taken) (at-entry-lines .ensures) in
+    let h = at-pre .1 .1 .1 in
+    let w : length (at-loop .masks) ≡ length (at-args .masks .now) = masks-same (at-loop .inv .1) (omega arith) in
     omega arith
 
 add-m : tie.Need-add-m Inv-loop μ-loop
 add-m c =
-    let t = told (c .before .before .before .before .before .before .before .before .before .before .before .before .before .before .before .before .before .before .before .before .before .before .before .before .args .text .now) (c .before .before .before .before .before .before .before .before .before .before .before .before .before .before .before .before .before .before .loop .at) (c .before .before .before .before .before .before .before .before .before .before .before .before .before .before .before .before .before .before .loop .k) (c .before .before .before .before .before .before .before .before .before .before .before .before .before .before .before .before .before .before .loop .seen) (c .before .before .before .before .before .before .before .before .before .before .before .before .before .before .before .before .before .before .loop .m) (c .before .before .before .before .before .before .before .before .before .before .before .before .before .before .before .before .before .before .loop .starts) (c .before .before .before .before .before .before .before .before .before .before .before .before .before .before .before .before .before .before .loop .words) (c .before .before .before .before .before .before .before .before .before .before .before .before .before .before .before .before .before .before .loop .masks) (c .before .before .before .before .before .before .before .before .before .before .before .before .before .before .before .before .before .before .before .before .before .before .before .before .args .words .now) (c .before .before .before .before .before .before .before .before .before .before .before .before .before .before .before .before .before .before .before .before .before .before .before .before .args .masks .now) (c .before .before .before .before .before .before .before .before .before .before .before .before .before .before .before .before .before .before .loop .inv .1) (c .before .before .before .before .before .before .before .before .before .before .before .before .before .before .before .before .before .before .before .before .before .before .before .before .args .count) (c .before .before .before .before .before .before .before .before .before .before .before .before .before .before .before .before .before .before .before .before .before .before .before .before .pre .0) (c .before .before .before .before .before .before .before .before .before .before .before .before .before .before .before .before .before .loop-test .taken) (c .before .before .before .before .before .before .before .before .before .before .before .before .before .before .before .before .entry-lines .result) (c .before .before .before .before .before .before .before .before .before .before .before .before .before .before .before .before .entry-lines .ensures) in
+    let at-pre = c .before .before .before .before .before .before .before .before .before .before .before .before .before .before .before .before .before .before .before .before .before .before .before .before .pre in
+    let at-loop = c .before .before .before .before .before .before .before .before .before .before .before .before .before .before .before .before .before .before .loop in
+    let at-loop-test = c .before .before .before .before .before .before .before .before .before .before .before .before .before .before .before .before .before .loop-test in
+    let at-entry-lines = c .before .before .before .before .before .before .before .before .before .before .before .before .before .before .before .before .entry-lines in
+    let t = told (at-loop .inv .1) (at-pre .0) (at-loop-test .taken) (at-entry-lines .ensures) in
     let r = t .room in
-    let q = c .before .before .before .before .before .before .before .before .before .before .before .before .before .before .before .before .before .before .loop .inv .1 .room in
+    let q = at-loop .inv .1 .room in
     let i = t .here .inside in
-    let v = c .before .before .before .before .before .before .before .before .before .before .before .before .before .before .before .before .before .before .before .before .before .before .before .before .pre .0 .small in
+    let v = at-pre .0 .small in
     search needs
 
 add-k : tie.Need-add-k Inv-loop μ-loop
@@ -101,33 +131,58 @@ add-k c =
     search needs
 
 loop-less : tie.Need-loop-less Inv-loop μ-loop
-loop-less c = omega (arith, c .before .before .before .before .before .before .before .before .before .before .before .before .before .before .before .before .before .loop-test .taken)
+loop-less c =
+    let at-loop-test = c .before .before .before .before .before .before .before .before .before .before .before .before .before .before .before .before .before .loop-test in
+    omega (arith, at-loop-test .taken)
 
 loop-again : tie.Need-loop-again Inv-loop μ-loop
-loop-again c = (omega (arith, c .before .before .before .before .before .before .before .before .before .before .before .before .before .before .before .before .before .loop-test .taken), stored-next (c .before .before .before .before .before .before .before .before .before .before .before .before .before .before .before .before .before .before .before .before .before .before .before .before .args .text .now) (c .before .before .before .before .before .before .before .before .before .before .before .before .before .before .before .before .before .before .loop .at) (c .before .before .before .before .before .before .before .before .before .before .before .before .before .before .before .before .before .before .loop .k) (c .before .before .before .before .before .before .before .before .before .before .before .before .before .before .before .before .before .before .loop .seen) (c .before .before .before .before .before .before .before .before .before .before .before .before .before .before .before .before .before .before .loop .m) (c .before .before .before .before .before .before .before .before .before .before .before .before .before .before .before .before .before .before .loop .starts) (c .before .before .before .before .before .before .before .before .before .before .before .before .before .before .before .before .before .before .loop .words) (c .before .before .before .before .before .before .before .before .before .before .before .before .before .before .before .before .before .before .loop .masks) (c .before .before .before .before .before .before .before .before .before .before .before .before .before .before .before .before .before .before .before .before .before .before .before .before .args .words .now) (c .before .before .before .before .before .before .before .before .before .before .before .before .before .before .before .before .before .before .before .before .before .before .before .before .args .masks .now) (c .before .before .before .before .before .before .before .before .before .before .before .before .before .before .before .before .before .before .loop .inv .1) (c .before .before .before .before .before .before .before .before .before .before .before .before .before .before .before .before .before .before .before .before .before .before .before .before .args .count) (c .before .before .before .before .before .before .before .before .before .before .before .before .before .before .before .before .before .before .before .before .before .before .before .before .pre .0) (c .before .before .before .before .before .before .before .before .before .before .before .before .before .before .before .before .before .loop-test .taken) (c .before .before .before .before .before .before .before .before .before .before .before .before .before .before .before .before .entry-lines .result) (c .before .before .before .before .before .before .before .before .before .before .before .before .before .before .before .before .entry-lines .ensures) (c .before .before .before .before .before .before .before .before .before .before .before .before .before .before .see-entry .result .name) (c .before .before .before .before .before .before .before .before .before .before .before .before .before .before .see-entry .result .depending) (c .before .before .before .before .before .before .before .before .before .before .before .before .before .before .see-entry .result .count) (c .before .before .before .before .before .before .before .before .before .before .before .entry-of .result) _ _ _ (c .before .before .before .before .before .before .before .before .before .before .before .before .before .before .see-entry .ensures .0) (c .before .before .before .before .before .before .before .before .before .before .before .before .before .before .see-entry .ensures .1 .0) (c .before .before .before .before .before .before .before .before .before .before .before .before .before .before .see-entry .ensures .1 .1 .0) (c .before .before .before .before .before .before .before .before .before .before .before .before .before .before .see-entry .ensures .1 .1 .1 .0) (c .before .before .before .before .before .before .before .before .before .before .before .before .before .before .see-entry .ensures .1 .1 .1 .1) (c .before .before .before .before .before .before .before .before .before .before .before .entry-of .ensures) (c .before .before .before .before .before .before .before .before .before .put-entry .ensures) (c .before .before .before .put-mask .ensures))
+loop-again c =
+    let at-pre = c .before .before .before .before .before .before .before .before .before .before .before .before .before .before .before .before .before .before .before .before .before .before .before .before .pre in
+    let at-loop = c .before .before .before .before .before .before .before .before .before .before .before .before .before .before .before .before .before .before .loop in
+    let at-loop-test = c .before .before .before .before .before .before .before .before .before .before .before .before .before .before .before .before .before .loop-test in
+    let at-entry-lines = c .before .before .before .before .before .before .before .before .before .before .before .before .before .before .before .before .entry-lines in
+    let at-see-entry = c .before .before .before .before .before .before .before .before .before .before .before .before .before .before .see-entry in
+    let at-entry-of = c .before .before .before .before .before .before .before .before .before .before .before .entry-of in
+    let at-put-entry = c .before .before .before .before .before .before .before .before .before .put-entry in
+    let at-put-mask = c .before .before .before .put-mask in
+    let n = seen-next (at-loop .inv .1 .table) (at-pre .0) (at-loop-test .taken) (at-entry-lines .ensures) (at-see-entry .result .count) _ (at-see-entry .ensures .1 .1 .0) (at-see-entry .ensures .1 .1 .1 .0) (at-see-entry .ensures .1 .1 .1 .1 .0)
+    (at-see-entry .ensures .1 .1 .1 .1 .1) in (
+      omega (arith, at-loop-test .taken),
+      stored-next (at-loop .inv .1) (at-pre .0) (at-loop-test .taken) (at-entry-lines .ensures) _ _ _ (at-see-entry .ensures .0) (at-see-entry .ensures .1 .0) n (at-entry-of .ensures) (at-put-entry .ensures) (at-put-mask .ensures),
+    )
 
 same-length : tie.Need-same-length Inv-loop μ-loop
-same-length c = c .before .loop .inv .1 .long ∙ sym (c .before .before .before .before .before .before .before .pre .1 .0)
+same-length c =
+    let at-pre = c .before .before .before .before .before .before .before .pre in
+    c .before .loop .inv .1 .table .long ∙ sym (at-pre .1 .0)
 
 same-length-2 : tie.Need-same-length-2 Inv-loop μ-loop
 same-length-2 c =
-    let n = words-long (linesOf (c .before .before .before .before .before .before .before .args .text .now)) (countOf (linesOf (c .before .before .before .before .before .before .before .args .text .now))) in
-    let h = c .before .before .before .before .before .before .before .pre .1 .1 .0 in
-    let e : c .before .loop .k ≡ countOf (linesOf (c .before .before .before .before .before .before .before .args .text .now)) = omega (arith, c .before .before .before .before .before .before .before .pre .0 .counted) in
-    words-same (c .before .before .before .before .before .before .before .args .text .now) (c .before .loop .at) (c .before .loop .k) (c .before .loop .seen) (c .before .loop .m) (c .before .loop .starts) (c .before .loop .words) (c .before .loop .masks) (c .before .before .before .before .before .before .before .args .words .now) (c .before .before .before .before .before .before .before .args .masks .now) (c .before .loop .inv .1) (omega arith)
+    let at-args = c .before .before .before .before .before .before .before .args in
+    let at-pre = c .before .before .before .before .before .before .before .pre in
+    let l = linesOf (at-args .text .now) in
+    let n = words-long l (countOf l) in
+    let h = at-pre .1 .1 .0 in
+    let e : c .before .loop .k ≡ countOf l = omega (arith, at-pre .0 .counted) in
+    words-same (c .before .loop .inv .1) (omega arith)
 
 same-length-3 : tie.Need-same-length-3 Inv-loop μ-loop
 same-length-3 c =
-    let h = c .before .before .before .before .before .before .before .pre .1 .1 .1 in
-    let e : c .before .loop .k ≡ countOf (linesOf (c .before .before .before .before .before .before .before .args .text .now)) = omega (arith, c .before .before .before .before .before .before .before .pre .0 .counted) in
+    let at-args = c .before .before .before .before .before .before .before .args in
+    let at-pre = c .before .before .before .before .before .before .before .pre in
+    let l = linesOf (at-args .text .now) in
+    let h = at-pre .1 .1 .1 in
+    let e : c .before .loop .k ≡ countOf l = omega (arith, at-pre .0 .counted) in
     let q = c .before .loop .inv .1 .masks-long in
-    let z = ap (λ (j : ℕ). length (masksBelow (linesOf (c .before .before .before .before .before .before .before .args .text .now)) j)) e in
-    masks-same (c .before .before .before .before .before .before .before .args .text .now) (c .before .loop .at) (c .before .loop .k) (c .before .loop .seen) (c .before .loop .m) (c .before .loop .starts) (c .before .loop .words) (c .before .loop .masks) (c .before .before .before .before .before .before .before .args .words .now) (c .before .before .before .before .before .before .before .args .masks .now) (c .before .loop .inv .1) (omega arith)
+    let z = ap (λ (j : ℕ). length (masksBelow l j)) e in
+    masks-same (c .before .loop .inv .1) (omega arith)
 
 returns : tie.Need-returns Inv-loop μ-loop
 returns c =
-    let e : c .before .loop .k ≡ countOf (linesOf (c .before .before .before .before .before .before .before .args .text .now)) = omega (arith, c .before .before .before .before .before .before .before .pre .0 .counted) in
-    stored-end (c .before .before .before .before .before .before .before .args .text .now) (c .before .loop .at) (c .before .loop .k) (c .before .loop .seen) (c .before .loop .m) (c .before .loop .starts) (c .before .loop .words) (c .before .loop .masks) (c .before .before .before .before .before .before .before .args .words .now) (c .before .before .before .before .before .before .before .args .masks .now) (c .before .loop .inv .1) e
+    let at-args = c .before .before .before .before .before .before .before .args in
+    let at-pre = c .before .before .before .before .before .before .before .pre in
+    let e : c .before .loop .k ≡ countOf (linesOf (at-args .text .now)) = omega (arith, at-pre .0 .counted) in
+    stored-end (c .before .loop .inv .1) e
 
 pub store-spec : {M : Type 1} → statement M
 store-spec =

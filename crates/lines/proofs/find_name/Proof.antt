@@ -5,13 +5,13 @@ use lib.ListN.{length, take, drop}
 use borrow.Author.Needs.{needs}
 use native.Mathlib.Nat.{zero-add}
 use Rattle.lines.specs.Lines.{lineFrom}
-use Rattle.lines.specs.Names.{sameName, placeIn, namesAt}
-use Rattle.lines.proofs.Sight.{place-go, place-stop, place-end}
+use Rattle.lines.specs.Names.{sameName, indexIn, namesAt}
+use Rattle.lines.proofs.Sight.{index-go, index-stop, index-end}
 use Rattle.lines.proofs.find_name.Statement.{statement}
 use Rattle.lines.proofs.find_name.Tie as tie
 
 abbrev Inv-loop : tie.InvT-loop
-Inv-loop text starts count name k₀ k = ((k ≤ count) × (k ≤ length starts)) × (placeIn name (namesAt text starts count) ≡ k + placeIn name (drop k (namesAt text starts count)))
+Inv-loop text starts count name k₀ k = ((k ≤ count) × (k ≤ length starts)) × (indexIn name (namesAt text starts count) ≡ k + indexIn name (drop k (namesAt text starts count)))
 
 abbrev μ-loop : tie.MeasureT-loop
 μ-loop text starts count name k₀ k = count - k
@@ -22,7 +22,7 @@ loop-holds c = ((omega arith, omega arith), sym (zero-add _))
 returns : tie.Need-returns Inv-loop μ-loop
 returns c =
     let a = c .before .before .before .before .before .before .args in
-    sym (c .before .before .loop .inv .1 ∙ place-end (a .text .now) (a .starts .now) (a .count) (c .before .before .loop .k) (a .name .now) (omega arith))
+    sym (c .before .before .loop .inv .1 ∙ index-end (a .text .now) (a .starts .now) (a .count) (c .before .before .loop .k) (a .name .now) (omega arith))
 
 mul-wide : tie.Need-mul-wide Inv-loop μ-loop
 mul-wide c = search needs
@@ -42,7 +42,7 @@ same-name-requires c κs = search needs
 returns-2 : tie.Need-returns-2 Inv-loop μ-loop
 returns-2 c =
     let a = c .before .before .before .before .before .before .before .before .before .before .before .args in
-    sym (c .before .before .before .before .before .before .before .loop .inv .1 ∙ place-stop (a .text .now) (a .starts .now) (a .count) (c .before .before .before .before .before .before .before .loop .k) (a .name .now) (c .before .before .before .before .before .before .loop-test .taken) (c .before .before .before .before .before .if1 .left) (ap (sameName (a .name .now)) (sym (c .before .before .name-at .ensures .0 ∙ ap (lineFrom (a .text .now)) (c .before .before .before .wide .ensures))) ∙ sym (c .before .same-name .ensures) ∙ c .if2 .taken))
+    sym (c .before .before .before .before .before .before .before .loop .inv .1 ∙ index-stop (a .text .now) (a .starts .now) (a .count) (c .before .before .before .before .before .before .before .loop .k) (a .name .now) (c .before .before .before .before .before .before .loop-test .taken) (c .before .before .before .before .before .if1 .left) (ap (sameName (a .name .now)) (sym (c .before .before .name-at .ensures .0 ∙ ap (lineFrom (a .text .now)) (c .before .before .before .wide .ensures))) ∙ sym (c .before .same-name .ensures) ∙ c .if2 .taken))
 
 add-k : tie.Need-add-k Inv-loop μ-loop
 add-k c = search needs
@@ -53,12 +53,12 @@ loop-less c = search needs
 loop-again : tie.Need-loop-again Inv-loop μ-loop
 loop-again c =
     let a = c .before .before .before .before .before .before .before .before .before .before .before .args in
-    ((omega arith, omega arith), c .before .before .before .before .before .before .before .loop .inv .1 ∙ place-go (a .text .now) (a .starts .now) (a .count) (c .before .before .before .before .before .before .before .loop .k) (a .name .now) (c .before .before .before .before .before .before .loop-test .taken) (c .before .before .before .before .before .if1 .left) (ap (sameName (a .name .now)) (sym (c .before .before .name-at .ensures .0 ∙ ap (lineFrom (a .text .now)) (c .before .before .before .wide .ensures))) ∙ sym (c .before .same-name .ensures) ∙ c .if2 .left))
+    ((omega arith, omega arith), c .before .before .before .before .before .before .before .loop .inv .1 ∙ index-go (a .text .now) (a .starts .now) (a .count) (c .before .before .before .before .before .before .before .loop .k) (a .name .now) (c .before .before .before .before .before .before .loop-test .taken) (c .before .before .before .before .before .if1 .left) (ap (sameName (a .name .now)) (sym (c .before .before .name-at .ensures .0 ∙ ap (lineFrom (a .text .now)) (c .before .before .before .wide .ensures))) ∙ sym (c .before .same-name .ensures) ∙ c .if2 .left))
 
 returns-3 : tie.Need-returns-3 Inv-loop μ-loop
 returns-3 c =
     let a = c .before .before .before .before .before .args in
-    sym (c .before .loop .inv .1 ∙ place-end (a .text .now) (a .starts .now) (a .count) (c .before .loop .k) (a .name .now) (omega arith))
+    sym (c .before .loop .inv .1 ∙ index-end (a .text .now) (a .starts .now) (a .count) (c .before .loop .k) (a .name .now) (omega arith))
 
 pub find-name-spec : {M : Type 1} → statement M
 find-name-spec =

@@ -1,11 +1,11 @@
-use mathlib.Core.Path.{refl}
-use Prim.Native.Nat.{zero, _+_, _-_}
+-- `lines::name_at` meets its contract: the part up to the next 0x0A is the line from the position (`line-is`), and stands where it was cut out.
+use mathlib.Core.Path.{ap}
+use Prim.Native.Nat.{_-_}
 use lib.ListN.{take}
-use Rattle.lines.proofs.Laws.{line-is, none-past}
+use Rattle.lines.proofs.Laws.{line-is, none-past, start-past, start-there}
 use borrow.Author.Needs.{needs}
-use denote.Ref.{ptr}
-use native.Mathlib.Nat.{zero-add}
-use Rattle.lines.proofs.Inside.{line-there}
+use Rattle.lists.specs.Part.{placeIn}
+use Rattle.lists.proofs.Part.{place-front}
 use Rattle.lines.proofs.name_at.Statement.{statement}
 use Rattle.lines.proofs.name_at.Tie as tie
 
@@ -19,7 +19,10 @@ part-result-end : tie.Need-part-result-end
 part-result-end c = search needs
 
 returns : tie.Need-returns
-returns c = (none-past (c .before .before .before .args .text .now) (c .before .before .before .args .at) (c .before .if1 .taken), (0, (refl, refl)))
+returns c =
+    let a = c .before .before .before .args in
+    let h = c .before .if1 .taken in
+    (none-past (a .text .now) (a .at) h, ap (placeIn (a .text)) (start-past (a .text .now) (a .at) h))
 
 sub-rest : tie.Need-sub-rest
 sub-rest c = search needs
@@ -43,7 +46,10 @@ part-result-end-2 : tie.Need-part-result-end-2
 part-result-end-2 c = search needs
 
 returns-2 : tie.Need-returns-2
-returns-2 c = let e = line-is (c .before .before .before .before .before .args .text .now) (c .before .before .before .before .before .args .at) (c .before .line-end .result) (c .before .line-end .ensures .1) in (e, ((c .before .before .before .before .before .args .at), ((λ i. (ptr (c .before .before .before .before .before .args .text) .0, zero-add ((c .before .before .before .before .before .args .at) + ptr (c .before .before .before .before .before .args .text) .1) i)), line-there (c .before .before .before .before .before .args .text .now) _ (c .before .before .before .before .before .args .at) e)))
+returns-2 c =
+    let a = c .before .before .before .before .before .args in
+    let h = c .before .before .before .if1 .left in
+    (line-is (a .text .now) (a .at) (c .before .line-end .result) (c .before .line-end .ensures .1), place-front (a .text) (a .at) _ (start-there (a .text .now) (a .at) h))
 
 pub name-at-spec : {M : Type 1} → statement M
 name-at-spec =

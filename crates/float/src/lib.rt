@@ -286,7 +286,7 @@ fn whole_size(x: u64, t: u64) -> u64
 }
 
 // x * 10^scale as a whole number.
-pub fn to_decimal(x: f64, scale: u64) -> Number
+fn to_decimal(x: f64, scale: u64) -> Number
     ensures { λ r. ⌜ r ≡ toDecimal x scale ⌝ }
 {
     if scale > 18 {

@@ -11,7 +11,7 @@ use borrow.Author.Tests.{eq-eqb, ne-eqb}
 use Rattle.items.specs.declared.Item.{Item}
 use Rattle.spans.specs.Tree.{none, node, endOf, tree, size}
 use Rattle.spans.proofs.Tree.{tree-none, tree-at, size-tree}
-use Rattle.items.specs.Items.{itemAt, holds, spanOf, values, headOf, membersOf, restOf, lookup}
+use Rattle.items.specs.Items.{itemAt, holds, spanOf, values, headOf, membersOf, restOf, lookup, placeOf}
 
 pub item-words : (v : List ℕ) (i n t a b : ℕ) → n ≡ getD v (i * 4 + 0) 0 → t ≡ getD v (i * 4 + 1) 0 → a ≡ getD v (i * 4 + 2) 0 → b ≡ getD v (i * 4 + 3) 0 → record { name = n; tag = t; a = a; b = b } ≡ itemAt v i
 item-words v i n t a b p q r s =
@@ -37,6 +37,10 @@ module _ (v : List ℕ) (i to : ℕ) where
   pub lookup-none : (name : ℕ) → to ≤ i → lookup name (values v i to) ≡ values v to to
   unfolding lookup
   lookup-none name h = rw (values-none v i to h, values-none v to to (omega arith))
+
+  -- a suffix is found in one place only
+  pub place-is : (name r : ℕ) → r ≤ to → lookup name (values v i to) ≡ values v r to → r ≡ placeOf v name i to
+  place-is name r h e = let z : size (lookup name (values v i to)) ≡ to - r = ap size e ∙ size-values v r to in omega arith
 
   module _ (it : Item) (span en : ℕ) (p : it ≡ headOf (values v i to)) (s : span ≡ spanOf it) (q : en ≡ endOf span i to) where
     pub values-node : i < to → values v i to ≡ node it (values v (i + 1) en) (values v en to)

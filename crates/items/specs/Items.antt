@@ -1,7 +1,7 @@
 -- "Value list": "Items of four 64-bit words, depth first: name (65536 for list elements), tag, and two words".
 use mathlib.Core.Bool.{Bool, true, false, _&&_, _||_, cond}
 use mathlib.Core.List.{List}
-use Prim.Native.Nat.{ℕ, zero, suc, _+_, _*_, _/_, _%_}
+use Prim.Native.Nat.{ℕ, zero, suc, _+_, _-_, _*_, _/_, _%_}
 use lib.Dec.{ltb, leb, eqb}
 use lib.ListN.{length, getD}
 use Rattle.items.specs.declared.Item.{Item}
@@ -115,3 +115,7 @@ restOf (node it members rest) = rest
 unfoldable pub lookup : ℕ → Values → Values
 lookup name none = none
 lookup name (node it members rest) = cond (eqb (it .name) name) (node it members rest) (lookup name rest)
+
+-- where that suffix of the items lo up to hi starts; hi where no item has the name
+abbrev pub placeOf : List ℕ → ℕ → ℕ → ℕ → ℕ
+placeOf v name lo hi = hi - size (lookup name (values v lo hi))

@@ -6,7 +6,7 @@ ghost use Prim.Native.Nat.{ℕ, _+_, _*_, _≤_, min};
 ghost use lib.Dec.{eqb};
 ghost use lib.ListN.{length, getD};
 ghost use Rattle.spans.specs.Tree.{endOf};
-ghost use Rattle.items.specs.Items.{itemAt, holds, spanOf, values, nullOk, textOk, decimalOk, boolOk, scalarOk, nameOk, holderOk, itemOk, count, listOk, wellFormed, headOf, lookup};
+ghost use Rattle.items.specs.Items.{itemAt, holds, spanOf, values, nullOk, textOk, decimalOk, boolOk, scalarOk, nameOk, holderOk, itemOk, count, listOk, wellFormed, headOf, lookup, placeOf};
 use spans::end_of;
 use value::size_of;
 
@@ -106,7 +106,7 @@ pub fn after(i: usize, end: usize) -> usize
 
 // The place of the first item of a name in the sequence from..to, and `to` where there is none.
 pub fn find(items: &[u64], name: u64, from: usize, to: usize) -> usize
-    ensures { λ r. ⌜ (r ≤ to) × (lookup name (values (now (items .entry)) from to) ≡ values (now (items .entry)) r to) ⌝ }
+    ensures { λ r. ⌜ (r ≡ placeOf (now (items .entry)) name from to) × (lookup name (values (now (items .entry)) from to) ≡ values (now (items .entry)) r to) ⌝ }
 {
     let mut i = from;
     while i < to {

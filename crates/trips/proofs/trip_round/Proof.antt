@@ -1,3 +1,4 @@
+-- `trips::trip_round` meets its contract, which is that of `roundtrip::round_trip` without demand 3.
 use borrow.Author.Needs.{needs}
 use Rattle.trips.proofs.trip_round.Statement.{statement}
 use Rattle.trips.proofs.trip_round.Tie as tie
@@ -18,7 +19,7 @@ same-length-4 : tie.Need-same-length-4
 same-length-4 c = search needs
 
 returns : tie.Need-returns
-returns c = (c .before .before .before .before .before .before .before .round-trip .ensures .0, (c .before .before .before .before .before .before .before .round-trip .ensures .1 .0, (c .before .before .before .before .before .before .before .round-trip .ensures .1 .1 .0, (c .before .before .before .before .before .before .before .round-trip .ensures .1 .1 .1 .0, (c .before .before .before .before .before .before .before .round-trip .ensures .1 .1 .1 .1 .0, (c .before .before .before .before .before .before .before .round-trip .ensures .1 .1 .1 .1 .1 .0, (c .before .before .before .before .before .before .before .round-trip .ensures .1 .1 .1 .1 .1 .1 .0, (c .before .before .before .before .before .before .before .round-trip .ensures .1 .1 .1 .1 .1 .1 .1 .0, c .before .before .before .before .before .before .before .round-trip .ensures .1 .1 .1 .1 .1 .1 .1 .1 .0))))))))
+returns c = c .before .before .before .before .before .before .before .round-trip .ensures .0
 
 pub trip-round-spec : {M : Type 1} → statement M
 trip-round-spec =

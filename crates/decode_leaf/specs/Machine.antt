@@ -86,7 +86,7 @@ toldIn told (BoolV b) = told
 abbrev pub out : ℕ → ℕ → ℕ → ℕ → Out
 out used members taken told = record { refused = 0; used = used; members = members; taken = taken; told = told }
 
--- an answer that refuses, which has read nothing
+-- an answer that refuses: zeros behind its number
 abbrev pub refusing : ℕ → Out
 refusing n = record { refused = n; used = 0; members = 0; taken = 0; told = 0 }
 

@@ -18,7 +18,7 @@ use Rattle.encode_leaf.specs.declared.Out.{Out}
 use Rattle.encode_leaf.specs.declared.Run.{Run}
 use Rattle.encode_leaf.specs.Laying.{sat, Laid, refused, laid, Layer, settled}
 
--- an answer that refuses, which has put nothing
+-- an answer that refuses: zeros behind its number
 abbrev pub refusing : ℕ → Out
 refusing n = record { refused = n; past = 0; taken = 0 }
 
@@ -26,12 +26,12 @@ pub record Met (o : Laid) (r : Out) (b : List ℕ) : Type 0 where
   pub fine : r .refused ≡ 0 → o ≡ laid b (r .past) (r .taken)
   pub refuses : (r .refused ≡ 0 → ⊥) → (o ≡ refused (r .refused)) × (r ≡ refusing (r .refused))
 
--- the buffer from one put on, or as it was before what is refused
+-- the buffer as f goes on from what was put; what is refused leaves it as it was
 abbrev pub onward : List ℕ → (List ℕ → ℕ → ℕ → List ℕ) → Laid → List ℕ
 onward b f (refused n) = b
 onward b f (laid b′ past t) = f b′ past t
 
--- the buffer behind the elements that are left: those in front of a refused one are in it
+-- the buffer behind the elements that are left, as `elements` goes: those in front of a refused one stay in it
 unfoldable pub bufferBehind : Layer → ℕ → Values → ℕ → List ℕ → List ℕ
 bufferBehind f zero vs at b = b
 bufferBehind f (suc n) vs at b = onward b (λ b′ past t. cond (settled vs past t) b′ (bufferBehind f n (restOf vs) (sat (at + t)) b′)) (f vs at b)

@@ -25,7 +25,7 @@ extern "C" {
 uint32_t ff_read_layout(const uint8_t *text, size_t text_len, uint32_t *words, size_t words_len, uint8_t *masks, size_t masks_len,
                         uint32_t *page, uint64_t *words_used, uint64_t *masks_used);
 
-/* Judges a layout's words. Asks 1, 2, 3; the other functions ask them again. */
+/* Judges a layout's words. Asks 1, 2, 3; reading and writing a record ask them again. */
 uint32_t ff_check_layout(const uint32_t *layout, size_t layout_len, const uint8_t *masks, size_t masks_len, uint32_t page);
 
 /* Reads a record: its items, depth first, and their texts, one after the other, with how many item words and text bytes there are.

@@ -80,7 +80,7 @@ toldIn told (FloatV x) = told
 toldIn told (FloatBits x) = told
 toldIn told (BoolV b) = told
 
--- ---- promises: by the answer's own number
+-- ---- promises: what holds of an answer that refuses nothing, and of one that refuses
 
 -- an answer that refuses nothing
 abbrev pub out : ℕ → ℕ → ℕ → ℕ → Out

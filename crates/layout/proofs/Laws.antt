@@ -125,7 +125,7 @@ pub alone : (e : Entry) (masks : ℕ) → entriesOk (e .name ∷ e .offset ∷ e
 unfolding entriesOk allBelow entryAt
 alone e masks = refl
 
--- ---- the questions that every call asks first
+-- ---- the questions that reader and writer ask first
 
 module _ (l masks : List ℕ) (page work : ℕ) (c : ℕ) (p : c ≡ checkedOf l masks page) where
   pub asks-unlawful : (c ≡ 0 → ⊥) → c ≡ layoutAsks l masks page work

@@ -135,7 +135,7 @@ checkedOf l masks page =
 abbrev pub workFor : List ℕ → ℕ
 workFor l = entryCount l * 2
 
--- The questions that every call asks of its layout first, with so many words of work space: 1, 2, 3, then "work space ..? Else 16"; 0 where all are passed.
+-- The questions that reader and writer ask of their layout first, with so many words of work space: 1, 2, 3, then "work space ..? Else 16"; 0 where all are passed.
 unfoldable pub layoutAsks : List ℕ → List ℕ → ℕ → ℕ → ℕ
 layoutAsks l masks page work =
     cond (eqb (checkedOf l masks page) 0) (cond (leb (workFor l) work) 0 16) (checkedOf l masks page)

@@ -179,6 +179,6 @@ spellingAt text number = cond (eqb (textChecked text) 0) (firstStart (linesOf te
 unfoldable pub nameCount : List ℕ → ℕ
 nameCount text = cond (eqb (textChecked text) 0) (length (distinct (namesOf (linesOf text)))) 0
 
--- a table of where the names of a text start, by number: each of its first `count` starts points at the first spelling of a name, and no name has another number
+-- a table of starts by which a name is found: for every number the name there is its first spelling, or none
 abbrev pub Spells : List ℕ → List ℕ → ℕ → Type 0
 Spells text starts count = (number : ℕ) → getD (namesAt text starts count) number [] ≡ spelling text number

@@ -21,14 +21,14 @@ trimmed s = rightBy isBlank (leftBy isBlank s)
 abbrev pub isAscii : ℕ → Bool
 isAscii x = ltb x 128
 
--- "digits kept, others skipped": the answer for the size that the digits among the bytes spell; none spell 0
+-- "digits kept, others skipped": the answer for the size that the digits among the bytes spell; none spell 0. bad: what an unlawful byte answers
 unfoldable pub keptBy : {X : Type 0} → (ℕ → X) → X → List ℕ → X
 keptBy answer bad s = cond (everyBy isAscii s) (answer (valueOf (map digitIn (keepBy isDigit s)))) bad
 
 abbrev pub keptOf : Bool → List ℕ → Number
 keptOf negative s = keptBy (numberOf negative) Bad s
 
--- a sign's byte, and the byte of a sign
+-- whether a byte is a sign; a sign's byte
 abbrev pub isSign : ℕ → Bool
 isSign x = eqb x 45 || eqb x 43
 

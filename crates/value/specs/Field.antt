@@ -15,7 +15,8 @@ lastOf part = getD part (length part - 1) 0
 abbrev pub digitsBy : (ℕ → List ℕ) → (ℕ → ℕ) → List ℕ → List ℕ
 digitsBy f g part = spread f (take (length part - 1) part) ++ (g (lastOf part) ∷ [])
 
--- ok: whether the last byte's sign is lawful; answer: what a lawful field answers, from its last byte and its size. "Bytes lawful (.. packed and zoned from 1)"
+-- ok: whether the last byte's sign is lawful; answer: what a lawful field answers, from its last byte and its size;
+-- bad: what any other answers. "Bytes lawful (.. packed and zoned from 1)"
 unfoldable pub fieldOf : {X : Type 0} → (ℕ → List ℕ) → (ℕ → ℕ) → (ℕ → Bool) → (ℕ → ℕ → X) → X → List ℕ → X
 fieldOf f g ok answer bad part =
     cond (ltb 0 (length part) && (digitsOk (digitsBy f g part) && ok (lastOf part))) (answer (lastOf part) (valueOf (digitsBy f g part))) bad

@@ -98,7 +98,7 @@ every =
 abbrev pub everyMask : List ℕ
 everyMask = 0x5A ∷ 0x5A ∷ 0x39 ∷ 0x2E ∷ 0x39 ∷ 0x39 ∷ 0x2D ∷ []
 
--- ab, 42, -2, 1.5, 12af, 1, -1.2, 1.23, -123, -12.34, and a group of an untrimmed text, its pad byte 0
+-- ab, 42, -2, 1.5, 12af, 1, -1.2, 1.23, -123, -12.34, and a group of an untrimmed text of one byte, 0, which is its pad too
 abbrev pub everyItem : List ℕ
 everyItem =
     0 ∷ 1 ∷ 0 ∷ 2 ∷ 1 ∷ 2 ∷ 42 ∷ 0 ∷ 2 ∷ 2 ∷ 18446744073709551614 ∷ 0 ∷ 3 ∷ 4 ∷ 0x3FF8000000000000 ∷ 0 ∷ 4 ∷ 1 ∷ 2 ∷ 4 ∷ 5 ∷ 5 ∷ 1 ∷ 0 ∷

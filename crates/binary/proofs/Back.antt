@@ -9,7 +9,8 @@ use lib.Pow.{pow-add}
 use lib.Dec.{leb, ltb}
 use lib.ListN.{length}
 use borrow.Author.Tests.{lt-ltb, le-leb, lt-leb}
-use Rattle.value.specs.declared.Number.the-variants.{Of}
+use Rattle.value.specs.Answer.{given}
+use Rattle.value.specs.Number.{number}
 use Rattle.value.specs.Word.{wordOf}
 use Rattle.binary.specs.Bytes.{wordIn}
 use Rattle.binary.specs.Binary.{widthOk, integerOf, integerBytes}
@@ -34,12 +35,12 @@ module _ (order n : ℕ) (ok : widthOk n ≡ true) where
       by false = refl
 
   -- unsigned: below 256^n and 2^63
-  pub unsigned-back : (size : ℕ) → size < 256 ^ n → size < 2 ^ 63 → integerOf order false (integerBytes order n false size) ≡ Of false size
+  pub unsigned-back : (size : ℕ) → size < 256 ^ n → size < 2 ^ 63 → integerOf order false (integerBytes order n false size) ≡ given (number false size)
   unfolding integerOf
   unsigned-back size h l = rw (long false size, ok, written false size, plain size, mod-eq-of-lt h, lt-ltb size (2 ^ 63) l)
 
   -- signed: not negative and below half of 256^n, or negative and at most half of it
-  pub plus-back : (size : ℕ) → 2 * size < 256 ^ n → integerOf order true (integerBytes order n false size) ≡ Of false size
+  pub plus-back : (size : ℕ) → 2 * size < 256 ^ n → integerOf order true (integerBytes order n false size) ≡ given (number false size)
   unfolding integerOf
   plus-back size h =
       let t = half-twice n (width-low n ok) (width-high n ok) in
@@ -60,7 +61,7 @@ module _ (order n : ℕ) (ok : widthOk n ≡ true) where
           let d : 2 ^ 64 - size ≡ q * p + (p - size) = omega arith in
           rw d (digits-mod q {m = p} {r = p - size} (omega arith))
 
-  pub minus-back : (size : ℕ) → 0 < size → 2 * size ≤ 256 ^ n → integerOf order true (integerBytes order n true size) ≡ Of true size
+  pub minus-back : (size : ℕ) → 0 < size → 2 * size ≤ 256 ^ n → integerOf order true (integerBytes order n true size) ≡ given (number true size)
   unfolding integerOf
   minus-back size z h =
       let t = half-twice n (width-low n ok) (width-high n ok) in

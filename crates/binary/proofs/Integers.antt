@@ -10,9 +10,10 @@ use lib.Dec.{eqb, leb, ltb, eqb→eq, lit<}
 use lib.ListN.{length, getD}
 use borrow.Author.Tests.{le-leb, lt-leb, leb-true, lt-ltb, le-ltb}
 use Rattle.lists.proofs.Table.{at}
-use Rattle.value.specs.declared.Number.{Number}
-use Rattle.value.specs.declared.Number.the-variants.{Of, Bad, Big}
-use Rattle.binary.specs.Binary.{halfOf, widthOk, signedWord, integerOf}
+use Rattle.value.specs.Answer.{Answer, refused, given}
+use Rattle.value.specs.Number.{Whole, number, unlawful}
+use Rattle.value.proofs.Answers.{Numbered, numbered-cond}
+use Rattle.binary.specs.Binary.{halfOf, widthOk, signedWord, unsignedWord, integerOf}
 use Rattle.binary.proofs.Words.{word-below}
 use Rattle.binary.specs.Bytes.{wordIn}
 
@@ -57,10 +58,10 @@ unfolding behind even
 half-twice zero l h = absurd (omega arith)
 half-twice (suc n) l h = eqb→eq (2 * getD behind n 0) (256 ^ (n + 1)) (at even behind tt n (omega arith)) ∙ ap (λ (k : ℕ). 256 ^ k) (add-one n)
 
-pub below-half : (n v : ℕ) → n ≤ 8 → v < halfAt n → Of false v ≡ signedWord n v
+pub below-half : (n v : ℕ) → n ≤ 8 → v < halfAt n → given (number false v) ≡ signedWord n v
 below-half n v h l = rw (lt-leb (256 ^ n / 2) v (rw (half-is n h) at l))
 
-pub from-half : (n v : ℕ) → 1 ≤ n → n ≤ 8 → v < 256 ^ n → halfAt n ≤ v → Of true (halfAt n - (v - halfAt n)) ≡ signedWord n v
+pub from-half : (n v : ℕ) → 1 ≤ n → n ≤ 8 → v < 256 ^ n → halfAt n ≤ v → given (number true (halfAt n - (v - halfAt n))) ≡ signedWord n v
 from-half n v k h b l =
     let t : 2 * halfAt n ≡ 256 ^ n = half-twice n k h in
     let e : halfAt n - (v - halfAt n) ≡ 256 ^ n - v = omega arith in
@@ -81,18 +82,27 @@ module _ (order : ℕ) (s : List ℕ) (bytes : (k : ℕ) → k < length s → ge
   pub word-small : v < 256 ^ length s
   word-small = rw word-is (word-below order s bytes)
 
-  pub read-signed : (signed : Bool) (r : Number) → signed ≡ true → r ≡ signedWord (length s) v → r ≡ integerOf order signed s
+  pub read-signed : (signed : Bool) (r : Answer Whole) → signed ≡ true → r ≡ signedWord (length s) v → r ≡ integerOf order signed s
   unfolding integerOf
   read-signed signed r t q = q ∙ rw (ok, t, word-is)
 
-  pub read-plain : (signed : Bool) → signed ≡ false → v < 2 ^ 63 → Of false v ≡ integerOf order signed s
+  pub read-plain : (signed : Bool) → signed ≡ false → v < 2 ^ 63 → given (number false v) ≡ integerOf order signed s
   unfolding integerOf
   read-plain signed t h = rw (ok, t, ← word-is, lt-ltb v (2 ^ 63) h)
 
-  pub read-big : (signed : Bool) → signed ≡ false → 2 ^ 63 ≤ v → Big ≡ integerOf order signed s
+  pub read-big : (signed : Bool) → signed ≡ false → 2 ^ 63 ≤ v → refused 9 ≡ integerOf order signed s
   unfolding integerOf
   read-big signed t h = rw (ok, t, ← word-is, le-ltb v (2 ^ 63) h)
 
-pub read-bad : (order : ℕ) (signed : Bool) (s : List ℕ) → widthOk (length s) ≡ false → Bad ≡ integerOf order signed s
+pub read-bad : (order : ℕ) (signed : Bool) (s : List ℕ) → widthOk (length s) ≡ false → unlawful ≡ integerOf order signed s
 unfolding integerOf
 read-bad order signed s e = rw e
+
+pub integer-numbered : (order : ℕ) (signed : Bool) (s : List ℕ) → Numbered (integerOf order signed s)
+unfolding integerOf
+integer-numbered order signed s =
+    numbered-cond (widthOk (length s)) _ unlawful
+    (numbered-cond signed (signedWord (length s) (wordIn order s)) (unsignedWord (wordIn order s))
+    (numbered-cond (leb (256 ^ length s / 2) (wordIn order s)) (given (number true (256 ^ length s - wordIn order s))) (given (number false (wordIn order s))) tt tt)
+    (numbered-cond (ltb (wordIn order s) (2 ^ 63)) (given (number false (wordIn order s))) (refused 9) tt (λ e. omega arith)))
+    (λ e. omega arith)

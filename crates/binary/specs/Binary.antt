@@ -5,8 +5,8 @@ use Prim.Native.Nat.{ℕ, _-_, _/_, _^_}
 use lib.Dec.{eqb, leb, ltb}
 use lib.ListN.{length}
 use Rattle.lists.specs.Scan.{everyBy}
-use Rattle.value.specs.declared.Number.{Number}
-use Rattle.value.specs.declared.Number.the-variants.{Of, Bad, Big}
+use Rattle.value.specs.Answer.{Answer, refused, given}
+use Rattle.value.specs.Number.{Whole, number, unlawful}
 use Rattle.value.specs.Word.{wordOf}
 use Rattle.binary.specs.Bytes.{wordIn, bytesOf}
 
@@ -18,16 +18,16 @@ abbrev pub halfOf : ℕ → ℕ
 halfOf n = cond (widthOk n) (256 ^ n / 2) 0
 
 -- two's complement over n bytes: from half of 256^n on, the number less 256^n
-abbrev pub signedWord : ℕ → ℕ → Number
-signedWord n v = cond (leb (256 ^ n / 2) v) (Of true (256 ^ n - v)) (Of false v)
+abbrev pub signedWord : ℕ → ℕ → Answer Whole
+signedWord n v = cond (leb (256 ^ n / 2) v) (given (number true (256 ^ n - v))) (given (number false v))
 
 -- "unsigned Binary from 2^63 (9)"
-abbrev pub unsignedWord : ℕ → Number
-unsignedWord v = cond (ltb v (2 ^ 63)) (Of false v) Big
+abbrev pub unsignedWord : ℕ → Answer Whole
+unsignedWord v = cond (ltb v (2 ^ 63)) (given (number false v)) (refused 9)
 
-unfoldable pub integerOf : ℕ → Bool → List ℕ → Number
+unfoldable pub integerOf : ℕ → Bool → List ℕ → Answer Whole
 integerOf order signed s =
-    cond (widthOk (length s)) (cond signed (signedWord (length s) (wordIn order s)) (unsignedWord (wordIn order s))) Bad
+    cond (widthOk (length s)) (cond signed (signedWord (length s) (wordIn order s)) (unsignedWord (wordIn order s))) unlawful
 
 -- "Binary keeps low bytes" of the two's complement
 unfoldable pub integerBytes : ℕ → ℕ → Bool → ℕ → List ℕ

@@ -6,6 +6,7 @@ ghost use mathlib.Core.Bool.{Bool, true, cond};
 ghost use mathlib.Core.List.{List, [], _∷_, _++_};
 ghost use Prim.Native.Nat.{ℕ, _+_, _*_, _%_, _^_, _<_, _≤_};
 ghost use lib.ListN.{length, drop};
+ghost use Rattle.value.specs.Number.{readAs};
 ghost use Rattle.binary.specs.Bytes.{wordIn, bytesOf, bigFrom, littleOf, bigBytes, littleBytes};
 ghost use Rattle.binary.specs.Binary.{halfOf, widthOk, signedWord, integerOf, integerBytes, boolOf, isFalse};
 
@@ -115,7 +116,7 @@ pub fn half_of(n: usize) -> u64
 // A number of n bytes as two's complement.
 fn signed_word(n: usize, v: u64) -> Number
     requires { ⌜ (widthOk n ≡ true) × (v < 256 ^ n) ⌝ }
-    ensures { λ r. ⌜ r ≡ signedWord n v ⌝ }
+    ensures { λ r. ⌜ readAs r ≡ signedWord n v ⌝ }
 {
     let half = half_of(n);
     if v < half {
@@ -126,7 +127,7 @@ fn signed_word(n: usize, v: u64) -> Number
 
 // The number of a Binary field.
 pub fn parse_binary_int(part: &[u8], order: u32, signed: bool) -> Number
-    ensures { λ r. ⌜ r ≡ integerOf order signed (now (part .entry)) ⌝ }
+    ensures { λ r. ⌜ readAs r ≡ integerOf order signed (now (part .entry)) ⌝ }
 {
     let n = part.len();
     if width_ok(n) {

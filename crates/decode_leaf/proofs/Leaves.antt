@@ -9,7 +9,7 @@ use lib.ListN.{length, set, take, drop, length-drop, drop-of-length-le}
 use lib.Seq.{take-all}
 use borrow.Author.Tests.{lt-ltb, le-leb, lt-leb, eq-eqb, ne-eqb, leb-true, leb-false}
 use Rattle.layout.specs.declared.Entry.{Entry}
-use Rattle.decode_scalar.specs.declared.Decoded.{Decoded}
+use Rattle.value.specs.Answer.{Answer}
 use Rattle.decode_scalar.specs.Decode.{says, answerOf, textAfter}
 use Rattle.walks.specs.Walk.{single, Many, times}
 use Rattle.decode_leaf.specs.declared.Count.{Count}
@@ -132,7 +132,7 @@ module _ (kind p q r page at width told : ℕ) (bytes buffer : List ℕ) where
   stretch : Stretch ≡ take width (drop at bytes)
   stretch = let z : at + width - at ≡ width = omega arith in ap (λ n. take n (drop at bytes)) z
 
-  pub read-answer : (a : Decoded) → a ≡ answerOf (says kind p q r page Stretch) (length (take (length buffer - told) (drop told buffer)))
+  pub read-answer : (a : Answer Scalar) → a ≡ answerOf (says kind p q r page Stretch) (length (take (length buffer - told) (drop told buffer)))
       → a ≡ answerOf (says kind p q r page (take width (drop at bytes))) (length buffer - told)
   read-answer a e = e ∙ ap₂ (λ s n. answerOf (says kind p q r page s) n) stretch (ap length (told-part told buffer) ∙ length-drop told buffer)
 

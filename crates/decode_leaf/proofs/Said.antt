@@ -10,25 +10,26 @@ use lib.ListN.{length, take, drop, length-append, length-drop, take-append-drop}
 use lib.Seq.{length-take-le, take-append-add, take-append-seam}
 use borrow.Author.Tests.{le-leb, lt-leb, leb-true, leb-false}
 use Rattle.layout.specs.declared.Entry.{Entry}
-use Rattle.value.specs.declared.Number.{Number}
-use Rattle.value.specs.declared.Number.the-variants.{Of, Bad, Big}
 use Rattle.value.specs.declared.Scalar.{Scalar}
 use Rattle.value.specs.declared.Scalar.the-variants.{Null, Text, Float as FloatV, FloatBits, Bool as BoolV}
+use Rattle.value.specs.Answer.{Answer, refused as refusedBy, given}
+use Rattle.value.specs.Number.{Whole, number}
+use Rattle.value.proofs.Answers.{Numbered}
 use Rattle.ebcdic.specs.Ebcdic.{fromPage}
 use Rattle.text.specs.Text.{readText, front}
 use Rattle.display.specs.Display as Display
+use Rattle.display.proofs.Numbered.{int-numbered}
 use Rattle.binary.specs.Binary.{integerOf, boolOf}
-use Rattle.float.specs.declared.Parsed.{Parsed}
-use Rattle.float.specs.declared.Parsed.the-variants.{Value as Parsed-as, Bad as Unread}
+use Rattle.binary.proofs.Integers.{integer-numbered}
 use Rattle.float.specs.Field.{floatIn, fieldOk, wordFor}
 use Rattle.binary.specs.Bytes.{wordIn}
 use Rattle.value.specs.Scalar.{floatOf}
 use lib.Ieee.{binary64, ofBits, nanBits}
 use Rattle.hex.specs.Hex.{hexOf}
 use Rattle.edited.specs.Edited as Edited
-use Rattle.decode_scalar.specs.declared.Decoded.{Decoded}
-use Rattle.decode_scalar.specs.declared.Decoded.the-variants.{Value, Refused}
+use Rattle.edited.proofs.Round as EditedRound
 use Rattle.decode_scalar.specs.Decode.{Says, refused, value, text, says, flag, intSays, decimalSays, floatSays, decimalIn, answerOf, textAfter}
+use Rattle.decode_scalar.proofs.Answers.{decimal-numbered}
 use Rattle.walks.specs.Walk.{Leaf, bad, leaf}
 use Rattle.decode_leaf.specs.Counts.{noteIn, noteOf}
 use Rattle.decode_leaf.specs.Machine.{Held, state, leafIn, leafOf, movedIn, toldIn}
@@ -46,15 +47,13 @@ by : (b : Bool) (x y : Says) → Matches x → Matches y → Matches (cond b x y
 by true x y f g = f
 by false x y f g = g
 
-int-matches : (n : Number) → Matches (intSays n)
-int-matches (Of a b) = λ told. (refl, refl)
-int-matches Bad = λ e. omega arith
-int-matches Big = λ e. omega arith
+int-matches : (n : Answer Whole) → Numbered n → Matches (intSays n)
+int-matches (given (number a b)) z = λ told. (refl, refl)
+int-matches (refusedBy question) z = z
 
-decimal-matches : (n : Number) (scale : ℕ) → Matches (decimalSays scale n)
-decimal-matches (Of a b) scale = λ told. (refl, refl)
-decimal-matches Bad scale = λ e. omega arith
-decimal-matches Big scale = λ e. omega arith
+decimal-matches : (n : Answer Whole) (scale : ℕ) → Numbered n → Matches (decimalSays scale n)
+decimal-matches (given (number a b)) scale z = λ told. (refl, refl)
+decimal-matches (refusedBy question) scale z = z
 
 float-matches : (p q : ℕ) (bs : List ℕ) → Matches (floatSays (floatIn p q bs))
 unfolding floatIn
@@ -64,7 +63,7 @@ float-matches p q bs = go (fieldOk q (length bs)) (wordFor q (wordIn p bs))
     word w true = λ told. (refl, refl)
     word w false = λ told. (refl, refl)
 
-    go : (b : Bool) (w : ℕ) → Matches (floatSays (cond b (Parsed-as (floatOf w)) Unread))
+    go : (b : Bool) (w : ℕ) → Matches (floatSays (cond b (given (floatOf w)) (refusedBy 8)))
     go true w = word w (nanBits binary64 w)
     go false w = λ e. omega arith
 
@@ -72,13 +71,13 @@ pub matches : (kind p q r page : ℕ) (bs : List ℕ) → Matches (says kind p q
 unfolding says
 matches kind p q r page bs =
     by (eqb kind 0) (text (readText page (flag p) (flag q) (r % 256) bs)) _ tt (
-    by (eqb kind 1) (intSays (Display.intOf q (map (fromPage page) bs))) _ (int-matches (Display.intOf q (map (fromPage page) bs))) (
-    by (eqb kind 2) (intSays (integerOf p (flag q) bs)) _ (int-matches (integerOf p (flag q) bs)) (
+    by (eqb kind 1) (intSays (Display.intOf q (map (fromPage page) bs))) _ (int-matches (Display.intOf q (map (fromPage page) bs)) (int-numbered q (map (fromPage page) bs))) (
+    by (eqb kind 2) (intSays (integerOf p (flag q) bs)) _ (int-matches (integerOf p (flag q) bs) (integer-numbered p (flag q) bs)) (
     by (eqb kind 3) (floatSays (floatIn p q bs)) _ (float-matches p q bs) (
     by (eqb kind 4) (text (hexOf p bs)) _ tt (
     by (eqb kind 5) (value (BoolV (boolOf bs))) _ (λ told. (refl, refl)) (
-    by (eqb kind 7) (decimalSays r (decimalIn p q page bs)) _ (decimal-matches (decimalIn p q page bs) r) (
-    by (eqb kind 8) (decimalSays r (Edited.decodedOf (flag p) (map (fromPage page) bs))) (value Null) (decimal-matches (Edited.decodedOf (flag p) (map (fromPage page) bs)) r)
+    by (eqb kind 7) (decimalSays r (decimalIn p q page bs)) _ (decimal-matches (decimalIn p q page bs) r (decimal-numbered p q page bs)) (
+    by (eqb kind 8) (decimalSays r (Edited.decodedOf (flag p) (map (fromPage page) bs))) (value Null) (decimal-matches (Edited.decodedOf (flag p) (map (fromPage page) bs)) r (EditedRound.decode-numbered (flag p) (map (fromPage page) bs)))
     (λ told. (refl, refl)))))))))
 
 -- ---- a refusal, and a value with its state
@@ -94,20 +93,20 @@ module _ (l : List ℕ) (page : ℕ) (deps : Bool) (e : Entry) (once : Bool) (ru
   room-is t true q = le-leb (length (take told buffer) + length t) (length buffer) (omega (arith, so-far, leb-true (length t) (length buffer - told) q, h))
   room-is t false q = lt-leb (length (take told buffer) + length t) (length buffer) (omega (arith, so-far, leb-false (length t) (length buffer - told) q, h))
 
-  pub refused-leaf : (x : Says) → Matches x → (n : ℕ) → Refused n ≡ answerOf x (length buffer - told) → (n ≡ 0 → ⊥) × (Leaves x ≡ bad n)
+  pub refused-leaf : (x : Says) → Matches x → (n : ℕ) → refusedBy n ≡ answerOf x (length buffer - told) → (n ≡ 0 → ⊥) × (Leaves x ≡ bad n)
   refused-leaf (refused m) k n q = let z : n ≡ m = cc in ((λ s. k (sym z ∙ s)), ap bad (sym z))
   refused-leaf (value v) k n q = absurd (omega (arith, ap tag q))
     where
-      tag : Decoded → ℕ
-      tag (Value w) = 1
-      tag (Refused m) = 0
+      tag : Answer Scalar → ℕ
+      tag (given w) = 1
+      tag (refusedBy m) = 0
   refused-leaf (text t) k n q = go (leb (length t) (length buffer - told)) refl q
     where
-      tag : Decoded → ℕ
-      tag (Value w) = 1
-      tag (Refused m) = 0
+      tag : Answer Scalar → ℕ
+      tag (given w) = 1
+      tag (refusedBy m) = 0
 
-      go : (b : Bool) → leb (length t) (length buffer - told) ≡ b → Refused n ≡ cond b (Value (Text 0 (length t))) (Refused 16) → (n ≡ 0 → ⊥) × (Leaves (text t) ≡ bad n)
+      go : (b : Bool) → leb (length t) (length buffer - told) ≡ b → refusedBy n ≡ cond b (given (Text 0 (length t))) (refusedBy 16) → (n ≡ 0 → ⊥) × (Leaves (text t) ≡ bad n)
       go true g f = absurd (omega (arith, ap tag f))
       go false g f = let z : n ≡ 16 = cc in ((λ s. omega (arith, z, s)), rw (room-is t false g, z) refl)
 
@@ -124,24 +123,24 @@ module _ (l : List ℕ) (page : ℕ) (deps : Bool) (e : Entry) (once : Bool) (ru
       go true = refl
       go false = refl
 
-  pub read-leaf : (x : Says) → Matches x → (v : Scalar) → Value v ≡ answerOf x (length buffer - told)
+  pub read-leaf : (x : Says) → Matches x → (v : Scalar) → given v ≡ answerOf x (length buffer - told)
       → (after : List ℕ) → after ≡ take told buffer ++ textAfter x (drop told buffer) → Read x v after
   read-leaf (refused m) k v q after a = absurd (omega (arith, ap tag q))
     where
-      tag : Decoded → ℕ
-      tag (Value w) = 1
-      tag (Refused m) = 0
+      tag : Answer Scalar → ℕ
+      tag (given w) = 1
+      tag (refusedBy m) = 0
   read-leaf (value w) k v q after a =
       let z : w ≡ v = cc in
       let y : after ≡ buffer = a ∙ take-append-drop told buffer in
       rw (y, ← z) (record { is = rw (k told .0, k told .1) refl; within = rw (k told .1) h; same = refl })
   read-leaf (text t) k v q after a = go (leb (length t) (length buffer - told)) refl q (a ∙ ap (λ l. take told buffer ++ l) refl)
     where
-      tag : Decoded → ℕ
-      tag (Value w) = 1
-      tag (Refused m) = 0
+      tag : Answer Scalar → ℕ
+      tag (given w) = 1
+      tag (refusedBy m) = 0
 
-      go : (b : Bool) → leb (length t) (length buffer - told) ≡ b → Value v ≡ cond b (Value (Text 0 (length t))) (Refused 16)
+      go : (b : Bool) → leb (length t) (length buffer - told) ≡ b → given v ≡ cond b (given (Text 0 (length t))) (refusedBy 16)
           → after ≡ take told buffer ++ cond (leb (length t) (length (drop told buffer))) (front t (drop told buffer)) (drop told buffer) → Read (text t) v after
       go false g f p = absurd (omega (arith, ap tag f))
       go true g f p =

@@ -12,7 +12,7 @@ use Rattle.layout.specs.declared.Entry.{Entry}
 use Rattle.value.specs.declared.Scalar.{Scalar}
 use Rattle.decode_scalar.specs.declared.Decoded.{Decoded}
 use Rattle.decode_scalar.specs.declared.Decoded.the-variants.{Value, Refused}
-use Rattle.decode_scalar.specs.Decode.{Says, says, answerOf, textAfter}
+use Rattle.decode_scalar.specs.Decode.{Says, says, answerOf, decodedAs, textAfter}
 use Rattle.walks.specs.Walk.{isPad}
 use Rattle.walks.specs.Reading.{Outcome, refused, read, placed, scalar, pad}
 use Rattle.decode_leaf.specs.declared.Out.{Out}
@@ -42,15 +42,15 @@ module _ (l bytes : List ℕ) (page : ℕ) (deps : Bool) (e : Entry) (name : ℕ
     unfolding scalar dec
     scalar-is = rw (le-leb (at + e .width) (length bytes) inside) refl
 
-    module _ (d : Decoded) (q : d ≡ answerOf Said (length buffer - told)) where
+    module _ (d : Decoded) (q : decodedAs d ≡ answerOf Said (length buffer - told)) where
       pub value-refuses : {r : Out} {items after : List ℕ} {run′ : List ℤ} (n : ℕ) → d ≡ Refused n → r ≡ refusing n → Met Scalar-at r items after run′
       value-refuses n p z =
-          let f = refused-leaf l page deps e once run told buffer h Said (matches (e .kind) (e .p) (e .q) (e .r) page (take (e .width) (drop at bytes))) n (sym p ∙ q) in
+          let f = refused-leaf l page deps e once run told buffer h Said (matches (e .kind) (e .p) (e .q) (e .r) page (take (e .width) (drop at bytes))) n (sym (ap decodedAs p) ∙ q) in
           refuse n z (f .0) (scalar-is ∙ ap (placed name once (e .width) room) (f .1))
 
       module _ (v : Scalar) (p : d ≡ Value v) (after : List ℕ) (a : after ≡ take told buffer ++ textAfter Said (drop told buffer)) where
         pub value-read : Read l page deps e once run told buffer h Said v after
-        value-read = read-leaf l page deps e once run told buffer h Said (matches (e .kind) (e .p) (e .q) (e .r) page (take (e .width) (drop at bytes))) v (sym p ∙ q) after a
+        value-read = read-leaf l page deps e once run told buffer h Said (matches (e .kind) (e .p) (e .q) (e .r) page (take (e .width) (drop at bytes))) v (sym (ap decodedAs p) ∙ q) after a
 
         pub value-reads : {before : List ℕ} {r : Out} {items : List ℕ} {run′ : List ℤ} → (r .refused ≡ 0 → run′ ≡ noteIn l deps e once v run)
             → Placed (λ s. placed name once (e .width) room (leafIn (movedIn told v) s)) (toldIn told v) (e .width) before r items

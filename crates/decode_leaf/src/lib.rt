@@ -11,7 +11,7 @@ ghost use lib.Dec.{eqb, leb, ltb};
 ghost use lib.ListN.{length, take, drop, getD, set, replicate};
 ghost use Rattle.walks.specs.Walk.{single, isPad, times, howMany};
 ghost use Rattle.walks.specs.Reading.{placed, scalar};
-ghost use Rattle.decode_scalar.specs.Decode.{says, answerOf, textAfter};
+ghost use Rattle.decode_scalar.specs.Decode.{says, answerOf, decodedAs, textAfter};
 ghost use Rattle.decode_leaf.specs.Counts.{natOf, first, statusOf, heldIn, noteIn, setIn};
 ghost use Rattle.decode_leaf.specs.Capped.{sat};
 ghost use Rattle.decode_leaf.specs.Machine.{out, refusing, kept, state, leafIn, leafAt, Lone, Element, textIn, textBehind, Placed, Listed, Counted, headOf, movedIn, toldIn};
@@ -407,7 +407,7 @@ fn read_part(
 ) -> Decoded
     requires { ⌜ at + width ≤ length (now «record») ⌝ }
     requires { ⌜ told ≤ length (now text) ⌝ }
-    ensures { λ a. ⌜ a ≡ answerOf (says kind p q r page (take width (drop at (now («record» .entry))))) (length (now (text .entry)) - told) ⌝ }
+    ensures { λ a. ⌜ decodedAs a ≡ answerOf (says kind p q r page (take width (drop at (now («record» .entry))))) (length (now (text .entry)) - told) ⌝ }
     ensures { λ _. ⌜ now (text .exit) ≡ take told (now (text .entry)) ++ textAfter (says kind p q r page (take width (drop at (now («record» .entry))))) (drop told (now (text .entry))) ⌝ }
 {
     let from = at as usize;

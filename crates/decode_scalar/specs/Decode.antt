@@ -1,19 +1,18 @@
 -- What the bytes of a scalar field say, by its kind: the table of kinds and their words p, q, r.
-use mathlib.Core.List.{List, [], _∷_, _++_, map}
-use mathlib.Core.Bool.{Bool, true, false, not, cond}
+use mathlib.Core.List.{List, map}
+use mathlib.Core.Bool.{Bool, not, cond}
 use Prim.Native.Nat.{ℕ, _%_}
 use lib.Dec.{eqb, leb}
-use lib.ListN.{length, drop}
-use Rattle.value.specs.declared.Number.{Number}
-use Rattle.value.specs.declared.Number.the-variants.{Of, Bad, Big}
+use lib.ListN.{length}
 use Rattle.value.specs.declared.Scalar.{Scalar}
 use Rattle.value.specs.declared.Scalar.the-variants.{Null, Text, Int, Decimal, Bool as BoolV}
+use Rattle.value.specs.Answer.{Answer, refused as refusedBy, given}
+use Rattle.value.specs.Number.{Whole, number}
+use Rattle.value.specs.Scalar.{decimal}
 use Rattle.ebcdic.specs.Ebcdic.{fromPage}
 use Rattle.text.specs.Text.{readText, front}
 use Rattle.display.specs.Display as Display
 use Rattle.binary.specs.Binary.{integerOf, boolOf}
-use Rattle.float.specs.declared.Parsed.{Parsed}
-use Rattle.float.specs.declared.Parsed.the-variants.{Value as Read, Bad as Unread}
 use Rattle.float.specs.Field.{floatIn}
 use Rattle.hex.specs.Hex.{hexOf}
 use Rattle.packed.specs.Packed as Packed
@@ -32,22 +31,20 @@ pub data Says : Type 0 where
   value : Scalar → Says
   text : List ℕ → Says
 
-abbrev pub intSays : Number → Says
-intSays (Of negative size) = value (Int negative size)
-intSays Bad = refused 8
-intSays Big = refused 9
+abbrev pub intSays : Answer Whole → Says
+intSays (refusedBy question) = refused question
+intSays (given (number negative size)) = value (Int negative size)
 
-abbrev pub decimalSays : ℕ → Number → Says
-decimalSays scale (Of negative size) = value (Decimal negative size scale)
-decimalSays scale Bad = refused 8
-decimalSays scale Big = refused 9
+abbrev pub decimalSays : ℕ → Answer Whole → Says
+decimalSays scale (refusedBy question) = refused question
+decimalSays scale (given (number negative size)) = value (decimal negative size scale)
 
-abbrev pub floatSays : Parsed → Says
-floatSays (Read v) = value v
-floatSays Unread = refused 8
+abbrev pub floatSays : Answer Scalar → Says
+floatSays (refusedBy question) = refused question
+floatSays (given v) = value v
 
 -- "p 0 Display 1 Comp3 2 Zoned, q sign"
-abbrev pub decimalIn : ℕ → ℕ → ℕ → List ℕ → Number
+abbrev pub decimalIn : ℕ → ℕ → ℕ → List ℕ → Answer Whole
 decimalIn p q page part =
     cond (eqb p 0) (Display.decimalOf q (map (fromPage page) part))
     (cond (eqb p 1) (Packed.decodeOf part)
@@ -67,10 +64,14 @@ says kind p q r page part =
     (value Null))))))))
 
 -- "Place for item and text? 16": a text goes to the front of the text buffer, if it has room
-abbrev pub answerOf : Says → ℕ → Decoded
-answerOf (refused n) room = Refused n
-answerOf (value v) room = Value v
-answerOf (text t) room = cond (leb (length t) room) (Value (Text 0 (length t))) (Refused 16)
+abbrev pub answerOf : Says → ℕ → Answer Scalar
+answerOf (refused n) room = refusedBy n
+answerOf (value v) room = given v
+answerOf (text t) room = cond (leb (length t) room) (given (Text 0 (length t))) (refusedBy 16)
+
+abbrev pub decodedAs : Decoded → Answer Scalar
+decodedAs (Value v) = given v
+decodedAs (Refused n) = refusedBy n
 
 abbrev pub textAfter : Says → List ℕ → List ℕ
 textAfter (refused n) buffer = buffer

@@ -8,11 +8,14 @@ ghost use mathlib.Core.Path.{_≡_};
 ghost use mathlib.Core.List.{map};
 ghost use Prim.Native.Nat.{ℕ, _%_, _<_};
 ghost use lib.ListN.{length};
+ghost use Rattle.value.specs.Answer.{given};
+ghost use Rattle.value.specs.Number.{readAs};
+ghost use Rattle.float.specs.Field.{parsedAs};
 ghost use Rattle.ebcdic.specs.Ebcdic.{fromPage};
 ghost use Rattle.text.specs.Text.{readText};
 ghost use Rattle.hex.specs.Hex.{hexOf};
 ghost use Rattle.decode_scalar.specs.Decode as Decode;
-ghost use Rattle.decode_scalar.specs.Decode.{says, answerOf, textAfter, intSays, decimalSays, floatSays, decimalIn};
+ghost use Rattle.decode_scalar.specs.Decode.{says, answerOf, decodedAs, textAfter, intSays, decimalSays, floatSays, decimalIn};
 
 // What reading a scalar field answers: its value, a Text lying at the front of the text buffer; or the number of the question that refuses it.
 pub enum Decoded {
@@ -35,7 +38,7 @@ pub fn low_byte(x: u32) -> u8
 }
 
 fn int_scalar(n: Number) -> Decoded
-    ensures { λ r. ⌜ r ≡ answerOf (intSays n) 0 ⌝ }
+    ensures { λ r. ⌜ decodedAs r ≡ answerOf (intSays (readAs n)) 0 ⌝ }
 {
     match n {
         Number::Of(negative, size) => Decoded::Value(Scalar::Int(negative, size)),
@@ -45,7 +48,7 @@ fn int_scalar(n: Number) -> Decoded
 }
 
 fn decimal_scalar(n: Number, scale: u32) -> Decoded
-    ensures { λ r. ⌜ r ≡ answerOf (decimalSays scale n) 0 ⌝ }
+    ensures { λ r. ⌜ decodedAs r ≡ answerOf (decimalSays scale (readAs n)) 0 ⌝ }
 {
     match n {
         Number::Of(negative, size) => Decoded::Value(Scalar::Decimal(negative, size, scale as u64)),
@@ -55,7 +58,7 @@ fn decimal_scalar(n: Number, scale: u32) -> Decoded
 }
 
 fn float_answer(f: Parsed) -> Decoded
-    ensures { λ r. ⌜ r ≡ answerOf (floatSays f) 0 ⌝ }
+    ensures { λ r. ⌜ decodedAs r ≡ answerOf (floatSays (parsedAs f)) 0 ⌝ }
 {
     match f {
         Parsed::Value(v) => Decoded::Value(v),
@@ -64,7 +67,7 @@ fn float_answer(f: Parsed) -> Decoded
 }
 
 fn parse_decimal(part: &[u8], page: u32, p: u32, q: u32) -> Number
-    ensures { λ r. ⌜ r ≡ decimalIn p q page (now (part .entry)) ⌝ }
+    ensures { λ r. ⌜ readAs r ≡ decimalIn p q page (now (part .entry)) ⌝ }
 {
     if p == 0 {
         return display::parse_display_decimal(part, page, q);
@@ -76,13 +79,13 @@ fn parse_decimal(part: &[u8], page: u32, p: u32, q: u32) -> Number
 }
 
 fn text_answer(n: usize) -> Decoded
-    ensures { λ r. ⌜ r ≡ Decoded.Value (Scalar.Text 0 n) ⌝ }
+    ensures { λ r. ⌜ decodedAs r ≡ given (Scalar.Text 0 n) ⌝ }
 {
     Decoded::Value(Scalar::Text(0, n as u64))
 }
 
 fn read_text(part: &[u8], page: u32, right: bool, trim: bool, pad: u8, text: &mut [u8]) -> Decoded
-    ensures { λ r. ⌜ r ≡ answerOf (Decode.text (readText page right trim pad (now (part .entry)))) (length (now (text .entry))) ⌝ }
+    ensures { λ r. ⌜ decodedAs r ≡ answerOf (Decode.text (readText page right trim pad (now (part .entry)))) (length (now (text .entry))) ⌝ }
     ensures { λ _. ⌜ now (text .exit) ≡ textAfter (Decode.text (readText page right trim pad (now (part .entry)))) (now (text .entry)) ⌝ }
 {
     match text::put_text(part, page, right, trim, pad, text) {
@@ -92,7 +95,7 @@ fn read_text(part: &[u8], page: u32, right: bool, trim: bool, pad: u8, text: &mu
 }
 
 fn read_hex(part: &[u8], order: u32, text: &mut [u8]) -> Decoded
-    ensures { λ r. ⌜ r ≡ answerOf (Decode.text (hexOf order (now (part .entry)))) (length (now (text .entry))) ⌝ }
+    ensures { λ r. ⌜ decodedAs r ≡ answerOf (Decode.text (hexOf order (now (part .entry)))) (length (now (text .entry))) ⌝ }
     ensures { λ _. ⌜ now (text .exit) ≡ textAfter (Decode.text (hexOf order (now (part .entry)))) (now (text .entry)) ⌝ }
 {
     if hex::to_hex(part, order, text) {
@@ -111,7 +114,7 @@ pub fn decode_scalar(
     part: &[u8],
     text: &mut [u8],
 ) -> Decoded
-    ensures { λ a. ⌜ a ≡ answerOf (says kind p q r page (now (part .entry))) (length (now (text .entry))) ⌝ }
+    ensures { λ a. ⌜ decodedAs a ≡ answerOf (says kind p q r page (now (part .entry))) (length (now (text .entry))) ⌝ }
     ensures { λ _. ⌜ now (text .exit) ≡ textAfter (says kind p q r page (now (part .entry))) (now (text .entry)) ⌝ }
 {
     match kind {

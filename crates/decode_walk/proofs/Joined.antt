@@ -14,8 +14,8 @@ use Rattle.layout.specs.Layout.{present, entryAt, entryCount, spanOf, part, ent
 use Rattle.layout.proofs.Laws.{some-at}
 use Rattle.layout.proofs.Lawful.{entry-lawful, spans-lawful, reserved-lawful}
 use Rattle.spans.specs.Tree.{none, node, treeIn, tree, endOf}
-use Rattle.value.specs.declared.Number.{Number}
-use Rattle.value.specs.declared.Number.the-variants.{Of, Bad, Big}
+use Rattle.value.specs.Answer.{Answer, refused as refusedBy, given}
+use Rattle.value.specs.Number.{Whole, number}
 use Rattle.value.specs.declared.Scalar.{Scalar}
 use Rattle.value.specs.declared.Scalar.the-variants.{Null, Text, Int, Decimal, Float as FloatV, FloatBits, Bool as BoolV}
 use Rattle.value.specs.Scalar.{tagOf, firstOf, secondOf}
@@ -48,10 +48,9 @@ Ranged (value (FloatBits x)) = Unit {0}
 Ranged (value (BoolV b)) = Unit {0}
 Ranged (text t) = Unit {0}
 
-int-ranged : (n : Number) → Small n → Ranged (intSays n)
-int-ranged (Of negative size) h = h
-int-ranged Bad h = tt
-int-ranged Big h = tt
+int-ranged : (n : Answer Whole) → Small n → Ranged (intSays n)
+int-ranged (given (number negative size)) h = h
+int-ranged (refusedBy question) h = tt
 
 ranged : (kind p q r page : ℕ) (bs : List ℕ) → (eqb kind 1 || eqb kind 2) ≡ true → Ranged (says kind p q r page bs)
 unfolding says

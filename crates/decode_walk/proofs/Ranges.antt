@@ -7,9 +7,8 @@ use native.Mathlib.Omega.{arith}
 use lib.Dec.{eqb, ltb, leb}
 use lib.ListN.{length, getD, drop}
 use borrow.Author.Tests.{ltb-true, ltb-false, leb-false}
-use Rattle.value.specs.declared.Number.{Number}
-use Rattle.value.specs.declared.Number.the-variants.{Of, Bad, Big}
-use Rattle.value.specs.Number.{numberIn}
+use Rattle.value.specs.Answer.{Answer, refused, given}
+use Rattle.value.specs.Number.{Whole, number, some, readIn, unlawful}
 use Rattle.value.specs.Digits.{valueOf, isDigit, digitIn}
 use Rattle.lists.specs.Scan.{everyBy}
 use Rattle.numerals.specs.Numerals.{isSign, trimmed}
@@ -19,20 +18,19 @@ use Rattle.binary.specs.Bytes.{wordIn}
 use Rattle.binary.proofs.Integers.{width-high}
 
 -- a number that is not negative is below 2^63
-abbrev pub Small : Number → Type 0
-Small (Of negative size) = (negative && ltb 0 size) ≡ false → size < 9223372036854775808
-Small Bad = Unit {0}
-Small Big = Unit {0}
+abbrev pub Small : Answer Whole → Type 0
+Small (given (number negative size)) = (negative && ltb 0 size) ≡ false → size < 9223372036854775808
+Small (refused question) = Unit {0}
 
-by : (b : Bool) (x y : Number) → (b ≡ true → Small x) → (b ≡ false → Small y) → Small (cond b x y)
+by : (b : Bool) (x y : Answer Whole) → (b ≡ true → Small x) → (b ≡ false → Small y) → Small (cond b x y)
 by true x y f g = f refl
 by false x y f g = g refl
 
-number-small : (bound : ℕ) (negative : Bool) (v : ℕ) → bound ≤ 9223372036854775808 → Small (numberIn bound negative v)
-number-small bound negative v h = by (ltb v bound) (Of (ltb 0 v && negative) v) Big (λ e _. omega (arith, ltb-true v bound e, h)) (λ _. tt)
+number-small : (bound : ℕ) (negative : Bool) (v : ℕ) → bound ≤ 9223372036854775808 → Small (readIn bound negative v)
+number-small bound negative v h = by (ltb v bound) (some negative v) (refused 9) (λ e _. omega (arith, ltb-true v bound e, h)) (λ _. tt)
 
-minus-small : (bound v : ℕ) → Small (numberIn bound true v)
-minus-small bound v = by (ltb v bound) (Of (ltb 0 v && true) v) Big (λ e. go (ltb 0 v) refl) (λ _. tt)
+minus-small : (bound v : ℕ) → Small (readIn bound true v)
+minus-small bound v = by (ltb v bound) (some true v) (refused 9) (λ e. go (ltb 0 v) refl) (λ _. tt)
   where
     go : (b : Bool) → ltb 0 v ≡ b → ((b && true) && b) ≡ false → v < 9223372036854775808
     go true e f = absurd (true≢false f)
@@ -40,11 +38,11 @@ minus-small bound v = by (ltb v bound) (Of (ltb 0 v && true) v) Big (λ e. go (l
 
 digits-small : (bound : ℕ) (negative : Bool) (t : List ℕ) → bound ≤ 9223372036854775808 → Small (digitsIn bound negative t)
 unfolding digitsIn
-digits-small bound negative t h = by (ltb 0 (length t) && everyBy isDigit t) (numberIn bound negative (valueOf (map digitIn t))) Bad (λ _. number-small bound negative (valueOf (map digitIn t)) h) (λ _. tt)
+digits-small bound negative t h = by (ltb 0 (length t) && everyBy isDigit t) (readIn bound negative (valueOf (map digitIn t))) unlawful (λ _. number-small bound negative (valueOf (map digitIn t)) h) (λ _. tt)
 
 digits-minus : (bound : ℕ) (t : List ℕ) → Small (digitsIn bound true t)
 unfolding digitsIn
-digits-minus bound t = by (ltb 0 (length t) && everyBy isDigit t) (numberIn bound true (valueOf (map digitIn t))) Bad (λ _. minus-small bound (valueOf (map digitIn t))) (λ _. tt)
+digits-minus bound t = by (ltb 0 (length t) && everyBy isDigit t) (readIn bound true (valueOf (map digitIn t))) unlawful (λ _. minus-small bound (valueOf (map digitIn t))) (λ _. tt)
 
 whole-small : (t : List ℕ) → Small (wholeOf t)
 unfolding wholeOf
@@ -55,7 +53,7 @@ whole-small t =
 pub int-small : (sign : ℕ) (s : List ℕ) → Small (intOf sign s)
 unfolding intOf intIn
 int-small sign s =
-    by (eqb (length (trimmed (restOf sign (trimmed s)))) 0) (Of false 0) _ (λ _ _. omega arith) (λ _.
+    by (eqb (length (trimmed (restOf sign (trimmed s)))) 0) (some false 0) _ (λ _ _. omega arith) (λ _.
     by (isSign (signAt sign (trimmed s))) (digitsIn (2 ^ 63) (eqb (signAt sign (trimmed s)) 45) (trimmed (restOf sign (trimmed s)))) (wholeOf (trimmed (restOf sign (trimmed s))))
     (λ _. digits-small (2 ^ 63) (eqb (signAt sign (trimmed s)) 45) (trimmed (restOf sign (trimmed s))) (omega arith)) (λ _. whole-small (trimmed (restOf sign (trimmed s)))))
 
@@ -73,12 +71,12 @@ half-small (suc (suc (suc (suc (suc (suc (suc (suc (suc n))))))))) h = absurd (o
 
 pub binary-small : (order : ℕ) (signed : Bool) (s : List ℕ) → Small (integerOf order signed s)
 unfolding integerOf
-binary-small order signed s = by (widthOk (length s)) (cond signed (signedWord (length s) (wordIn order s)) (unsignedWord (wordIn order s))) Bad
+binary-small order signed s = by (widthOk (length s)) (cond signed (signedWord (length s) (wordIn order s)) (unsignedWord (wordIn order s))) unlawful
     (λ w. by signed (signedWord (length s) (wordIn order s)) (unsignedWord (wordIn order s)) (λ _. sign w) (λ _. plain)) (λ _. tt)
   where
     sign : widthOk (length s) ≡ true → Small (signedWord (length s) (wordIn order s))
-    sign w = by (leb (256 ^ length s / 2) (wordIn order s)) (Of true (256 ^ length s - wordIn order s)) (Of false (wordIn order s))
+    sign w = by (leb (256 ^ length s / 2) (wordIn order s)) (given (number true (256 ^ length s - wordIn order s))) (given (number false (wordIn order s)))
         (λ _ f. omega (arith, ltb-false 0 (256 ^ length s - wordIn order s) f)) (λ e _. omega (arith, leb-false (256 ^ length s / 2) (wordIn order s) e, half-small (length s) (width-high (length s) w)))
 
     plain : Small (unsignedWord (wordIn order s))
-    plain = by (ltb (wordIn order s) (2 ^ 63)) (Of false (wordIn order s)) Big (λ e _. omega (arith, ltb-true (wordIn order s) (2 ^ 63) e)) (λ _. tt)
+    plain = by (ltb (wordIn order s) (2 ^ 63)) (given (number false (wordIn order s))) (refused 9) (λ e _. omega (arith, ltb-true (wordIn order s) (2 ^ 63) e)) (λ _. tt)

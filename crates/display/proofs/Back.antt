@@ -8,9 +8,8 @@ use native.Mathlib.Omega.{arith}
 use lib.Dec.{ltb, leb, eqb}
 use lib.ListN.{length, getD, length-append}
 use borrow.Author.Tests.{lt-ltb, le-leb, ne-eqb}
-use Rattle.value.specs.declared.Number.the-variants.{Bad}
 use Rattle.value.specs.Digits.{digitText, limit, roomFor}
-use Rattle.value.specs.Number.{some, numberOf}
+use Rattle.value.specs.Number.{some, readIn, unlawful}
 use Rattle.value.proofs.Digits.{length-digitText, value-of-digits}
 use Rattle.value.proofs.Answers.{numberIn-fits}
 use Rattle.value.proofs.Field.{last-snoc, front-snoc}
@@ -48,7 +47,7 @@ first-digit (suc w) size h = omega arith
 digits-read : (bound : ℕ) (negative : Bool) (w size : ℕ) → 0 < w → size < 10 ^ w → size < bound → digitsIn bound negative (digitText w size) ≡ some negative size
 unfolding digitsIn
 digits-read bound negative w size h k b =
-    rw (length-digitText w size, lt-ltb 0 w h, all-digits w size, digits-back w size, value-of-digits w size k) (numberIn-fits bound negative size b)
+    rw (length-digitText w size, lt-ltb 0 w h, all-digits w size, digits-back w size, value-of-digits w size k) (numberIn-fits 9 bound negative size b)
 
 whole-read : (w size : ℕ) → 0 < w → size < 10 ^ w → size < 2 ^ 63 → wholeOf (digitText w size) ≡ some false size
 unfolding wholeOf
@@ -183,7 +182,7 @@ module _ (page w : ℕ) (negative : Bool) (size : ℕ) (signed : Bool) (sign : �
   -- so a size below the limit is read back
   pub decoded : size < limit → decimalOf sign (map (fromPage page) (map (ontoPage page) (intBytes w negative size sign))) ≡ some negative size
   unfolding decimalOf
-  decoded b = decimal-back numberOf Bad ∙ numberIn-fits limit negative size b
+  decoded b = decimal-back (readIn limit) unlawful ∙ numberIn-fits 9 limit negative size b
 
 -- ---- a Display field's number and an Int field's fit alike, but for the precision
 

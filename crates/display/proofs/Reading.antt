@@ -8,10 +8,9 @@ use native.Mathlib.Numerals.{add-one}
 use lib.ListN.{length, getD, drop, drop-of-length-le, length-map}
 use lib.Seq.{drop-cons}
 use borrow.Author.Tests.{lt-ltb}
-use Rattle.value.specs.declared.Number.{Number}
-use Rattle.value.specs.declared.Number.the-variants.{Bad}
+use Rattle.value.specs.Answer.{Answer}
 use Rattle.value.specs.Digits.{valueFrom, isDigit, digitIn}
-use Rattle.value.specs.Number.{numberIn}
+use Rattle.value.specs.Number.{Whole, readIn, unlawful}
 use Rattle.value.proofs.Digits.{cap-answer}
 use Rattle.value.proofs.Answers.{numberIn-capped}
 use Rattle.lists.specs.Scan.{everyBy}
@@ -19,11 +18,11 @@ use Rattle.display.specs.Display.{digitsIn}
 
 -- ---- digits alone, behind a size that is read already
 
-unfoldable pub wholeFrom : ℕ → Bool → ℕ → List ℕ → Number
-wholeFrom bound negative v s = cond (everyBy isDigit s) (numberIn bound negative (valueFrom v (map digitIn s))) Bad
+unfoldable pub wholeFrom : ℕ → Bool → ℕ → List ℕ → Answer Whole
+wholeFrom bound negative v s = cond (everyBy isDigit s) (readIn bound negative (valueFrom v (map digitIn s))) unlawful
 
 module _ (g : ℕ → ℕ) (s : List ℕ) (bound : ℕ) (negative : Bool) where
-  pub digits-none : length s ≡ 0 → digitsIn bound negative (map g s) ≡ Bad
+  pub digits-none : length s ≡ 0 → digitsIn bound negative (map g s) ≡ unlawful
   unfolding digitsIn
   digits-none h = rw (length-map s g, h)
 
@@ -31,7 +30,7 @@ module _ (g : ℕ → ℕ) (s : List ℕ) (bound : ℕ) (negative : Bool) where
   unfolding digitsIn wholeFrom
   digits-some h = rw (length-map s g, lt-ltb 0 (length s) h)
 
-  pub whole-bad : (i v : ℕ) → i < length s → isDigit (g (getD s i 0)) ≡ false → wholeFrom bound negative v (map g (drop i s)) ≡ Bad
+  pub whole-bad : (i v : ℕ) → i < length s → isDigit (g (getD s i 0)) ≡ false → wholeFrom bound negative v (map g (drop i s)) ≡ unlawful
   unfolding wholeFrom everyBy
   whole-bad i v below e = rw (drop-cons s i 0 below, e)
 
@@ -40,9 +39,9 @@ module _ (g : ℕ → ℕ) (s : List ℕ) (bound : ℕ) (negative : Bool) where
   unfolding wholeFrom everyBy
   whole-go i v next below e n =
       rw (add-one, n, drop-cons s i 0 below, e)
-      (ap (λ (m : Number). cond (everyBy isDigit (map g (drop (suc i) s))) m Bad)
-      (sym (cap-answer (numberIn bound negative) bound (λ n. numberIn-capped bound bound negative n (omega arith)) (v * 10 + digitIn (g (getD s i 0))) (map digitIn (map g (drop (suc i) s))))))
+      (ap (λ (m : Answer Whole). cond (everyBy isDigit (map g (drop (suc i) s))) m unlawful)
+      (sym (cap-answer (readIn bound negative) bound (λ n. numberIn-capped 9 bound negative n bound (omega arith)) (v * 10 + digitIn (g (getD s i 0))) (map digitIn (map g (drop (suc i) s))))))
 
-  pub whole-end : (i v : ℕ) → length s ≤ i → wholeFrom bound negative v (map g (drop i s)) ≡ numberIn bound negative v
+  pub whole-end : (i v : ℕ) → length s ≤ i → wholeFrom bound negative v (map g (drop i s)) ≡ readIn bound negative v
   unfolding wholeFrom everyBy
   whole-end i v h = rw (drop-of-length-le s h)

@@ -8,11 +8,10 @@ use native.Mathlib.Omega.{arith}
 use lib.Dec.{eqb}
 use lib.ListN.{length, getD, take, drop, length-map}
 use borrow.Author.Tests.{eq-eqb, ne-eqb}
-use Rattle.value.specs.declared.Number.the-variants.{Of, Bad}
 use Rattle.lists.proofs.Lists.{getD-map, map-take, map-drop, map-same}
 use Rattle.lists.proofs.Scan.{tail-part}
 use Rattle.ebcdic.specs.Ebcdic.{fromPage}
-use Rattle.value.specs.Number.{withSign}
+use Rattle.value.specs.Number.{some, unlawful, withSign}
 use Rattle.numerals.specs.Numerals.{trimmed, keptOf, isSign}
 use Rattle.numerals.proofs.Reading.{kept-signed}
 use Rattle.display.specs.Display.{signAt, restOf, digitsIn, wholeOf, intIn, intOf, decimalOf}
@@ -67,7 +66,7 @@ module _ (g : ℕ → ℕ) (s : List ℕ) (sign : ℕ) where
 
 -- ---- one leading sign or none
 
-pub whole-none : (g : ℕ → ℕ) (s : List ℕ) → length s ≡ 0 → wholeOf (map g s) ≡ Bad
+pub whole-none : (g : ℕ → ℕ) (s : List ℕ) → length s ≡ 0 → wholeOf (map g s) ≡ unlawful
 unfolding wholeOf digitsIn
 whole-none g [] h = refl
 whole-none g (x ∷ s) h = absurd (omega arith)
@@ -99,7 +98,7 @@ module _ (g : ℕ → ℕ) (sign : ℕ) (s t rest : List ℕ) (et : map g t ≡ 
     unfolding intOf
     int-is = rw (eu, er, et)
 
-    pub int-empty : length u ≡ 0 → Of false 0 ≡ intOf sign (map g s)
+    pub int-empty : length u ≡ 0 → some false 0 ≡ intOf sign (map g s)
     unfolding intIn
     int-empty h = sym (rw (length-map u g, eq-eqb (length u) 0 h)) ∙ int-is
 

@@ -4,10 +4,9 @@ use mathlib.Core.Bool.{Bool, true, false, _&&_, _||_, not, cond}
 use Prim.Native.Nat.{ℕ, _+_, _-_, _^_}
 use lib.Dec.{ltb, leb, eqb}
 use lib.ListN.{length, getD, take, drop}
-use Rattle.value.specs.declared.Number.{Number}
-use Rattle.value.specs.declared.Number.the-variants.{Of, Bad, Big}
-use Rattle.value.specs.Digits.{valueOf, digitText, isDigit, digitIn, roomFor}
-use Rattle.value.specs.Number.{some, numberIn, numberOf}
+use Rattle.value.specs.Digits.{valueOf, digitText, isDigit, digitIn, limit, roomFor}
+use Rattle.value.specs.Answer.{Answer, refused, given}
+use Rattle.value.specs.Number.{Whole, some, readIn, unlawful, noNumber}
 use Rattle.value.specs.Field.{lastOf}
 use Rattle.value.specs.declared.Scalar.{Scalar}
 use Rattle.value.specs.declared.Scalar.the-variants.{Null, Text, Int, Decimal, Float, FloatBits, Bool as BoolV}
@@ -31,49 +30,48 @@ restOf sign t = cond (isSign (signAt sign t)) (cond (eqb sign 2) (drop 1 t) (tak
 -- ---- reading
 
 -- the number of a text of digits alone: "All bytes are judged before the size"
-unfoldable pub digitsIn : ℕ → Bool → List ℕ → Number
-digitsIn bound negative t = cond (ltb 0 (length t) && everyBy isDigit t) (numberIn bound negative (valueOf (map digitIn t))) Bad
+unfoldable pub digitsIn : ℕ → Bool → List ℕ → Answer Whole
+digitsIn bound negative t = cond (ltb 0 (length t) && everyBy isDigit t) (readIn bound negative (valueOf (map digitIn t))) unlawful
 
 -- "one leading + or - is allowed"; from -2^63 to 2^63 - 1
-unfoldable pub wholeOf : List ℕ → Number
+unfoldable pub wholeOf : List ℕ → Answer Whole
 wholeOf t =
     cond (eqb (getD t 0 0) 45) (digitsIn (2 ^ 63 + 1) true (drop 1 t))
     (cond (eqb (getD t 0 0) 43) (digitsIn (2 ^ 63) false (drop 1 t))
     (digitsIn (2 ^ 63) false t))
 
 -- behind the separate sign: "blanks trimmed; empty is 0; if no sign was taken, one leading + or - is allowed"
-unfoldable pub intIn : ℕ → List ℕ → List ℕ → Number
+unfoldable pub intIn : ℕ → List ℕ → List ℕ → Answer Whole
 intIn sign t u =
-    cond (eqb (length u) 0) (Of false 0)
+    cond (eqb (length u) 0) (some false 0)
     (cond (isSign (signAt sign t)) (digitsIn (2 ^ 63) (eqb (signAt sign t) 45) u)
     (wholeOf u))
 
 -- "Int: blanks trimmed, separate sign taken, blanks trimmed"
-unfoldable pub intOf : ℕ → List ℕ → Number
+unfoldable pub intOf : ℕ → List ℕ → Answer Whole
 intOf sign s = intIn sign (trimmed s) (trimmed (restOf sign (trimmed s)))
 
 -- "Display (trim and sign as Int) ..: digits kept, others skipped"; answer: what a lawful field answers, from its sign and its size
 abbrev pub decimalBy : {X : Type 0} → (Bool → ℕ → X) → X → ℕ → List ℕ → X
 decimalBy answer bad sign s = keptBy (answer (eqb (signAt sign (trimmed s)) 45)) bad (restOf sign (trimmed s))
 
-unfoldable pub decimalOf : ℕ → List ℕ → Number
-decimalOf sign s = decimalBy numberOf Bad sign s
+unfoldable pub decimalOf : ℕ → List ℕ → Answer Whole
+decimalOf sign s = decimalBy (readIn limit) unlawful sign s
 
--- "integer text outside 64 bits (13)": a text for a number has no answer but a number and a refusal
-abbrev pub orRefused : Number → Number
-orRefused (Of negative size) = Of negative size
-orRefused Bad = Bad
-orRefused Big = Bad
+-- "integer text outside 64 bits (13)": where a text is meant as a number, whatever refuses it as one refuses it by 13
+abbrev pub orRefused : Answer Whole → Answer Whole
+orRefused (refused question) = noNumber
+orRefused (given n) = given n
 
--- "value of a kind Rust takes there, text for a number an integer": the integer that a scalar stands for; Bad where there is none
-abbrev pub wholeIn : Scalar → List ℕ → Number
-wholeIn Null text = Of false 0
+-- "value of a kind Rust takes there, text for a number an integer": the integer that a scalar stands for
+abbrev pub wholeIn : Scalar → List ℕ → Answer Whole
+wholeIn Null text = some false 0
 wholeIn (Text start count) text = orRefused (wholeOf (trimmed text))
 wholeIn (Int negative size) text = some negative size
-wholeIn (Decimal negative size scale) text = cond (eqb scale 0) (some negative size) Bad
-wholeIn (Float x) text = Bad
-wholeIn (FloatBits w) text = Bad
-wholeIn (BoolV b) text = Bad
+wholeIn (Decimal negative size scale) text = cond (eqb scale 0) (some negative size) noNumber
+wholeIn (Float x) text = noNumber
+wholeIn (FloatBits w) text = noNumber
+wholeIn (BoolV b) text = noNumber
 
 -- ---- writing
 

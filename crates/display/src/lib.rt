@@ -7,6 +7,7 @@ ghost use mathlib.Core.List.{map, []};
 ghost use mathlib.Core.Bool.{Bool, _&&_, not};
 ghost use lib.ListN.{length};
 ghost use Rattle.value.specs.declared.Scalar.the-variants.{Decimal};
+ghost use Rattle.value.specs.Number.{readAs, writtenAs};
 ghost use Rattle.ebcdic.specs.Ebcdic.{fromPage};
 ghost use Rattle.numerals.specs.Numerals.{trimmed};
 ghost use Rattle.display.specs.Display.{isSeparate, signAt, restOf, digitsIn, wholeOf, intOf, decimalOf, orRefused, wholeIn};
@@ -61,7 +62,7 @@ fn strip_separate_sign(part: &[u8], page: u32, sign: u32) -> &[u8]
 
 // The number of a text of digits alone.
 fn digits_in(part: &[u8], page: u32, bound: u64, negative: bool) -> Number
-    ensures { λ r. ⌜ r ≡ digitsIn bound negative (map (fromPage page) (now (part .entry))) ⌝ }
+    ensures { λ r. ⌜ readAs r ≡ digitsIn bound negative (map (fromPage page) (now (part .entry))) ⌝ }
 {
     let n = part.len();
     if n == 0 {
@@ -84,7 +85,7 @@ fn digits_in(part: &[u8], page: u32, bound: u64, negative: bool) -> Number
 
 // The number of a text of digits with one leading sign or none.
 fn whole_of(part: &[u8], page: u32) -> Number
-    ensures { λ r. ⌜ r ≡ wholeOf (map (fromPage page) (now (part .entry))) ⌝ }
+    ensures { λ r. ⌜ readAs r ≡ wholeOf (map (fromPage page) (now (part .entry))) ⌝ }
 {
     let n = part.len();
     if n == 0 {
@@ -105,7 +106,7 @@ fn whole_of(part: &[u8], page: u32) -> Number
 
 // The number of an Int field.
 pub fn parse_display_int(part: &[u8], page: u32, sign: u32) -> Number
-    ensures { λ r. ⌜ r ≡ intOf sign (map (fromPage page) (now (part .entry))) ⌝ }
+    ensures { λ r. ⌜ readAs r ≡ intOf sign (map (fromPage page) (now (part .entry))) ⌝ }
 {
     let t = numerals::trim(part, page);
     let b = sign_at(t, page, sign);
@@ -123,7 +124,7 @@ pub fn parse_display_int(part: &[u8], page: u32, sign: u32) -> Number
 
 // The unscaled number of a Display field.
 pub fn parse_display_decimal(part: &[u8], page: u32, sign: u32) -> Number
-    ensures { λ r. ⌜ r ≡ decimalOf sign (map (fromPage page) (now (part .entry))) ⌝ }
+    ensures { λ r. ⌜ readAs r ≡ decimalOf sign (map (fromPage page) (now (part .entry))) ⌝ }
 {
     let t = numerals::trim(part, page);
     let b = sign_at(t, page, sign);
@@ -133,7 +134,7 @@ pub fn parse_display_decimal(part: &[u8], page: u32, sign: u32) -> Number
 }
 
 fn or_refused(n: Number) -> Number
-    ensures { λ r. ⌜ r ≡ orRefused n ⌝ }
+    ensures { λ r. ⌜ writtenAs r ≡ orRefused (readAs n) ⌝ }
 {
     match n {
         Number::Of(negative, size) => Number::Of(negative, size),
@@ -143,14 +144,14 @@ fn or_refused(n: Number) -> Number
 }
 
 fn text_whole(text: &[u8]) -> Number
-    ensures { λ r. ⌜ r ≡ orRefused (wholeOf (trimmed (now (text .entry)))) ⌝ }
+    ensures { λ r. ⌜ writtenAs r ≡ orRefused (wholeOf (trimmed (now (text .entry)))) ⌝ }
 {
     let t = numerals::trim(text, 0);
     or_refused(whole_of(t, 0))
 }
 
 fn decimal_whole(negative: bool, size: u64, scale: u64) -> Number
-    ensures { λ r. ⌜ r ≡ wholeIn (Decimal negative size scale) [] ⌝ }
+    ensures { λ r. ⌜ writtenAs r ≡ wholeIn (Decimal negative size scale) [] ⌝ }
 {
     if scale == 0 {
         return value::signed_size(negative, size);
@@ -160,7 +161,7 @@ fn decimal_whole(negative: bool, size: u64, scale: u64) -> Number
 
 // The integer that a scalar stands for; `text` holds the bytes of a Text. Bad where there is none.
 pub fn as_i128(v: Scalar, text: &[u8]) -> Number
-    ensures { λ r. ⌜ r ≡ wholeIn v (now (text .entry)) ⌝ }
+    ensures { λ r. ⌜ writtenAs r ≡ wholeIn v (now (text .entry)) ⌝ }
 {
     match v {
         Scalar::Null => Number::Of(false, 0),

@@ -10,14 +10,14 @@ use borrow.Author.Tests.{lt-ltb, eqb-true}
 use Rattle.lists.specs.Scan.{keepBy, everyBy}
 use Rattle.lists.proofs.Scan.{every-true}
 use Rattle.lists.proofs.Lists.{getD-map}
-use Rattle.value.specs.declared.Number.{Number}
-use Rattle.value.specs.declared.Number.the-variants.{Of, Bad, Big}
+use Rattle.value.specs.Answer.{Answer, refused, given}
 use Rattle.value.specs.Digits.{valueOf, limit, isDigit, digitIn}
-use Rattle.value.specs.Number.{some, numberOf}
-use Rattle.value.proofs.Answers.{numberIn-fits, numberIn-small}
+use Rattle.value.specs.Number.{Whole, number, some, readIn, unlawful}
+use Rattle.value.proofs.Answers.{numberIn-fits, numberIn-small, Numbered}
 use Rattle.ebcdic.specs.Ebcdic.{fromPage, ontoPage}
 use Rattle.ebcdic.proofs.Laws.{bytes-back, onto-byte}
 use Rattle.numerals.specs.Numerals.{isAscii, trimmed, keptBy}
+use Rattle.numerals.proofs.Reading.{kept-numbered}
 use Rattle.edited.specs.Edited.{negativeOf, editedBy, decodedOf, isLawful, positions, judged, padOf, edited, writtenOf}
 use Rattle.edited.specs.Fits.{Fits, Tells}
 use Rattle.edited.proofs.Marks.{Low, all-at, marks-of, edit-length, edited-low}
@@ -47,7 +47,7 @@ page-byte page negative size mask h k b =
 -- ---- a number that fits
 
 module _ (signed negative : Bool) (size : ℕ) (mask : List ℕ) (f : Fits signed negative size mask) where
-  pub fits-judged : judged mask (Of negative size) ≡ 0
+  pub fits-judged : judged mask (given (number negative size)) ≡ 0
   unfolding judged
   fits-judged = rw (f .fixed, lt-ltb size limit (f .small), lt-ltb 0 (positions mask) (f .some), lt-ltb size (10 ^ positions mask) (f .enough), f .lawful)
 
@@ -71,13 +71,13 @@ module _ (signed negative : Bool) (size : ℕ) (mask : List ℕ) (f : Fits signe
   -- so a size below the limit is read back
   pub decoded : (page : ℕ) → decodedOf signed (map (fromPage page) (map (ontoPage page) (edited negative size mask))) ≡ some negative size
   unfolding decodedOf
-  decoded page = round numberOf Bad page ∙ numberIn-fits limit negative size (f .small)
+  decoded page = round (readIn limit) unlawful page ∙ numberIn-fits 9 limit negative size (f .small)
 
 -- ---- a part keeps its length
 
-pub written-length : (page : ℕ) (mask : List ℕ) (n : Number) (part : List ℕ) → length (writtenOf page mask n part) ≡ length part
+pub written-length : (page : ℕ) (mask : List ℕ) (n : Answer Whole) (part : List ℕ) → length (writtenOf page mask n part) ≡ length part
 unfolding writtenOf
-written-length page mask (Of negative size) part = by (judged mask (Of negative size))
+written-length page mask (given (number negative size)) part = by (judged mask (given (number negative size)))
   where
     wide : (b : Bool) → eqb (length part) (length mask) ≡ b
         → length (cond (eqb (cond b 0 14) 0) (map (ontoPage page) (edited negative size mask)) part) ≡ length part
@@ -91,18 +91,21 @@ written-length page mask (Of negative size) part = by (judged mask (Of negative 
             → length (cond (eqb (cond t (cond (eqb (length part) (length mask)) 0 14) j) 0) (map (ontoPage page) (edited negative size mask)) part) ≡ length part
         at true e = wide (eqb (length part) (length mask)) refl
         at false e = rw e
-written-length page mask Bad part = refl
-written-length page mask Big part = refl
+written-length page mask (refused question) part = refl
 
 -- ---- a size that is read is below 10^18
 
-pub decode-small : (signed : Bool) (s : List ℕ) (n : Bool) (w : ℕ) → decodedOf signed s ≡ Of n w → w < limit
+pub decode-small : (signed : Bool) (s : List ℕ) (n : Bool) (w : ℕ) → decodedOf signed s ≡ given (number n w) → w < limit
 unfolding decodedOf keptBy
 decode-small signed s n w e = by (everyBy isAscii s) e
   where
     v : ℕ
     v = valueOf (map digitIn (keepBy isDigit s))
 
-    by : (t : Bool) → cond t (numberOf (signed && negativeOf (trimmed s)) v) Bad ≡ Of n w → w < limit
-    by true q = numberIn-small limit (signed && negativeOf (trimmed s)) v n w q
-    by false q = let z : _≡_ {A = ℕ} 0 1 = let f : _≡_ {A = Number} Bad (Of n w) = q in cc in absurd (omega arith)
+    by : (t : Bool) → cond t (readIn limit (signed && negativeOf (trimmed s)) v) unlawful ≡ given (number n w) → w < limit
+    by true q = numberIn-small 9 limit (signed && negativeOf (trimmed s)) v n w q
+    by false q = let z : _≡_ {A = ℕ} 0 1 = let f : _≡_ {A = Answer Whole} unlawful (given (number n w)) = q in cc in absurd (omega arith)
+
+pub decode-numbered : (signed : Bool) (s : List ℕ) → Numbered (decodedOf signed s)
+unfolding decodedOf
+decode-numbered signed s = kept-numbered (signed && negativeOf (trimmed s)) s

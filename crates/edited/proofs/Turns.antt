@@ -10,8 +10,8 @@ use lib.Dec.{eqb, lit<, lit≤}
 use lib.ListN.{length, getD, set, take, drop, drop-of-length-le}
 use lib.Seq.{drop-cons, take-suc-set, drop-length, take-all}
 use borrow.Author.Tests.{lt-ltb, eq-eqb, ne-eqb}
-use Rattle.value.specs.declared.Number.{Number}
-use Rattle.value.specs.declared.Number.the-variants.{Of, Big}
+use Rattle.value.specs.Answer.{Answer, refused, given}
+use Rattle.value.specs.Number.{Whole, number}
 use Rattle.ebcdic.specs.Ebcdic.{ontoPage}
 use Rattle.value.specs.Word.{powerTen}
 use Rattle.edited.specs.Edited.{countBy, isDigitPos, positions, isFloating, follows, lawfulFrom, judged, digitByte, editByte, supAfter, editFrom, edited, answerOf, writtenOf}
@@ -86,8 +86,8 @@ module _ (f : ℕ → ℕ) (negative : Bool) (pad size : ℕ) (mask : List ℕ) 
 -- ---- what encode answers and leaves
 
 module _ (page : ℕ) (mask : List ℕ) (negative : Bool) (size : ℕ) (part : List ℕ) where
-  abbrev n : Number
-  n = Of negative size
+  abbrev n : Answer Whole
+  n = given (number negative size)
 
   pub encode-fits : judged mask n ≡ 0 → length part ≡ length mask
       → (0 ≡ answerOf (length part) mask n) × (map (ontoPage page) (edited negative size mask) ≡ writtenOf page mask n part)
@@ -102,7 +102,7 @@ module _ (page : ℕ) (mask : List ℕ) (negative : Bool) (size : ℕ) (part : L
   unfolding writtenOf
   encode-not j = let e = ne-eqb (judged mask n) 0 j in rw (e, e) (refl, refl)
 
-pub answer-big : (width : ℕ) (mask : List ℕ) → _≡_ {A = ℕ} (cond (isFloating mask) 15 14) (answerOf width mask Big)
+pub answer-big : (width : ℕ) (mask : List ℕ) → _≡_ {A = ℕ} (cond (isFloating mask) 15 14) (answerOf width mask (refused 14))
 unfolding judged
 answer-big width mask = by (isFloating mask)
   where

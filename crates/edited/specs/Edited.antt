@@ -4,10 +4,9 @@ use mathlib.Core.Bool.{Bool, true, false, _&&_, _||_, not, cond}
 use mathlib.Core.List.{List, [], _∷_, map}
 use lib.Dec.{eqb, leb, ltb}
 use lib.ListN.{length, getD}
-use Rattle.value.specs.declared.Number.{Number}
-use Rattle.value.specs.declared.Number.the-variants.{Of, Bad, Big}
+use Rattle.value.specs.Answer.{Answer, refused, given}
 use Rattle.value.specs.Digits.{digitAt, limit, roomFor}
-use Rattle.value.specs.Number.{numberOf}
+use Rattle.value.specs.Number.{Whole, number, readIn, unlawful}
 use Rattle.value.specs.Field.{lastOf}
 use Rattle.numerals.specs.Numerals.{trimmed, keptBy}
 use Rattle.ebcdic.specs.Ebcdic.{ontoPage}
@@ -32,8 +31,8 @@ negativeOf t = endsIn 67 82 t || (endsIn 68 66 t || minusAtAnEnd t)
 abbrev pub editedBy : {X : Type 0} → (Bool → ℕ → X) → X → Bool → List ℕ → X
 editedBy answer bad signed s = keptBy (answer (signed && negativeOf (trimmed s))) bad s
 
-unfoldable pub decodedOf : Bool → List ℕ → Number
-decodedOf signed s = editedBy numberOf Bad signed s
+unfoldable pub decodedOf : Bool → List ℕ → Answer Whole
+decodedOf signed s = editedBy (readIn limit) unlawful signed s
 
 -- ---- the mask
 
@@ -84,10 +83,9 @@ abbrev pub fitsIn : ℕ → ℕ → Bool
 fitsIn n size = ltb size limit && roomFor n size
 
 -- 13: value of a kind Rust takes; 15: mask without a repeated $, + or -; 14: value fits; 15: mask characters lawful; 0: none refuses
-unfoldable pub judged : List ℕ → Number → ℕ
-judged mask (Of negative size) = cond (isFloating mask) 15 (cond (fitsIn (positions mask) size) (cond (isLawful mask) 0 15) 14)
-judged mask Bad = 13
-judged mask Big = cond (isFloating mask) 15 14
+unfoldable pub judged : List ℕ → Answer Whole → ℕ
+judged mask (refused question) = cond (eqb question 13) 13 (cond (isFloating mask) 15 question)
+judged mask (given (number negative size)) = cond (isFloating mask) 15 (cond (fitsIn (positions mask) size) (cond (isLawful mask) 0 15) 14)
 
 -- ---- the bytes
 
@@ -133,12 +131,11 @@ edited negative size mask = editFrom negative (padOf mask) size 0 mask true
 -- ---- writing a part
 
 -- the part is as long as the mask, else the number does not fit
-abbrev pub answerOf : ℕ → List ℕ → Number → ℕ
+abbrev pub answerOf : ℕ → List ℕ → Answer Whole → ℕ
 answerOf width mask n = cond (eqb (judged mask n) 0) (cond (eqb width (length mask)) 0 14) (judged mask n)
 
 -- the part after writing: the edited number where it may be written, and what it was elsewhere
-unfoldable pub writtenOf : ℕ → List ℕ → Number → List ℕ → List ℕ
-writtenOf page mask (Of negative size) part =
-    cond (eqb (answerOf (length part) mask (Of negative size)) 0) (map (ontoPage page) (edited negative size mask)) part
-writtenOf page mask Bad part = part
-writtenOf page mask Big part = part
+unfoldable pub writtenOf : ℕ → List ℕ → Answer Whole → List ℕ → List ℕ
+writtenOf page mask (refused question) part = part
+writtenOf page mask (given (number negative size)) part =
+    cond (eqb (answerOf (length part) mask (given (number negative size))) 0) (map (ontoPage page) (edited negative size mask)) part

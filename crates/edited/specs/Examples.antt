@@ -2,7 +2,8 @@
 use mathlib.Core.Path.{_≡_, refl}
 use mathlib.Core.Bool.{true, false}
 use mathlib.Core.List.{[], _∷_}
-use Rattle.value.specs.declared.Number.the-variants.{Of, Bad}
+use Rattle.value.specs.Answer.{refused}
+use Rattle.value.specs.Number.{some}
 use Rattle.lists.specs.Scan.{leftBy, rightBy, keepBy, everyBy}
 use Rattle.numerals.specs.Numerals.{keptBy}
 use Rattle.edited.specs.Edited.{countBy, lawfulFrom, judged, editByte, supAfter, editFrom, edited, negativeOf, decodedOf}
@@ -12,11 +13,11 @@ amount : edited true 123456 (90 ∷ 90 ∷ 44 ∷ 90 ∷ 90 ∷ 57 ∷ 46 ∷ 57
 unfolding editFrom editByte supAfter countBy
 amount = refl
 
-amount-judged : judged (90 ∷ 90 ∷ 44 ∷ 90 ∷ 90 ∷ 57 ∷ 46 ∷ 57 ∷ 57 ∷ 45 ∷ []) (Of true 123456) ≡ 0
+amount-judged : judged (90 ∷ 90 ∷ 44 ∷ 90 ∷ 90 ∷ 57 ∷ 46 ∷ 57 ∷ 57 ∷ 45 ∷ []) (some true 123456) ≡ 0
 unfolding judged countBy lawfulFrom
 amount-judged = refl
 
-amount-back : decodedOf true (32 ∷ 49 ∷ 44 ∷ 50 ∷ 51 ∷ 52 ∷ 46 ∷ 53 ∷ 54 ∷ 45 ∷ []) ≡ Of true 123456
+amount-back : decodedOf true (32 ∷ 49 ∷ 44 ∷ 50 ∷ 51 ∷ 52 ∷ 46 ∷ 53 ∷ 54 ∷ 45 ∷ []) ≡ some true 123456
 unfolding decodedOf negativeOf leftBy rightBy keepBy everyBy keptBy
 amount-back = refl
 
@@ -35,31 +36,31 @@ unfolding editFrom editByte supAfter countBy
 debit = refl
 
 -- ` 1.50cr` is negative where the field is signed
-credit : decodedOf true (32 ∷ 49 ∷ 46 ∷ 53 ∷ 48 ∷ 99 ∷ 114 ∷ []) ≡ Of true 150
+credit : decodedOf true (32 ∷ 49 ∷ 46 ∷ 53 ∷ 48 ∷ 99 ∷ 114 ∷ []) ≡ some true 150
 unfolding decodedOf negativeOf leftBy rightBy keepBy everyBy keptBy
 credit = refl
 
-unsigned : decodedOf false (45 ∷ 53 ∷ []) ≡ Of false 5
+unsigned : decodedOf false (45 ∷ 53 ∷ []) ≡ some false 5
 unfolding decodedOf negativeOf leftBy rightBy keepBy everyBy keptBy
 unsigned = refl
 
-no-ascii : decodedOf true (49 ∷ 128 ∷ []) ≡ Bad
+no-ascii : decodedOf true (49 ∷ 128 ∷ []) ≡ refused 8
 unfolding decodedOf negativeOf leftBy rightBy keepBy everyBy keptBy
 no-ascii = refl
 
 -- the order of the questions: `$$9` is refused before the size, the size before a C without R
-floating : judged (36 ∷ 36 ∷ 57 ∷ []) (Of false 100) ≡ 15
+floating : judged (36 ∷ 36 ∷ 57 ∷ []) (some false 100) ≡ 15
 unfolding judged countBy lawfulFrom
 floating = refl
 
-too-long : judged (57 ∷ 67 ∷ []) (Of false 10) ≡ 14
+too-long : judged (57 ∷ 67 ∷ []) (some false 10) ≡ 14
 unfolding judged countBy lawfulFrom
 too-long = refl
 
-half-credit : judged (57 ∷ 67 ∷ []) (Of false 1) ≡ 15
+half-credit : judged (57 ∷ 67 ∷ []) (some false 1) ≡ 15
 unfolding judged countBy lawfulFrom
 half-credit = refl
 
-no-position : judged (46 ∷ []) (Of false 0) ≡ 14
+no-position : judged (46 ∷ []) (some false 0) ≡ 14
 unfolding judged countBy lawfulFrom
 no-position = refl

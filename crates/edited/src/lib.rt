@@ -1,5 +1,6 @@
 // Edited (printed amount) fields, on either page: the number that one says, and a number in the picture of a mask.
 
+use value::Amount;
 use value::Number;
 ghost use mathlib.Core.Path.{_≡_};
 ghost use mathlib.Core.Bool.{true, false, _&&_, cond};
@@ -7,9 +8,11 @@ ghost use mathlib.Core.List.{map};
 ghost use Prim.Native.Nat.{_-_, _<_};
 ghost use lib.Dec.{eqb, leb, ltb};
 ghost use lib.ListN.{length};
-ghost use Rattle.value.specs.declared.Number.the-variants.{Of};
+ghost use Rattle.value.specs.Answer.{given};
+ghost use Rattle.value.specs.Number.{number, readAs, amountAs};
 ghost use Rattle.ebcdic.specs.Ebcdic.{fromPage, ontoPage};
-ghost use Rattle.edited.specs.Edited.{upper, endsIn, minusAtAnEnd, negativeOf, decodedOf, isDigitPos, positions, countOf, isFloating, isMark, follows, isLawful, fitsIn, judged, digitByte, suppress, editByte, supAfter, padOf, edited, answerOf, writtenOf};
+ghost use Rattle.edited.specs.Edited.{upper, endsIn, minusAtAnEnd, negativeOf, decodedOf, isDigitPos, positions, countOf, isFloating, isMark, follows};
+ghost use Rattle.edited.specs.Edited.{isLawful, fitsIn, judged, digitByte, suppress, editByte, supAfter, padOf, edited, answerOf, writtenOf};
 
 // ---- reading
 
@@ -71,7 +74,7 @@ fn is_negative(t: &[u8], page: u32) -> bool
 
 // The number of an edited field.
 pub fn decode(part: &[u8], page: u32, signed: bool) -> Number
-    ensures { λ r. ⌜ r ≡ decodedOf signed (map (fromPage page) (now (part .entry))) ⌝ }
+    ensures { λ r. ⌜ readAs r ≡ decodedOf signed (map (fromPage page) (now (part .entry))) ⌝ }
 {
     let n = numerals::kept_digits(part, page);
     if signed {
@@ -215,7 +218,7 @@ fn fits_in(n: usize, size: u64) -> bool
 }
 
 fn judge_size(mask: &[u8], negative: bool, size: u64) -> u32
-    ensures { λ r. ⌜ r ≡ judged (now (mask .entry)) (Of negative size) ⌝ }
+    ensures { λ r. ⌜ r ≡ judged (now (mask .entry)) (given (number negative size)) ⌝ }
 {
     if any_floating(mask) {
         return 15;
@@ -240,13 +243,13 @@ fn judge_big(mask: &[u8]) -> u32
 }
 
 // The question that refuses a number at a mask, 0 for none. Bad is a value that is no number, Big a size from 10^18.
-pub fn judge(mask: &[u8], n: Number) -> u32
-    ensures { λ r. ⌜ r ≡ judged (now (mask .entry)) n ⌝ }
+pub fn judge(mask: &[u8], n: Amount) -> u32
+    ensures { λ r. ⌜ r ≡ judged (now (mask .entry)) (amountAs n) ⌝ }
 {
     match n {
-        Number::Of(negative, size) => judge_size(mask, negative, size),
-        Number::Bad => 13,
-        Number::Big => judge_big(mask),
+        Amount::Of(negative, size) => judge_size(mask, negative, size),
+        Amount::Bad => 13,
+        Amount::Big => judge_big(mask),
     }
 }
 
@@ -377,7 +380,8 @@ fn write(part: &mut [u8], page: u32, mask: &[u8], negative: bool, size: u64)
 }
 
 fn encode_size(part: &mut [u8], page: u32, mask: &[u8], negative: bool, size: u64) -> u32
-    ensures { λ r. ⌜ (r ≡ answerOf (length (now (part .entry))) (now (mask .entry)) (Of negative size)) × (now (part .exit) ≡ writtenOf page (now (mask .entry)) (Of negative size) (now (part .entry))) ⌝ }
+    ensures { λ r. ⌜ (r ≡ answerOf (length (now (part .entry))) (now (mask .entry)) (given (number negative size)))
+        × (now (part .exit) ≡ writtenOf page (now (mask .entry)) (given (number negative size)) (now (part .entry))) ⌝ }
 {
     let code = judge_size(mask, negative, size);
     if code == 0 {
@@ -391,12 +395,12 @@ fn encode_size(part: &mut [u8], page: u32, mask: &[u8], negative: bool, size: u6
 }
 
 // Writes a number in the picture of a mask, and answers the question that refuses, 0 for none; a part that is refused stays as it was.
-pub fn encode(part: &mut [u8], page: u32, mask: &[u8], n: Number) -> u32
-    ensures { λ r. ⌜ (r ≡ answerOf (length (now (part .entry))) (now (mask .entry)) n) × (now (part .exit) ≡ writtenOf page (now (mask .entry)) n (now (part .entry))) ⌝ }
+pub fn encode(part: &mut [u8], page: u32, mask: &[u8], n: Amount) -> u32
+    ensures { λ r. ⌜ (r ≡ answerOf (length (now (part .entry))) (now (mask .entry)) (amountAs n)) × (now (part .exit) ≡ writtenOf page (now (mask .entry)) (amountAs n) (now (part .entry))) ⌝ }
 {
     match n {
-        Number::Of(negative, size) => encode_size(part, page, mask, negative, size),
-        Number::Bad => 13,
-        Number::Big => judge_big(mask),
+        Amount::Of(negative, size) => encode_size(part, page, mask, negative, size),
+        Amount::Bad => 13,
+        Amount::Big => judge_big(mask),
     }
 }

@@ -8,14 +8,15 @@ use lib.Dec.{eqb, leb}
 use lib.ListN.{length}
 use borrow.Author.Tests.{ne-eqb, eqb-true, leb-true, lt-leb}
 use Rattle.value.specs.declared.Scalar.{Scalar}
-use Rattle.value.specs.declared.Number.{Number}
-use Rattle.value.specs.declared.Number.the-variants.{Of, Bad, Big}
+use Rattle.value.specs.Answer.{Answer, refused, given}
+use Rattle.value.specs.Number.{Whole, number}
+use Rattle.value.proofs.Answers.{Numbered}
 use Rattle.text.specs.Shown.{Shows, shows, none, textIn, refusalAt}
 use Rattle.text.proofs.Back.{written-length, padded-length}
 use Rattle.display.specs.Display.{wholeIn, intFits}
-use Rattle.float.specs.declared.Floated.{Floated}
-use Rattle.float.specs.declared.Floated.the-variants.{Word, Refused as Unfloated}
+use Rattle.display.proofs.Numbered.{in-whole-numbered}
 use Rattle.float.specs.Convert.{floatedOf, decimalFor}
+use Rattle.float.proofs.Numbered.{floated-numbered, for-numbered}
 use Rattle.hex.proofs.Back as HexBack
 use Rattle.edited.specs.Edited as Edited
 use Rattle.edited.proofs.Round as EditedRound
@@ -38,28 +39,25 @@ text-wide : (page : ℕ) (right : Bool) (pad w : ℕ) (s : Shows) → refusalAt 
 text-wide page right pad w (shows t) h = written-length page right pad w t (leb-true (length t) w (passed (leb (length t) w) h))
 text-wide page right pad w none h = absurd (omega (arith, h))
 
-int-wide : (page w : ℕ) (signed : Bool) (sign : ℕ) (n : Number) → intJudged w signed sign n ≡ 0 → length (intWritten page w sign n) ≡ w
-int-wide page w signed sign (Of negative size) h = int-length page w negative size signed sign (passed (intFits w negative size signed sign) h)
-int-wide page w signed sign Bad h = absurd (omega (arith, h))
-int-wide page w signed sign Big h = absurd (omega (arith, h))
+int-wide : (page w : ℕ) (signed : Bool) (sign : ℕ) (n : Answer Whole) → Numbered n → intJudged w signed sign n ≡ 0 → length (intWritten page w sign n) ≡ w
+int-wide page w signed sign (given (number negative size)) z h = int-length page w negative size signed sign (passed (intFits w negative size signed sign) h)
+int-wide page w signed sign (refused question) z h = absurd (z h)
 
-binary-wide : (order w : ℕ) (n : Number) → binaryJudged w n ≡ 0 → length (binaryWritten order w n) ≡ w
-binary-wide order w (Of negative size) h = binary-length order w negative size
-binary-wide order w Bad h = absurd (omega (arith, h))
-binary-wide order w Big h = absurd (omega (arith, h))
+binary-wide : (order w : ℕ) (n : Answer Whole) → Numbered n → binaryJudged w n ≡ 0 → length (binaryWritten order w n) ≡ w
+binary-wide order w (given (number negative size)) z h = binary-length order w negative size
+binary-wide order w (refused question) z h = absurd (z h)
 
-float-wide : (order bits w : ℕ) (f : Floated) → floatJudged bits w f ≡ 0 → length (floatWritten order bits w f) ≡ w
-float-wide order bits w (Word x) h = float-length order bits w x
-float-wide order bits w Unfloated h = absurd (omega (arith, h))
+float-wide : (order bits w : ℕ) (f : Answer ℕ) → Numbered f → floatJudged bits w f ≡ 0 → length (floatWritten order bits w f) ≡ w
+float-wide order bits w (given x) z h = float-length order bits w x
+float-wide order bits w (refused question) z h = absurd (z h)
 
 hex-wide : (order w : ℕ) (s : Shows) → hexJudged w s ≡ 0 → length (hexWritten order w s) ≡ w
 hex-wide order w (shows t) h = HexBack.bytes-length order w t h
 hex-wide order w none h = absurd (omega (arith, h))
 
-decimal-wide : (p q s page w : ℕ) (n : Number) → decimalJudged p q s w n ≡ 0 → length (decimalWritten p q page w n) ≡ w
-decimal-wide p q s page w (Of negative size) h = decimal-length p q s page w negative size (passed (decimalFit p q s w negative size) h)
-decimal-wide p q s page w Bad h = absurd (omega (arith, h))
-decimal-wide p q s page w Big h = absurd (omega (arith, h))
+decimal-wide : (p q s page w : ℕ) (n : Answer Whole) → Numbered n → decimalJudged p q s w n ≡ 0 → length (decimalWritten p q page w n) ≡ w
+decimal-wide p q s page w (given (number negative size)) z h = decimal-length p q s page w negative size (passed (decimalFit p q s w negative size) h)
+decimal-wide p q s page w (refused question) z h = absurd (z h)
 
 edited-same : (w n : ℕ) (mask : List ℕ) → cond (eqb n 0) (cond (eqb w (length mask)) 0 14) n ≡ 0 → length mask ≡ w
 edited-same w n mask h = by (eqb n 0) refl h
@@ -68,15 +66,19 @@ edited-same w n mask h = by (eqb n 0) refl h
     by true e k = sym (eqb-true w (length mask) (passed (eqb w (length mask)) k))
     by false e k = absurd (false≢true (sym e ∙ ap (λ m. eqb m 0) k))
 
-edited-wide : (page w : ℕ) (mask : List ℕ) (n : Number) → Edited.answerOf w mask n ≡ 0 → length (editedWritten page mask n) ≡ w
+edited-wide : (page w : ℕ) (mask : List ℕ) (n : Answer Whole) → Numbered n → Edited.answerOf w mask n ≡ 0 → length (editedWritten page mask n) ≡ w
 unfolding Edited.judged
-edited-wide page w mask (Of negative size) h = EditedRound.page-length page negative size mask ∙ edited-same w (Edited.judged mask (Of negative size)) mask h
-edited-wide page w mask Bad h = absurd (omega (arith, h))
-edited-wide page w mask Big h = absurd (by (Edited.isFloating mask) h)
+edited-wide page w mask (given (number negative size)) z h = EditedRound.page-length page negative size mask ∙ edited-same w (Edited.judged mask (given (number negative size))) mask h
+edited-wide page w mask (refused question) z h = absurd (by (eqb question 13) (Edited.isFloating mask) h)
   where
-    by : (b : Bool) → cond {A = ℕ} (eqb (cond b 15 14) 0) (cond (eqb w (length mask)) 0 14) (cond b 15 14) ≡ zero → ⊥
-    by true k = omega (arith, k)
-    by false k = omega (arith, k)
+    by : (a b : Bool) → cond {A = ℕ} (eqb (cond a 13 (cond b 15 question)) 0) (cond (eqb w (length mask)) 0 14) (cond a 13 (cond b 15 question)) ≡ zero → ⊥
+    by true b k = omega (arith, k)
+    by false true k = omega (arith, k)
+    by false false k = rest (eqb question 0) refl k
+      where
+        rest : (t : Bool) → eqb question 0 ≡ t → cond {A = ℕ} t (cond (eqb w (length mask)) 0 14) question ≡ zero → ⊥
+        rest true e k = z (eqb-true question 0 e)
+        rest false e k = z k
 
 -- ---- all kinds
 
@@ -116,12 +118,12 @@ module _ (p q r s : ℕ) (mask : List ℕ) (page w tag : ℕ) (v : Scalar) (t : 
   unfolding judgedOf bytesOf numberJudged numberBytes
   wide = by-kind Wide
       (λ h. text-wide page (flag p) (r % 256) w (textIn v t) h)
-      (λ h. int-wide page w (flag p) q (wholeIn v t) (tagged (leb 6 tag) _ h))
-      (λ h. binary-wide p w (wholeIn v t) (tagged (leb 6 tag) _ h))
-      (λ h. float-wide p q w (floatedOf v) (tagged (leb 6 tag) _ h))
+      (λ h. int-wide page w (flag p) q (wholeIn v t) (in-whole-numbered v t) (tagged (leb 6 tag) _ h))
+      (λ h. binary-wide p w (wholeIn v t) (in-whole-numbered v t) (tagged (leb 6 tag) _ h))
+      (λ h. float-wide p q w (floatedOf v) (floated-numbered v) (tagged (leb 6 tag) _ h))
       (λ h. hex-wide p w (hexText v t) (tagged (leb 6 tag) _ h))
       (λ h. refl)
       (λ h. padded-length page (r % 256) w)
-      (λ h. decimal-wide p q s page w (decimalFor v r) (tagged (leb 6 tag) _ h))
-      (λ h. edited-wide page w mask (decimalFor v r) (tagged (leb 6 tag) _ h))
+      (λ h. decimal-wide p q s page w (decimalFor v r) (for-numbered v r) (tagged (leb 6 tag) _ h))
+      (λ h. edited-wide page w mask (decimalFor v r) (for-numbered v r) (tagged (leb 6 tag) _ h))
       other

@@ -9,12 +9,12 @@ use lib.Ieee.{binary64, nanBits, ofBits}
 use lib.ListN.{length}
 use borrow.Author.Tests.{lt-ltb, eq-eqb}
 use Rattle.lists.specs.Scan.{everyBy}
-use Rattle.value.specs.declared.Number.{Number}
-use Rattle.value.specs.declared.Number.the-variants.{Of}
 use Rattle.value.specs.declared.Scalar.{Scalar}
-use Rattle.value.specs.declared.Scalar.the-variants.{Text, Int, Decimal, Float as FloatV, FloatBits, Bool as BoolV}
+use Rattle.value.specs.declared.Scalar.the-variants.{Text, Int, Float as FloatV, FloatBits, Bool as BoolV}
+use Rattle.value.specs.Answer.{Answer, given}
 use Rattle.value.specs.Digits.{limit}
-use Rattle.value.specs.Scalar.{tagOf, firstOf, floatOf}
+use Rattle.value.specs.Number.{Whole, number}
+use Rattle.value.specs.Scalar.{decimal, tagOf, firstOf, floatOf}
 use Rattle.value.proofs.Items.{float-first, float-tag}
 use Rattle.value.proofs.Rounding.{scale-same}
 use Rattle.value.proofs.Room.{room-fits}
@@ -24,7 +24,6 @@ use Rattle.display.specs.Display as Display
 use Rattle.display.proofs.Back as DisplayBack
 use Rattle.binary.specs.Binary.{widthOk, integerOf, integerBytes, boolOf}
 use Rattle.binary.proofs.Back as BinaryBack
-use Rattle.float.specs.declared.Floated.the-variants.{Word}
 use Rattle.float.specs.Convert.{floatedOf, decimalFor}
 use Rattle.float.specs.Field.{Exact, exact64, exact32, exact16, fieldOk}
 use Rattle.float.proofs.Back as FloatBack
@@ -65,7 +64,7 @@ digits-plain (plain size s h k) e = refl
 digits-plain (separate negative size s h k m) e = absurd (false≢true (sym e ∙ s))
 
 -- a decimal of the entry's scale stays as it is
-pub same-scale : (negative : Bool) (size r : ℕ) → size < limit → Minus negative size → decimalFor (Decimal negative size r) r ≡ Of negative size
+pub same-scale : (negative : Bool) (size r : ℕ) → size < limit → Minus negative size → decimalFor (decimal negative size r) r ≡ given (number negative size)
 unfolding decimalFor
 same-scale negative size r l m = rw (scale-same r size, lt-ltb size limit l, minus-is negative size m)
 
@@ -88,7 +87,7 @@ module _ (p q r s : ℕ) (mask : List ℕ) (page w : ℕ) (t : List ℕ) where
       let m = minus-is negative size (digits-minus d) in
       record {
         accepted = rw (m, digits-fit (flag p) d);
-        said = rw m (ap intSays (DisplayBack.int-back page w negative size (flag p) q (digits-fit (flag p) d) (digits-plain d) l ∙ ap (λ (n : Bool). Of n size) m));
+        said = rw m (ap intSays (DisplayBack.int-back page w negative size (flag p) q (digits-fit (flag p) d) (digits-plain d) l ∙ ap (λ (n : Bool). given (number n size)) m));
       }
 
   binary-kept : (negative : Bool) (size : ℕ) → widthOk w ≡ true → InRange w (flag q) negative size → Kept 2 p q r s mask page w (Int negative size) t
@@ -102,7 +101,7 @@ module _ (p q r s : ℕ) (mask : List ℕ) (page w : ℕ) (t : List ℕ) where
       range-minus (plus v h) = λ e. absurd (false≢true e)
       range-minus (minus v z h) = λ e. z
 
-      range-back : {b n : Bool} {v : ℕ} → InRange w b n v → integerOf p b (integerBytes p w n v) ≡ Of n v
+      range-back : {b n : Bool} {v : ℕ} → InRange w b n v → integerOf p b (integerBytes p w n v) ≡ given (number n v)
       range-back (unsigned v h k) = BinaryBack.unsigned-back p w ok v h k
       range-back (plus v h) = BinaryBack.plus-back p w ok v h
       range-back (minus v z h) = BinaryBack.minus-back p w ok v z h
@@ -116,19 +115,19 @@ module _ (p q r s : ℕ) (mask : List ℕ) (page w : ℕ) (t : List ℕ) where
   bool-kept true e = record { accepted = refl; said = refl }
   bool-kept false e = record { accepted = refl; said = refl }
 
-  edited-kept : (negative : Bool) (size : ℕ) → length mask ≡ w → EditedFits.Fits (flag p) negative size mask → Minus negative size → Kept 8 p q r s mask page w (Decimal negative size r) t
+  edited-kept : (negative : Bool) (size : ℕ) → length mask ≡ w → EditedFits.Fits (flag p) negative size mask → Minus negative size → Kept 8 p q r s mask page w (decimal negative size r) t
   unfolding judgedOf numberJudged bytesOf numberBytes says
   edited-kept negative size e f m =
       let n = same-scale negative size r (f .small) m in
       record {
         accepted = rw (n, EditedRound.fits-judged (flag p) negative size mask f, eq-eqb w (length mask) (sym e));
-        said = rw n (ap (decimalSays r) (EditedRound.decoded (flag p) negative size mask f page ∙ ap (λ (b : Bool). Of b size) (minus-is negative size m)));
+        said = rw n (ap (decimalSays r) (EditedRound.decoded (flag p) negative size mask f page ∙ ap (λ (b : Bool). given (number b size)) (minus-is negative size m)));
       }
 
-  decimal-said : (negative : Bool) (size : ℕ) (n : Number) → n ≡ Of negative size → decimalSays r n ≡ value (Decimal negative size r)
+  decimal-said : (negative : Bool) (size : ℕ) (n : Answer Whole) → n ≡ given (number negative size) → decimalSays r n ≡ value (decimal negative size r)
   decimal-said negative size n e = ap (decimalSays r) e
 
-  display-kept : (negative : Bool) (size : ℕ) → p ≡ 0 → Digits w q negative size → s ≤ w → size < limit → Kept 7 p q r s mask page w (Decimal negative size r) t
+  display-kept : (negative : Bool) (size : ℕ) → p ≡ 0 → Digits w q negative size → s ≤ w → size < limit → Kept 7 p q r s mask page w (decimal negative size r) t
   unfolding judgedOf numberJudged bytesOf numberBytes says
   display-kept negative size e d k l =
       let m = minus-is negative size (digits-minus d) in
@@ -136,11 +135,11 @@ module _ (p q r s : ℕ) (mask : List ℕ) (page w : ℕ) (t : List ℕ) where
       let f = digits-fit (Display.hasSign q) d in
       record {
         accepted = rw (n, e, DisplayBack.fits-decimal w s negative size q k f);
-        said = rw (n, e) (decimal-said negative size _ (DisplayBack.decoded page w negative size (Display.hasSign q) q f (digits-plain d) l ∙ ap (λ (b : Bool). Of b size) m));
+        said = rw (n, e) (decimal-said negative size _ (DisplayBack.decoded page w negative size (Display.hasSign q) q f (digits-plain d) l ∙ ap (λ (b : Bool). given (number b size)) m));
       }
 
   packed-kept : (negative : Bool) (size : ℕ) → p ≡ 1 → 0 < w → size < 10 ^ (2 * w - 1) → size < limit → (negative ≡ true → flag q ≡ true) → Minus negative size
-      → Kept 7 p q r s mask page w (Decimal negative size r) t
+      → Kept 7 p q r s mask page w (decimal negative size r) t
   unfolding judgedOf numberJudged bytesOf numberBytes says
   packed-kept negative size e h k l g m =
       let n = same-scale negative size r l m in
@@ -148,11 +147,11 @@ module _ (p q r s : ℕ) (mask : List ℕ) (page w : ℕ) (t : List ℕ) where
       let b : (ltb 0 size && (flag q && negative)) ≡ negative = rw (signed-minus q negative g) (minus-is negative size m) in
       record {
         accepted = rw (n, e, f);
-        said = rw (n, e) (decimal-said negative size _ (PackedRound.decoded w negative size (flag q) f l ∙ ap (λ (x : Bool). Of x size) b));
+        said = rw (n, e) (decimal-said negative size _ (PackedRound.decoded w negative size (flag q) f l ∙ ap (λ (x : Bool). given (number x size)) b));
       }
 
   zoned-kept : (negative : Bool) (size : ℕ) → p ≡ 2 → 0 < w → size < 10 ^ w → size < limit → (negative ≡ true → flag q ≡ true) → Minus negative size
-      → Kept 7 p q r s mask page w (Decimal negative size r) t
+      → Kept 7 p q r s mask page w (decimal negative size r) t
   unfolding judgedOf numberJudged bytesOf numberBytes says
   zoned-kept negative size e h k l g m =
       let n = same-scale negative size r l m in
@@ -160,17 +159,17 @@ module _ (p q r s : ℕ) (mask : List ℕ) (page w : ℕ) (t : List ℕ) where
       let b : (ltb 0 size && (flag q && negative)) ≡ negative = rw (signed-minus q negative g) (minus-is negative size m) in
       record {
         accepted = rw (n, e, f);
-        said = rw (n, e) (decimal-said negative size _ (ZonedBack.decoded page w negative size (flag q) f l ∙ ap (λ (x : Bool). Of x size) b));
+        said = rw (n, e) (decimal-said negative size _ (ZonedBack.decoded page w negative size (flag q) f l ∙ ap (λ (x : Bool). given (number x size)) b));
       }
 
   -- a float's scalar is its word again
-  pub floated : (x : ℕ) → x < 2 ^ 64 → floatedOf (floatOf x) ≡ Word x
+  pub floated : (x : ℕ) → x < 2 ^ 64 → floatedOf (floatOf x) ≡ given x
   unfolding floatedOf
   floated x h = by (nanBits binary64 x) refl
     where
-      by : (b : Bool) → nanBits binary64 x ≡ b → floatedOf (cond b (FloatBits x) (FloatV (ofBits binary64 x))) ≡ Word x
+      by : (b : Bool) → nanBits binary64 x ≡ b → floatedOf (cond b (FloatBits x) (FloatV (ofBits binary64 x))) ≡ given x
       by true e = refl
-      by false e = ap Word (sym (ap (λ b. firstOf (cond b (FloatBits x) (FloatV (ofBits binary64 x)))) e) ∙ float-first x h)
+      by false e = ap given (sym (ap (λ b. firstOf (cond b (FloatBits x) (FloatV (ofBits binary64 x)))) e) ∙ float-first x h)
 
   float-said : (x : ℕ) → saidOf (floatOf x) t ≡ value (floatOf x)
   float-said x = by (nanBits binary64 x)

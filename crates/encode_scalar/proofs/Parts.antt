@@ -9,8 +9,8 @@ use lib.Dec.{eqb, leb}
 use lib.ListN.{length, drop, set, length-map}
 use lib.Seq.{drop-length}
 use borrow.Author.Tests.{le-leb, lt-leb, leb-true, eqb-true}
-use Rattle.value.specs.declared.Number.{Number}
-use Rattle.value.specs.declared.Number.the-variants.{Of, Bad, Big}
+use Rattle.value.specs.Answer.{Answer, refused, given}
+use Rattle.value.specs.Number.{Whole, number, noNumber}
 use Rattle.value.proofs.Room.{room-some}
 use Rattle.ebcdic.specs.Ebcdic.{ontoPage}
 use Rattle.text.specs.Text.{written}
@@ -30,7 +30,7 @@ use Rattle.zoned.specs.Zoned as Zoned
 use Rattle.zoned.proofs.Back as ZonedBack
 use Rattle.edited.specs.Edited as Edited
 use Rattle.edited.proofs.Round as EditedRound
-use Rattle.encode_scalar.specs.Encode.{textBytes, decimalFit, decimalJudged, decimalWritten, editedWritten, partAfter}
+use Rattle.encode_scalar.specs.Encode.{textBytes, decimalFit, decimalBytes, decimalJudged, decimalWritten, editedWritten, partAfter}
 use Rattle.decode_scalar.specs.Decode.{flag}
 
 -- bytes that fill the part
@@ -39,8 +39,13 @@ whole bytes part e =
     let d : drop (length bytes) part ≡ [] = ap (λ (n : ℕ). drop n part) e ∙ drop-length part in
     rw (le-leb (length bytes) (length part) (rw e (le-refl (length part))), d) (sym (append-nil bytes))
 
-pub nothing : (part : List ℕ) → part ≡ partAfter 0 [] part
-nothing part = rw (le-leb 0 (length part) (omega arith))
+-- no bytes, whatever the number
+pub nothing : (n : ℕ) (part : List ℕ) → part ≡ partAfter n [] part
+nothing n part = by (eqb n 0)
+  where
+    by : (b : Bool) → part ≡ cond b (cond (leb 0 (length part)) part part) part
+    by true = rw (le-leb 0 (length part) (omega arith))
+    by false = refl
 
 -- bytes where they fit, else the part as it was
 pub fitted : (b : Bool) (bytes part last : List ℕ) → last ≡ cond b bytes part → (b ≡ true → length bytes ≡ length part) → last ≡ partAfter (cond b 0 14) bytes part
@@ -74,7 +79,7 @@ pub float-length : (order bits w x : ℕ) → length (floatBytes order bits w x)
 unfolding floatBytes
 float-length order bits w x = bytes-length order w _
 
-pub decimal-length : (p q s page w : ℕ) (negative : Bool) (size : ℕ) → decimalFit p q s w negative size ≡ true → length (decimalWritten p q page w (Of negative size)) ≡ w
+pub decimal-length : (p q s page w : ℕ) (negative : Bool) (size : ℕ) → decimalFit p q s w negative size ≡ true → length (decimalBytes p q page w negative size) ≡ w
 decimal-length p q s page w negative size f = by (eqb p 0) (eqb p 1) f
   where
     by : (a b : Bool) → cond a (decimalFits w s negative size q) (cond b (Packed.fitsOf w size) (Zoned.fitsOf w size)) ≡ true
@@ -85,12 +90,12 @@ decimal-length p q s page w negative size f = by (eqb p 0) (eqb p 1) f
 
 -- ---- a Decimal field's number by the item: a List or Struct (the Bool t) is refused
 
-pub item-judged : (t : Bool) (p q s w : ℕ) (n : Number) → decimalJudged p q s w (cond t Bad n) ≡ cond t 13 (decimalJudged p q s w n)
+pub item-judged : (t : Bool) (p q s w : ℕ) (n : Answer Whole) → decimalJudged p q s w (cond t noNumber n) ≡ cond t 13 (decimalJudged p q s w n)
 item-judged true p q s w n = refl
 item-judged false p q s w n = refl
 
-pub item-after : (t : Bool) (p q s page w : ℕ) (n : Number) (part : List ℕ)
-    → partAfter (decimalJudged p q s w (cond t Bad n)) (decimalWritten p q page w (cond t Bad n)) part ≡ partAfter (cond t 13 (decimalJudged p q s w n)) (decimalWritten p q page w n) part
+pub item-after : (t : Bool) (p q s page w : ℕ) (n : Answer Whole) (part : List ℕ)
+    → partAfter (decimalJudged p q s w (cond t noNumber n)) (decimalWritten p q page w (cond t noNumber n)) part ≡ partAfter (cond t 13 (decimalJudged p q s w n)) (decimalWritten p q page w n) part
 item-after true p q s page w n part = refl
 item-after false p q s page w n part = refl
 
@@ -108,7 +113,7 @@ bool-some b part h = rw (le-leb 1 (length part) h) (go part h)
 
 -- ---- an Edited's bytes
 
-edited-same : (width : ℕ) (mask : List ℕ) (n : Number) → eqb (Edited.answerOf width mask n) 0 ≡ true → length mask ≡ width
+edited-same : (width : ℕ) (mask : List ℕ) (n : Answer Whole) → eqb (Edited.answerOf width mask n) 0 ≡ true → length mask ≡ width
 edited-same width mask n e = by (eqb (Edited.judged mask n) 0) (eqb width (length mask)) refl refl e
   where
     by : (a b : Bool) → eqb (Edited.judged mask n) 0 ≡ a → eqb width (length mask) ≡ b → eqb (cond a (cond b 0 14) (Edited.judged mask n)) 0 ≡ true → length mask ≡ width
@@ -116,15 +121,10 @@ edited-same width mask n e = by (eqb (Edited.judged mask n) 0) (eqb width (lengt
     by true false p q r = absurd (false≢true r)
     by false b p q r = absurd (false≢true (sym p ∙ r))
 
-pub edited-part : (page : ℕ) (mask : List ℕ) (n : Number) (part last : List ℕ) → last ≡ Edited.writtenOf page mask n part
+pub edited-part : (page : ℕ) (mask : List ℕ) (n : Answer Whole) (part last : List ℕ) → last ≡ Edited.writtenOf page mask n part
     → last ≡ partAfter (Edited.answerOf (length part) mask n) (editedWritten page mask n) part
 unfolding Edited.writtenOf Edited.judged
-edited-part page mask (Of negative size) part last e =
-    numbered (Edited.answerOf (length part) mask (Of negative size)) (map (ontoPage page) (Edited.edited negative size mask)) part last e
-    (λ q. EditedRound.page-length page negative size mask ∙ edited-same (length part) mask (Of negative size) q)
-edited-part page mask Bad part last e = e
-edited-part page mask Big part last e = by (Edited.isFloating mask)
-  where
-    by : (b : Bool) → last ≡ partAfter (cond (eqb (cond b 15 14) 0) (cond (eqb (length part) (length mask)) 0 14) (cond b 15 14)) [] part
-    by true = e
-    by false = e
+edited-part page mask (given (number negative size)) part last e =
+    numbered (Edited.answerOf (length part) mask (given (number negative size))) (map (ontoPage page) (Edited.edited negative size mask)) part last e
+    (λ q. EditedRound.page-length page negative size mask ∙ edited-same (length part) mask (given (number negative size)) q)
+edited-part page mask (refused question) part last e = e ∙ nothing (Edited.answerOf (length part) mask (refused question)) part

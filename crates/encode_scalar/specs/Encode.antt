@@ -4,18 +4,16 @@ use mathlib.Core.Bool.{Bool, true, false, not, _&&_, cond}
 use Prim.Native.Nat.{ℕ, _%_}
 use lib.Dec.{eqb, leb}
 use lib.ListN.{length, drop}
-use Rattle.value.specs.declared.Number.{Number}
-use Rattle.value.specs.declared.Number.the-variants.{Of, Bad, Big}
 use Rattle.value.specs.declared.Scalar.{Scalar}
 use Rattle.value.specs.declared.Scalar.the-variants.{Null, Text, Int, Decimal, Float as FloatV, FloatBits, Bool as BoolV}
+use Rattle.value.specs.Answer.{Answer, refused, given}
+use Rattle.value.specs.Number.{Whole, number, noNumber}
 use Rattle.value.specs.Scalar.{scalarOf}
 use Rattle.ebcdic.specs.Ebcdic.{ontoPage}
 use Rattle.text.specs.Text.{written, padded, front}
 use Rattle.text.specs.Shown.{Shows, shows, none, textIn, refusalAt}
 use Rattle.display.specs.Display.{wholeIn, intFits, intBytes, decimalFits}
 use Rattle.binary.specs.Binary.{widthOk, integerBytes}
-use Rattle.float.specs.declared.Floated.{Floated}
-use Rattle.float.specs.declared.Floated.the-variants.{Word, Refused as Unfloated}
 use Rattle.float.specs.Convert.{floatedOf, decimalFor}
 use Rattle.float.specs.Field.{fieldOk, floatBytes}
 use Rattle.hex.specs.Hex as Hex
@@ -32,35 +30,31 @@ textBytes page right pad w none = []
 
 -- ---- Int and Binary: the integer that a value stands for
 
-abbrev pub intJudged : ℕ → Bool → ℕ → Number → ℕ
-intJudged w signed sign (Of negative size) = cond (intFits w negative size signed sign) 0 14
-intJudged w signed sign Bad = 13
-intJudged w signed sign Big = 13
+abbrev pub intJudged : ℕ → Bool → ℕ → Answer Whole → ℕ
+intJudged w signed sign (refused question) = question
+intJudged w signed sign (given (number negative size)) = cond (intFits w negative size signed sign) 0 14
 
-abbrev pub intWritten : ℕ → ℕ → ℕ → Number → List ℕ
-intWritten page w sign (Of negative size) = map (ontoPage page) (intBytes w negative size sign)
-intWritten page w sign Bad = []
-intWritten page w sign Big = []
+abbrev pub intWritten : ℕ → ℕ → ℕ → Answer Whole → List ℕ
+intWritten page w sign (refused question) = []
+intWritten page w sign (given (number negative size)) = map (ontoPage page) (intBytes w negative size sign)
 
-abbrev pub binaryJudged : ℕ → Number → ℕ
-binaryJudged w (Of negative size) = cond (widthOk w) 0 14
-binaryJudged w Bad = 13
-binaryJudged w Big = 13
+abbrev pub binaryJudged : ℕ → Answer Whole → ℕ
+binaryJudged w (refused question) = question
+binaryJudged w (given n) = cond (widthOk w) 0 14
 
-abbrev pub binaryWritten : ℕ → ℕ → Number → List ℕ
-binaryWritten order w (Of negative size) = integerBytes order w negative size
-binaryWritten order w Bad = []
-binaryWritten order w Big = []
+abbrev pub binaryWritten : ℕ → ℕ → Answer Whole → List ℕ
+binaryWritten order w (refused question) = []
+binaryWritten order w (given (number negative size)) = integerBytes order w negative size
 
 -- ---- Float
 
-abbrev pub floatJudged : ℕ → ℕ → Floated → ℕ
-floatJudged bits w (Word x) = cond (fieldOk bits w) 0 14
-floatJudged bits w Unfloated = 13
+abbrev pub floatJudged : ℕ → ℕ → Answer ℕ → ℕ
+floatJudged bits w (refused question) = question
+floatJudged bits w (given x) = cond (fieldOk bits w) 0 14
 
-abbrev pub floatWritten : ℕ → ℕ → ℕ → Floated → List ℕ
-floatWritten order bits w (Word x) = floatBytes order bits w x
-floatWritten order bits w Unfloated = []
+abbrev pub floatWritten : ℕ → ℕ → ℕ → Answer ℕ → List ℕ
+floatWritten order bits w (refused question) = []
+floatWritten order bits w (given x) = floatBytes order bits w x
 
 -- ---- Hex takes a Text, and Null as an empty one
 
@@ -98,29 +92,29 @@ abbrev pub decimalFit : ℕ → ℕ → ℕ → ℕ → Bool → ℕ → Bool
 decimalFit p q s w negative size =
     cond (eqb p 0) (decimalFits w s negative size q) (cond (eqb p 1) (Packed.fitsOf w size) (Zoned.fitsOf w size))
 
-abbrev pub decimalJudged : ℕ → ℕ → ℕ → ℕ → Number → ℕ
-decimalJudged p q s w (Of negative size) = cond (decimalFit p q s w negative size) 0 14
-decimalJudged p q s w Bad = 13
-decimalJudged p q s w Big = 14
+abbrev pub decimalJudged : ℕ → ℕ → ℕ → ℕ → Answer Whole → ℕ
+decimalJudged p q s w (refused question) = question
+decimalJudged p q s w (given (number negative size)) = cond (decimalFit p q s w negative size) 0 14
 
-abbrev pub decimalWritten : ℕ → ℕ → ℕ → ℕ → Number → List ℕ
-decimalWritten p q page w (Of negative size) =
+abbrev pub decimalBytes : ℕ → ℕ → ℕ → ℕ → Bool → ℕ → List ℕ
+decimalBytes p q page w negative size =
     cond (eqb p 0) (map (ontoPage page) (intBytes w negative size q))
     (cond (eqb p 1) (Packed.encodedOf w negative size (flag q))
     (map (ontoPage page) (Zoned.encodedOf w negative size (flag q))))
-decimalWritten p q page w Bad = []
-decimalWritten p q page w Big = []
+
+abbrev pub decimalWritten : ℕ → ℕ → ℕ → ℕ → Answer Whole → List ℕ
+decimalWritten p q page w (refused question) = []
+decimalWritten p q page w (given (number negative size)) = decimalBytes p q page w negative size
 
 -- the number of an item for a Decimal field; a List or Struct has none
-abbrev pub itemNumber : ℕ → ℕ → ℕ → ℕ → Number
-itemNumber tag a b scale = cond (leb 6 tag) Bad (decimalFor (scalarOf tag a b) scale)
+abbrev pub itemNumber : ℕ → ℕ → ℕ → ℕ → Answer Whole
+itemNumber tag a b scale = cond (leb 6 tag) noNumber (decimalFor (scalarOf tag a b) scale)
 
 -- ---- Edited
 
-abbrev pub editedWritten : ℕ → List ℕ → Number → List ℕ
-editedWritten page mask (Of negative size) = map (ontoPage page) (Edited.edited negative size mask)
-editedWritten page mask Bad = []
-editedWritten page mask Big = []
+abbrev pub editedWritten : ℕ → List ℕ → Answer Whole → List ℕ
+editedWritten page mask (refused question) = []
+editedWritten page mask (given (number negative size)) = map (ontoPage page) (Edited.edited negative size mask)
 
 -- ---- all kinds
 

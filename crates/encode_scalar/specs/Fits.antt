@@ -7,7 +7,7 @@ use lib.ListN.{length}
 use Rattle.value.specs.declared.Scalar.{Scalar}
 use Rattle.value.specs.declared.Scalar.the-variants.{Null, Text, Int, Decimal, Float as FloatV, FloatBits, Bool as BoolV}
 use Rattle.value.specs.Digits.{limit}
-use Rattle.value.specs.Scalar.{floatOf}
+use Rattle.value.specs.Scalar.{decimal, floatOf}
 use Rattle.text.specs.Text as Text
 use Rattle.display.specs.Display.{isSeparate}
 use Rattle.binary.specs.Binary.{widthOk}
@@ -48,11 +48,11 @@ pub data Fits (p q r s : ℕ) (mask : List ℕ) (w : ℕ) : ℕ → Scalar → L
   -- "Bool 1"
   bool-fits : (b : Bool) (t : List ℕ) → w ≡ 1 → Fits p q r s mask w 5 (BoolV b) t
   -- "precision at most width"; "Decimals have the entry's scale"
-  display-fits : (negative : Bool) (size : ℕ) (t : List ℕ) → p ≡ 0 → Digits w q negative size → s ≤ w → size < limit → Fits p q r s mask w 7 (Decimal negative size r) t
+  display-fits : (negative : Bool) (size : ℕ) (t : List ℕ) → p ≡ 0 → Digits w q negative size → s ≤ w → size < limit → Fits p q r s mask w 7 (decimal negative size r) t
   -- "Packed, zoned: below 10^(2w−1), 10^w"
-  packed-fits : (negative : Bool) (size : ℕ) (t : List ℕ) → p ≡ 1 → 0 < w → size < 10 ^ (2 * w - 1) → size < limit → Signed q negative size → Fits p q r s mask w 7 (Decimal negative size r) t
-  zoned-fits : (negative : Bool) (size : ℕ) (t : List ℕ) → p ≡ 2 → 0 < w → size < 10 ^ w → size < limit → Signed q negative size → Fits p q r s mask w 7 (Decimal negative size r) t
-  edited-fits : (negative : Bool) (size : ℕ) (t : List ℕ) → length mask ≡ w → Edited.Fits (flag p) negative size mask → Minus negative size → Fits p q r s mask w 8 (Decimal negative size r) t
+  packed-fits : (negative : Bool) (size : ℕ) (t : List ℕ) → p ≡ 1 → 0 < w → size < 10 ^ (2 * w - 1) → size < limit → Signed q negative size → Fits p q r s mask w 7 (decimal negative size r) t
+  zoned-fits : (negative : Bool) (size : ℕ) (t : List ℕ) → p ≡ 2 → 0 < w → size < 10 ^ w → size < limit → Signed q negative size → Fits p q r s mask w 7 (decimal negative size r) t
+  edited-fits : (negative : Bool) (size : ℕ) (t : List ℕ) → length mask ≡ w → Edited.Fits (flag p) negative size mask → Minus negative size → Fits p q r s mask w 8 (decimal negative size r) t
 
 -- what a field that holds the value says: a text says its bytes
 abbrev pub saidOf : Scalar → List ℕ → Says

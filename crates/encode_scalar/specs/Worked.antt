@@ -10,11 +10,11 @@ use lib.ListN.{replicate}
 use lib.Ieee.{fin, ofBits, toBits, nanBits}
 use Rattle.lists.specs.Scan.{leftBy, rightBy, everyBy}
 use Rattle.ebcdic.specs.Ebcdic.{fromPage, ontoPage, toAscii, asciiTable}
-use Rattle.value.specs.declared.Number.{Number}
-use Rattle.value.specs.declared.Number.the-variants.{Of, Bad, Big}
 use Rattle.value.specs.declared.Scalar.{Scalar}
-use Rattle.value.specs.declared.Scalar.the-variants.{Int, Decimal, Float}
-use Rattle.value.specs.Scalar.{tagOf}
+use Rattle.value.specs.declared.Scalar.the-variants.{Int, Float}
+use Rattle.value.specs.Answer as Value
+use Rattle.value.specs.Number.{Whole, number}
+use Rattle.value.specs.Scalar.{decimal, tagOf}
 use Rattle.value.specs.Field.{fieldOf}
 use Rattle.value.specs.Rounding.{rounded, rescaled}
 use Rattle.binary.specs.Bytes.{wordIn}
@@ -55,12 +55,11 @@ readAnswer (Decode.value v) = value v
 readAnswer (Decode.text t) = bytes t
 
 abbrev writeAnswer : ℕ → List ℕ → Answer
-writeAnswer number b = cond (eqb number 0) (bytes b) (refused number)
+writeAnswer question b = cond (eqb question 0) (bytes b) (refused question)
 
-abbrev rescaleAnswer : ℕ → Number → Answer
-rescaleAnswer scale (Of negative size) = value (Decimal negative size scale)
-rescaleAnswer scale Bad = refused 13
-rescaleAnswer scale Big = refused 14
+abbrev rescaleAnswer : ℕ → Value.Answer Whole → Answer
+rescaleAnswer scale (Value.refused n) = refused n
+rescaleAnswer scale (Value.given (number negative size)) = value (decimal negative size scale)
 
 abbrev pub answer : Question → Answer
 answer (read (field kind p q r) page part) = readAnswer (says kind p q r page part)
@@ -113,21 +112,21 @@ editedText = 0x20 ∷ 0x31 ∷ 0x2C ∷ 0x32 ∷ 0x33 ∷ 0x34 ∷ 0x2E ∷ 0x35
 abbrev pub starred : List Row
 starred =
     -- "12 34 5D packed: −12345."
-    read packed 0 (0x12 ∷ 0x34 ∷ 0x5D ∷ []) gives value (Decimal true 12345 0) ∷
+    read packed 0 (0x12 ∷ 0x34 ∷ 0x5D ∷ []) gives value (decimal true 12345 0) ∷
     -- "1E: 1."
-    read packed 0 (0x1E ∷ []) gives value (Decimal false 1 0) ∷
+    read packed 0 (0x1E ∷ []) gives value (decimal false 1 0) ∷
     -- "19: refused 8."
     read packed 0 (0x19 ∷ []) gives refused 8 ∷
     -- "09, eight 99, 9C: 10^18 − 1."
-    read packed 0 (0x09 ∷ replicate 8 0x99 ++ 0x9C ∷ []) gives value (Decimal false (10 ^ 18 - 1) 0) ∷
+    read packed 0 (0x09 ∷ replicate 8 0x99 ++ 0x9C ∷ []) gives value (decimal false (10 ^ 18 - 1) 0) ∷
     -- "10, eight 00, 0C: refused 9."
     read packed 0 (0x10 ∷ replicate 8 0x00 ++ 0x0C ∷ []) gives refused 9 ∷
     -- "F1 F2 D3 zoned, page 1: −123."
-    read zoned 1 (0xF1 ∷ 0xF2 ∷ 0xD3 ∷ []) gives value (Decimal true 123 0) ∷
+    read zoned 1 (0xF1 ∷ 0xF2 ∷ 0xD3 ∷ []) gives value (decimal true 123 0) ∷
     -- "−5, unsigned packed, width 1: 5F."
-    write unsignedPacked [] 1 (Decimal true 5 0) gives bytes (0x5F ∷ []) ∷
+    write unsignedPacked [] 1 (decimal true 5 0) gives bytes (0x5F ∷ []) ∷
     -- "10, packed width 1: refused 14."
-    write packed [] 1 (Decimal false 10 0) gives refused 14 ∷
+    write packed [] 1 (decimal false 10 0) gives refused 14 ∷
     -- "FF FE signed Big: −2."
     read signedBig 0 (0xFF ∷ 0xFE ∷ []) gives value (Int true 2) ∷
     -- "`--5` leading: refused 8."
@@ -135,9 +134,9 @@ starred =
     -- "half 0x0001: 2^−24."
     read half 0 (0x00 ∷ 0x01 ∷ []) gives value (Float (fin false 1 (negℤ (pos 24)))) ∷
     -- "−123456, mask `ZZ,ZZ9.99-`: ` 1,234.56-`."
-    write edited mask 10 (Decimal true 123456 2) gives bytes editedText ∷
+    write edited mask 10 (decimal true 123456 2) gives bytes editedText ∷
     -- "125 scale 2 to 1: 12."
-    rescale (Decimal false 125 2) 1 gives value (Decimal false 12 1) ∷
+    rescale (decimal false 125 2) 1 gives value (decimal false 12 1) ∷
     []
 
 -- the answer to what each row asks is the row's own

@@ -2,6 +2,7 @@
 // the tag and the two words of its item and, for a Text, its bytes.
 
 use float::Floated;
+use value::Amount;
 use value::Number;
 use value::Scalar;
 ghost use mathlib.Core.Path.{_≡_};
@@ -10,12 +11,14 @@ ghost use mathlib.Core.Bool.{cond, false};
 ghost use Prim.Native.Nat.{ℕ, _<_};
 ghost use lib.ListN.{length};
 ghost use lib.Dec.{eqb};
+ghost use Rattle.value.specs.Number.{writtenAs, amountAs};
 ghost use Rattle.value.specs.Scalar.{scalarOf};
+ghost use Rattle.float.specs.Convert.{floatedAs};
 ghost use Rattle.text.specs.Text.{padded};
 ghost use Rattle.text.specs.Shown.{textIn, refusalAt};
 ghost use Rattle.edited.specs.Edited.{answerOf};
 ghost use Rattle.encode_scalar.specs.Encode.{textBytes, intJudged, intWritten, binaryJudged, binaryWritten, floatJudged, floatWritten, hexText, hexJudged, hexWritten};
-ghost use Rattle.encode_scalar.specs.Encode.{boolIn, decimalFit, decimalJudged, decimalWritten, editedWritten, numberJudged, numberBytes, judgedOf, bytesOf, partAfter, itemNumber};
+ghost use Rattle.encode_scalar.specs.Encode.{boolIn, decimalFit, decimalBytes, decimalJudged, decimalWritten, editedWritten, numberJudged, numberBytes, judgedOf, bytesOf, partAfter, itemNumber};
 ghost use Rattle.decode_scalar.specs.Decode as Decode;
 
 fn fitting(fits: bool) -> u32
@@ -30,7 +33,7 @@ fn fitting(fits: bool) -> u32
 // ---- the judging alone
 
 fn judge_int(width: usize, signed: bool, sign: u32, n: Number) -> u32
-    ensures { λ r. ⌜ r ≡ intJudged width signed sign n ⌝ }
+    ensures { λ r. ⌜ r ≡ intJudged width signed sign (writtenAs n) ⌝ }
 {
     match n {
         Number::Of(negative, size) => fitting(display::fits_int(
@@ -41,22 +44,22 @@ fn judge_int(width: usize, signed: bool, sign: u32, n: Number) -> u32
             sign,
         )),
         Number::Bad => 13,
-        Number::Big => 13,
+        Number::Big => 14,
     }
 }
 
 fn judge_binary(width: usize, n: Number) -> u32
-    ensures { λ r. ⌜ r ≡ binaryJudged width n ⌝ }
+    ensures { λ r. ⌜ r ≡ binaryJudged width (writtenAs n) ⌝ }
 {
     match n {
         Number::Of(_, size) => fitting(binary::width_ok(width)),
         Number::Bad => 13,
-        Number::Big => 13,
+        Number::Big => 14,
     }
 }
 
 fn judge_float(bits: u32, width: usize, f: Floated) -> u32
-    ensures { λ r. ⌜ r ≡ floatJudged bits width f ⌝ }
+    ensures { λ r. ⌜ r ≡ floatJudged bits width (floatedAs f) ⌝ }
 {
     match f {
         Floated::Word(w) => fitting(float::field_ok(bits, width)),
@@ -90,13 +93,13 @@ fn fits_decimal(p: u32, q: u32, s: u32, width: usize, negative: bool, size: u64)
     zoned::fits(width, size)
 }
 
-fn judge_decimal(p: u32, q: u32, s: u32, width: usize, n: Number) -> u32
-    ensures { λ r. ⌜ r ≡ decimalJudged p q s width n ⌝ }
+fn judge_decimal(p: u32, q: u32, s: u32, width: usize, n: Amount) -> u32
+    ensures { λ r. ⌜ r ≡ decimalJudged p q s width (amountAs n) ⌝ }
 {
     match n {
-        Number::Of(negative, size) => fitting(fits_decimal(p, q, s, width, negative, size)),
-        Number::Bad => 13,
-        Number::Big => 14,
+        Amount::Of(negative, size) => fitting(fits_decimal(p, q, s, width, negative, size)),
+        Amount::Bad => 13,
+        Amount::Big => 14,
     }
 }
 
@@ -124,8 +127,8 @@ fn judge_number(
     }
 }
 
-fn judge_edited(width: usize, mask: &[u8], n: Number) -> u32
-    ensures { λ r. ⌜ r ≡ answerOf width (now (mask .entry)) n ⌝ }
+fn judge_edited(width: usize, mask: &[u8], n: Amount) -> u32
+    ensures { λ r. ⌜ r ≡ answerOf width (now (mask .entry)) (amountAs n) ⌝ }
 {
     let refused = edited::judge(mask, n);
     if refused == 0 {
@@ -170,14 +173,16 @@ pub fn judge_scalar(
 
 fn write_text(part: &mut [u8], page: u32, right: bool, pad: u8, v: Scalar, text: &[u8]) -> u32
     ensures { λ r. ⌜ r ≡ refusalAt (length (now (part .entry))) (textIn v (now (text .entry))) ⌝ }
-    ensures { λ r. ⌜ now (part .exit) ≡ partAfter (refusalAt (length (now (part .entry))) (textIn v (now (text .entry)))) (textBytes page right pad (length (now (part .entry))) (textIn v (now (text .entry)))) (now (part .entry)) ⌝ }
+    ensures { λ r. ⌜ now (part .exit) ≡ partAfter (refusalAt (length (now (part .entry))) (textIn v (now (text .entry))))
+        (textBytes page right pad (length (now (part .entry))) (textIn v (now (text .entry)))) (now (part .entry)) ⌝ }
 {
     text::encode_text(part, v, text, right, pad, page)
 }
 
 fn write_int(part: &mut [u8], page: u32, signed: bool, sign: u32, n: Number) -> u32
-    ensures { λ r. ⌜ r ≡ intJudged (length (now (part .entry))) signed sign n ⌝ }
-    ensures { λ _. ⌜ now (part .exit) ≡ partAfter (intJudged (length (now (part .entry))) signed sign n) (intWritten page (length (now (part .entry))) sign n) (now (part .entry)) ⌝ }
+    ensures { λ r. ⌜ r ≡ intJudged (length (now (part .entry))) signed sign (writtenAs n) ⌝ }
+    ensures { λ _. ⌜ now (part .exit) ≡ partAfter (intJudged (length (now (part .entry))) signed sign (writtenAs n))
+        (intWritten page (length (now (part .entry))) sign (writtenAs n)) (now (part .entry)) ⌝ }
 {
     match n {
         Number::Of(negative, size) => fitting(display::encode_display_int(
@@ -189,13 +194,13 @@ fn write_int(part: &mut [u8], page: u32, signed: bool, sign: u32, n: Number) -> 
             sign,
         )),
         Number::Bad => 13,
-        Number::Big => 13,
+        Number::Big => 14,
     }
 }
 
 fn write_binary(part: &mut [u8], order: u32, n: Number) -> u32
-    ensures { λ r. ⌜ r ≡ binaryJudged (length (now (part .entry))) n ⌝ }
-    ensures { λ _. ⌜ now (part .exit) ≡ partAfter (binaryJudged (length (now (part .entry))) n) (binaryWritten order (length (now (part .entry))) n) (now (part .entry)) ⌝ }
+    ensures { λ r. ⌜ r ≡ binaryJudged (length (now (part .entry))) (writtenAs n) ⌝ }
+    ensures { λ _. ⌜ now (part .exit) ≡ partAfter (binaryJudged (length (now (part .entry))) (writtenAs n)) (binaryWritten order (length (now (part .entry))) (writtenAs n)) (now (part .entry)) ⌝ }
 {
     match n {
         Number::Of(negative, size) => fitting(binary::encode_binary_int(
@@ -205,13 +210,14 @@ fn write_binary(part: &mut [u8], order: u32, n: Number) -> u32
             size,
         )),
         Number::Bad => 13,
-        Number::Big => 13,
+        Number::Big => 14,
     }
 }
 
 fn write_float(part: &mut [u8], order: u32, bits: u32, f: Floated) -> u32
-    ensures { λ r. ⌜ r ≡ floatJudged bits (length (now (part .entry))) f ⌝ }
-    ensures { λ _. ⌜ now (part .exit) ≡ partAfter (floatJudged bits (length (now (part .entry))) f) (floatWritten order bits (length (now (part .entry))) f) (now (part .entry)) ⌝ }
+    ensures { λ r. ⌜ r ≡ floatJudged bits (length (now (part .entry))) (floatedAs f) ⌝ }
+    ensures { λ _. ⌜ now (part .exit) ≡ partAfter (floatJudged bits (length (now (part .entry))) (floatedAs f))
+        (floatWritten order bits (length (now (part .entry))) (floatedAs f)) (now (part .entry)) ⌝ }
 {
     match f {
         Floated::Word(w) => fitting(float::encode_float(part, w, bits, order)),
@@ -221,7 +227,8 @@ fn write_float(part: &mut [u8], order: u32, bits: u32, f: Floated) -> u32
 
 fn write_hex(part: &mut [u8], order: u32, v: Scalar, text: &[u8]) -> u32
     ensures { λ r. ⌜ r ≡ hexJudged (length (now (part .entry))) (hexText v (now (text .entry))) ⌝ }
-    ensures { λ _. ⌜ now (part .exit) ≡ partAfter (hexJudged (length (now (part .entry))) (hexText v (now (text .entry)))) (hexWritten order (length (now (part .entry))) (hexText v (now (text .entry)))) (now (part .entry)) ⌝ }
+    ensures { λ _. ⌜ now (part .exit) ≡ partAfter (hexJudged (length (now (part .entry))) (hexText v (now (text .entry))))
+        (hexWritten order (length (now (part .entry))) (hexText v (now (text .entry)))) (now (part .entry)) ⌝ }
 {
     match v {
         Scalar::Null => hex::encode_hex(part, &text[0..0], order),
@@ -276,7 +283,7 @@ fn encode_decimal(
     size: u64,
 ) -> bool
     ensures { λ r. ⌜ r ≡ decimalFit p q s (length (now (part .entry))) negative size ⌝ }
-    ensures { λ _. ⌜ now (part .exit) ≡ cond (decimalFit p q s (length (now (part .entry))) negative size) (decimalWritten p q page (length (now (part .entry))) (Number.Of negative size)) (now (part .entry)) ⌝ }
+    ensures { λ _. ⌜ now (part .exit) ≡ cond (decimalFit p q s (length (now (part .entry))) negative size) (decimalBytes p q page (length (now (part .entry))) negative size) (now (part .entry)) ⌝ }
 {
     if p == 0 {
         return display::encode_display_decimal(part, page, s, negative, size, q);
@@ -287,35 +294,36 @@ fn encode_decimal(
     zoned::encode(part, page, negative, size, decode_scalar::flag(q))
 }
 
-fn write_decimal(part: &mut [u8], page: u32, p: u32, q: u32, s: u32, n: Number) -> u32
-    ensures { λ r. ⌜ r ≡ decimalJudged p q s (length (now (part .entry))) n ⌝ }
-    ensures { λ _. ⌜ now (part .exit) ≡ partAfter (decimalJudged p q s (length (now (part .entry))) n) (decimalWritten p q page (length (now (part .entry))) n) (now (part .entry)) ⌝ }
+fn write_decimal(part: &mut [u8], page: u32, p: u32, q: u32, s: u32, n: Amount) -> u32
+    ensures { λ r. ⌜ r ≡ decimalJudged p q s (length (now (part .entry))) (amountAs n) ⌝ }
+    ensures { λ _. ⌜ now (part .exit) ≡ partAfter (decimalJudged p q s (length (now (part .entry))) (amountAs n))
+        (decimalWritten p q page (length (now (part .entry))) (amountAs n)) (now (part .entry)) ⌝ }
 {
     match n {
-        Number::Of(negative, size) => fitting(encode_decimal(part, page, p, q, s, negative, size)),
-        Number::Bad => 13,
-        Number::Big => 14,
+        Amount::Of(negative, size) => fitting(encode_decimal(part, page, p, q, s, negative, size)),
+        Amount::Bad => 13,
+        Amount::Big => 14,
     }
 }
 
 // The number of an item for a Decimal field: of a Decimal that has the scale, at once; Bad for a List or Struct.
-fn decimal_item(tag: u64, a: u64, b: u64, scale: u64) -> Number
-    ensures { λ n. ⌜ n ≡ itemNumber tag a b scale ⌝ }
+fn decimal_item(tag: u64, a: u64, b: u64, scale: u64) -> Amount
+    ensures { λ n. ⌜ amountAs n ≡ itemNumber tag a b scale ⌝ }
 {
     if tag == 3 {
         if b == scale {
-            return value::number_of(value::is_minus(a), value::size_of(a));
+            return value::amount_of(value::is_minus(a), value::size_of(a));
         }
     }
     if tag >= 6 {
-        return Number::Bad;
+        return Amount::Bad;
     }
     float::as_decimal(value::item_scalar(tag, a, b), scale)
 }
 
-fn write_edited(part: &mut [u8], page: u32, mask: &[u8], n: Number) -> u32
-    ensures { λ r. ⌜ r ≡ answerOf (length (now (part .entry))) (now (mask .entry)) n ⌝ }
-    ensures { λ _. ⌜ now (part .exit) ≡ partAfter (answerOf (length (now (part .entry))) (now (mask .entry)) n) (editedWritten page (now (mask .entry)) n) (now (part .entry)) ⌝ }
+fn write_edited(part: &mut [u8], page: u32, mask: &[u8], n: Amount) -> u32
+    ensures { λ r. ⌜ r ≡ answerOf (length (now (part .entry))) (now (mask .entry)) (amountAs n) ⌝ }
+    ensures { λ _. ⌜ now (part .exit) ≡ partAfter (answerOf (length (now (part .entry))) (now (mask .entry)) (amountAs n)) (editedWritten page (now (mask .entry)) (amountAs n)) (now (part .entry)) ⌝ }
 {
     edited::encode(part, page, mask, n)
 }
@@ -334,7 +342,8 @@ fn write_number(
 ) -> u32
     requires { ⌜ eqb kind 7 ≡ false ⌝ }
     ensures { λ n. ⌜ n ≡ numberJudged kind p q r s (now (mask .entry)) (length (now (part .entry))) v (now (text .entry)) ⌝ }
-    ensures { λ _. ⌜ now (part .exit) ≡ partAfter (numberJudged kind p q r s (now (mask .entry)) (length (now (part .entry))) v (now (text .entry))) (numberBytes kind p q r (now (mask .entry)) page (length (now (part .entry))) v (now (text .entry))) (now (part .entry)) ⌝ }
+    ensures { λ _. ⌜ now (part .exit) ≡ partAfter (numberJudged kind p q r s (now (mask .entry)) (length (now (part .entry))) v (now (text .entry)))
+        (numberBytes kind p q r (now (mask .entry)) page (length (now (part .entry))) v (now (text .entry))) (now (part .entry)) ⌝ }
 {
     match kind {
         1 => write_int(
@@ -369,7 +378,8 @@ pub fn encode_scalar(
     text: &[u8],
 ) -> u32
     ensures { λ n. ⌜ n ≡ judgedOf kind p q r s (now (mask .entry)) (length (now (part .entry))) tag (scalarOf tag a b) (now (text .entry)) ⌝ }
-    ensures { λ _. ⌜ now (part .exit) ≡ partAfter (judgedOf kind p q r s (now (mask .entry)) (length (now (part .entry))) tag (scalarOf tag a b) (now (text .entry))) (bytesOf kind p q r (now (mask .entry)) page (length (now (part .entry))) (scalarOf tag a b) (now (text .entry))) (now (part .entry)) ⌝ }
+    ensures { λ _. ⌜ now (part .exit) ≡ partAfter (judgedOf kind p q r s (now (mask .entry)) (length (now (part .entry))) tag (scalarOf tag a b) (now (text .entry)))
+        (bytesOf kind p q r (now (mask .entry)) page (length (now (part .entry))) (scalarOf tag a b) (now (text .entry))) (now (part .entry)) ⌝ }
 {
     if kind == 7 {
         return write_decimal(part, page, p, q, s, decimal_item(tag, a, b, r as u64));

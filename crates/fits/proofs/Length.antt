@@ -6,7 +6,6 @@ use Prim.Native.Nat.{ℕ, _-_, _%_}
 use lib.Dec.{ltb}
 use lib.ListN.{length}
 use Rattle.value.specs.declared.Scalar.{Scalar}
-use Rattle.value.specs.declared.Number.the-variants.{Of}
 use Rattle.value.proofs.Room.{room-fits}
 use Rattle.text.proofs.Back.{written-length}
 use Rattle.display.specs.Display as Display

@@ -10,7 +10,7 @@ use borrow.Author.Tests.{lt-ltb, le-leb, eq-eqb, eqb-true, ltb-true, leb-true}
 use Rattle.value.specs.declared.Scalar.{Scalar}
 use Rattle.value.specs.declared.Scalar.the-variants.{Null, Text, Int, Decimal, Float as FloatV, FloatBits, Bool as BoolV}
 use Rattle.value.specs.Digits.{limit}
-use Rattle.value.specs.Scalar.{firstOf, floatOf}
+use Rattle.value.specs.Scalar.{decimal, firstOf, floatOf}
 use Rattle.value.proofs.Items.{float-first}
 use Rattle.binary.specs.Binary.{widthOk}
 use Rattle.float.specs.Field.{Exact, exactIn}
@@ -41,14 +41,14 @@ module _ (p q r s : ℕ) (mask : List ℕ) (w : ℕ) (t : List ℕ) where
           let b = both (widthOk w) (inRange w (flag q) negative size) (a .1) in
           rw (eqb-true kind 2 (a .0)) (binary-fits negative size t (b .0) (range-sound w (flag q) negative size (b .1)))
 
-  decimal-so : (negative : Bool) (size : ℕ) → decimalFits p q s w negative size ≡ true → Fits p q r s mask w 7 (Decimal negative size r) t
+  decimal-so : (negative : Bool) (size : ℕ) → decimalFits p q s w negative size ≡ true → Fits p q r s mask w 7 (decimal negative size r) t
   unfolding decimalFits
   decimal-so negative size e =
       let a = both (ltb size limit) (cond (eqb p 0) (displayFits w q s negative size) (cond (eqb p 1) (packedFits w q negative size) (eqb p 2 && zonedFits w q negative size))) e in
       by (ltb-true size limit (a .0)) (eqb p 0) (eqb p 1) refl refl (a .1)
     where
       by : size < limit → (a b : Bool) → eqb p 0 ≡ a → eqb p 1 ≡ b → cond a (displayFits w q s negative size) (cond b (packedFits w q negative size) (eqb p 2 && zonedFits w q negative size)) ≡ true
-          → Fits p q r s mask w 7 (Decimal negative size r) t
+          → Fits p q r s mask w 7 (decimal negative size r) t
       by l true b h k e =
           let a = both (digitsFit w q negative size) (leb s w) e in
           display-fits negative size t (eqb-true p 0 h) (digits-sound w q negative size (a .0)) (leb-true s w (a .1)) l
@@ -62,7 +62,7 @@ module _ (p q r s : ℕ) (mask : List ℕ) (w : ℕ) (t : List ℕ) where
           let b = both (ltb size (10 ^ w)) (signOk q negative size) (a .1) in
           zoned-fits negative size t (eqb-true p 2 (c .0)) (ltb-true 0 w (a .0)) (ltb-true size (10 ^ w) (b .0)) l (sign-sound q negative size (b .1))
 
-  edited-so : (negative : Bool) (size : ℕ) → editedFits (flag p) w negative size mask ≡ true → Fits p q r s mask w 8 (Decimal negative size r) t
+  edited-so : (negative : Bool) (size : ℕ) → editedFits (flag p) w negative size mask ≡ true → Fits p q r s mask w 8 (decimal negative size r) t
   unfolding editedFits
   edited-so negative size e =
       let a = both (eqb (length mask) w) (maskFits size mask && editedMinusOk (flag p) negative size mask) e in
@@ -71,10 +71,10 @@ module _ (p q r s : ℕ) (mask : List ℕ) (w : ℕ) (t : List ℕ) where
       edited-fits negative size t (eqb-true (length mask) w (a .0)) (f .0) (f .1)
 
   number-so : (kind : ℕ) (negative : Bool) (size : ℕ) → cond (eqb kind 7) (decimalFits p q s w negative size) (eqb kind 8 && editedFits (flag p) w negative size mask) ≡ true
-      → Fits p q r s mask w kind (Decimal negative size r) t
+      → Fits p q r s mask w kind (decimal negative size r) t
   number-so kind negative size e = by (eqb kind 7) refl e
     where
-      by : (b : Bool) → eqb kind 7 ≡ b → cond b (decimalFits p q s w negative size) (eqb kind 8 && editedFits (flag p) w negative size mask) ≡ true → Fits p q r s mask w kind (Decimal negative size r) t
+      by : (b : Bool) → eqb kind 7 ≡ b → cond b (decimalFits p q s w negative size) (eqb kind 8 && editedFits (flag p) w negative size mask) ≡ true → Fits p q r s mask w kind (decimal negative size r) t
       by true k e = rw (eqb-true kind 7 k) (decimal-so negative size e)
       by false k e = let a = both (eqb kind 8) (editedFits (flag p) w negative size mask) e in rw (eqb-true kind 8 (a .0)) (edited-so negative size (a .1))
 

@@ -10,7 +10,8 @@ use lib.Ieee.{Float, nan, inf, fin, binary64, eq, ne, fits, isNan, toBits}
 use lib.Ieee.Compare.{differs-from-itself}
 use borrow.Author.Tests.{lt-ltb, le-ltb, le-leb, lt-leb, eq-eqb, ne-eqb, ltb-true, ltb-false, leb-true, leb-false}
 use Rattle.lists.proofs.Scan.{every-true}
-use Rattle.value.specs.declared.Number.the-variants.{Of}
+use Rattle.value.specs.Answer.{given}
+use Rattle.value.specs.Number.{number as whole-number}
 use Rattle.value.specs.Digits.{limit}
 use Rattle.value.specs.Field.{lastOf}
 use Rattle.value.specs.Digits.{roomFor}
@@ -225,7 +226,7 @@ answered false S true false true e true = refl
 answered false false true true true e true = refl
 answered false true true true true e true = absurd (false≢true (sym e))
 
-module _ (size n : ℕ) (mask : List ℕ) (e : n ≡ judged mask (Of false size)) where
+module _ (size n : ℕ) (mask : List ℕ) (e : n ≡ judged mask (given (whole-number false size))) where
   pub mask-go : n ≡ 0 → (k : ℕ) → k ≡ countOf 48 mask → eqb k 0 ≡ maskFits size mask
   unfolding judged
   mask-go z k g =

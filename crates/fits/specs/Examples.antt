@@ -6,7 +6,8 @@ use Prim.Native.Nat.{ℕ, _-_, _^_}
 use lib.Ieee.{inf, ofBits, toBits, nanBits, isNan, fits}
 use Rattle.lists.specs.Scan.{everyBy}
 use Rattle.value.specs.declared.Scalar.{Scalar}
-use Rattle.value.specs.declared.Scalar.the-variants.{Null, Text, Int, Decimal, Float as FloatV, FloatBits, Bool as BoolV}
+use Rattle.value.specs.declared.Scalar.the-variants.{Null, Text, Int, Float as FloatV, FloatBits, Bool as BoolV}
+use Rattle.value.specs.Scalar.{decimal}
 use Rattle.float.specs.Half.{halfWord}
 use Rattle.float.specs.Single.{narrow}
 use Rattle.float.specs.Field.{exactIn}
@@ -113,23 +114,23 @@ float-nan : fitsOf 0 64 0 0 [] 8 3 (FloatBits 0xFFF8_0000_0000_0001) [] ≡ true
 unfolding fitsOf wordFits exactIn nanBits
 float-nan = refl
 
-packed-greatest : fitsOf 1 1 2 0 [] 2 7 (Decimal true 999 2) [] ≡ true
+packed-greatest : fitsOf 1 1 2 0 [] 2 7 (decimal true 999 2) [] ≡ true
 unfolding fitsOf decimalFits
 packed-greatest = refl
 
-packed-above : fitsOf 1 1 2 0 [] 2 7 (Decimal true 1000 2) [] ≡ false
+packed-above : fitsOf 1 1 2 0 [] 2 7 (decimal true 1000 2) [] ≡ false
 unfolding fitsOf decimalFits
 packed-above = refl
 
-packed-unsigned : fitsOf 1 0 2 0 [] 2 7 (Decimal true 999 2) [] ≡ false
+packed-unsigned : fitsOf 1 0 2 0 [] 2 7 (decimal true 999 2) [] ≡ false
 unfolding fitsOf decimalFits
 packed-unsigned = refl
 
-scale-other : fitsOf 1 1 2 0 [] 2 7 (Decimal true 999 1) [] ≡ false
+scale-other : fitsOf 1 1 2 0 [] 2 7 (decimal true 999 1) [] ≡ false
 unfolding fitsOf decimalFits
 scale-other = refl
 
-display-precision : fitsOf 0 0 2 3 [] 2 7 (Decimal false 9 2) [] ≡ false
+display-precision : fitsOf 0 0 2 3 [] 2 7 (decimal false 9 2) [] ≡ false
 unfolding fitsOf decimalFits digitsFit
 display-precision = refl
 
@@ -141,11 +142,11 @@ bool-two = refl
 abbrev mask : List ℕ
 mask = 57 ∷ 57 ∷ 45 ∷ []
 
-edited-minus : fitsOf 1 0 2 0 mask 3 8 (Decimal true 99 2) [] ≡ true
+edited-minus : fitsOf 1 0 2 0 mask 3 8 (decimal true 99 2) [] ≡ true
 unfolding fitsOf editedFits tells countBy lawfulFrom
 edited-minus = refl
 
-edited-no-sign : fitsOf 1 0 2 0 (57 ∷ 57 ∷ []) 2 8 (Decimal true 99 2) [] ≡ false
+edited-no-sign : fitsOf 1 0 2 0 (57 ∷ 57 ∷ []) 2 8 (decimal true 99 2) [] ≡ false
 unfolding fitsOf editedFits tells countBy lawfulFrom
 edited-no-sign = refl
 

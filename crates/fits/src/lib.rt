@@ -1,7 +1,7 @@
 // Whether a value fits a scalar field: a field is told by the words kind, p, q, r, s of its layout entry, an Edited's mask and its width, and a Text's bytes stand
 // beside the value.
 
-use value::Number;
+use value::Amount;
 use value::Scalar;
 ghost use mathlib.Core.Path.{_≡_};
 ghost use mathlib.Core.Bool.{true, not, _&&_, cond};
@@ -347,7 +347,7 @@ fn edited_minus_ok(signed: bool, negative: bool, size: u64, mask: &[u8]) -> bool
 fn mask_fits(size: u64, mask: &[u8]) -> bool
     ensures { λ r. ⌜ r ≡ maskFits size (now (mask .entry)) ⌝ }
 {
-    if edited::judge(mask, Number::Of(false, size)) == 0 {
+    if edited::judge(mask, Amount::Of(false, size)) == 0 {
         return edited::count_of(mask, 48) == 0;
     }
     false

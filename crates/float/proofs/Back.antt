@@ -15,7 +15,7 @@ use borrow.Author.Tests.{lt-leb, le-leb, leb-true, leb-false, eqb-true, eqb-fals
 use Rattle.value.specs.Scalar.{floatOf}
 use Rattle.value.proofs.Nans.{no-nan-pattern}
 use Rattle.binary.proofs.Words.{word-back, bytes-length}
-use Rattle.float.specs.declared.Parsed.the-variants.{Value}
+use Rattle.value.specs.Answer.{given}
 use Rattle.float.specs.Half.{sig, finite16, fields16, halfWord}
 use Rattle.float.specs.Single.{narrow, singleWord, wideWord, cutSize, cut, cutWord}
 use Rattle.float.specs.Field.{wordFor, patternFor, floatIn, floatBytes, plainHalf, Exact, exact64, exact32, exact16, exactIn}
@@ -247,7 +247,7 @@ half-kept h l p =
 -- ---- a field's bytes
 
 -- what an exact word's bytes are read as
-pub float-kept : (order : ℕ) {bits w : ℕ} → Exact bits w → floatIn order bits (floatBytes order bits (bits / 8) w) ≡ Value (floatOf w)
+pub float-kept : (order : ℕ) {bits w : ℕ} → Exact bits w → floatIn order bits (floatBytes order bits (bits / 8) w) ≡ given (floatOf w)
 unfolding floatIn floatBytes wordFor patternFor
 float-kept order (exact64 w h) = rw (bytes-length order 8 w, word-back order 8 w, mod-eq-of-lt h)
 float-kept order (exact32 w v h n e) =

@@ -11,7 +11,7 @@ use Rattle.value.specs.declared.Scalar.{Scalar}
 use Rattle.value.specs.Scalar.{floatOf}
 use Rattle.binary.specs.Bytes.{wordIn}
 use Rattle.binary.proofs.Words.{word-below}
-use Rattle.float.specs.declared.Parsed.the-variants.{Value, Bad}
+use Rattle.value.specs.Answer.{refused, given}
 use Rattle.float.specs.Field.{fieldOk, wordFor, floatIn}
 
 pub data Lawful : ℕ → ℕ → Type 0 where
@@ -50,10 +50,10 @@ module _ (order bits : ℕ) (s : List ℕ) (bytes : (k : ℕ) → k < length s �
   pub word-small : v < 2 ^ bits
   word-small = rw word-is (pattern-fits (lawful bits (length s) ok) (wordIn order s) (word-below order s bytes))
 
-  pub read-value : (w : ℕ) (x : Scalar) → w ≡ wordFor bits v → x ≡ floatOf w → Value x ≡ floatIn order bits s
+  pub read-value : (w : ℕ) (x : Scalar) → w ≡ wordFor bits v → x ≡ floatOf w → given x ≡ floatIn order bits s
   unfolding floatIn
   read-value w x p q = rw (ok, q, p, word-is)
 
-pub read-bad : (order bits : ℕ) (s : List ℕ) → fieldOk bits (length s) ≡ false → Bad ≡ floatIn order bits s
+pub read-bad : (order bits : ℕ) (s : List ℕ) → fieldOk bits (length s) ≡ false → refused 8 ≡ floatIn order bits s
 unfolding floatIn
 read-bad order bits s e = rw e

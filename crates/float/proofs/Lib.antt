@@ -8,3 +8,4 @@ pub mod Scalars
 pub mod Narrow
 pub mod Bytes
 pub mod Back
+pub mod Numbered

@@ -9,7 +9,8 @@ use lib.Ieee.Bits.{ofBits-toBits}
 use lib.Ieee.Compare.{nan-differs}
 use lib.Ieee.Exact.{HasValue}
 use Rattle.float.specs.Half.{sig}
-use Rattle.value.specs.declared.Number.the-variants.{Bad, Big}
+use Rattle.value.specs.Answer.{refused}
+use Rattle.value.specs.Number.{noNumber}
 use Rattle.float.specs.Decimal.{decimalOf}
 use Rattle.float.proofs.Fields.{pattern-value, pattern-top}
 
@@ -45,10 +46,10 @@ own-value y h n =
     subst (λ (z : Float). HasValue z (leb (2 ^ 63) b) (sig (2 ^ 52) (b % 2 ^ 63 / 2 ^ 52) (b % 2 ^ 52) * 2 ^ (b % 2 ^ 63 / 2 ^ 52 - 1)) (2 ^ 1074)) (ofBits-toBits binary64 y h)
     (pattern-value binary64 b (field-lt b n))
 
-pub decimal-nan : (y : Float) → y ≡ nan → Bad ≡ decimalOf y
+pub decimal-nan : (y : Float) → y ≡ nan → noNumber ≡ decimalOf y
 unfolding decimalOf
 decimal-nan y e = sym (ap decimalOf e)
 
-pub decimal-inf : (y : Float) → (s : Bool) × (y ≡ inf s) → Big ≡ decimalOf y
+pub decimal-inf : (y : Float) → (s : Bool) × (y ≡ inf s) → refused 14 ≡ decimalOf y
 unfolding decimalOf
 decimal-inf y e = sym (ap decimalOf (e .1))

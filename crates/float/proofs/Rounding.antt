@@ -10,21 +10,20 @@ use lib.Ieee.{Float, nan, inf, fin, binary64, up, down, mul, ofInt}
 use lib.Ieee.Fits.{down-pos}
 use lib.Ieee.Exact.{HasValue}
 use borrow.Author.Tests.{lt-ltb, le-ltb}
-use Rattle.value.specs.declared.Number.{Number}
-use Rattle.value.specs.declared.Number.the-variants.{Bad}
+use Rattle.value.specs.Answer.{Answer}
 use Rattle.value.specs.Digits.{limit, capped}
-use Rattle.value.specs.Number.{numberOf}
+use Rattle.value.specs.Number.{Whole, noNumber, amountOf}
 use Rattle.value.specs.Rounding.{rounded, floatRule}
 use Rattle.float.specs.Decimal.{decimalOf, toDecimal}
 use Rattle.float.proofs.Rule.{rounding-same, rounding-whole, rounding-le}
 
-pub decimal-value : (y : Float) (s : Bool) (a c : ℕ) → 0 < c → HasValue y s a c → decimalOf y ≡ numberOf s (rounded floatRule a c)
+pub decimal-value : (y : Float) (s : Bool) (a c : ℕ) → 0 < c → HasValue y s a c → decimalOf y ≡ amountOf s (rounded floatRule a c)
 unfolding decimalOf
 decimal-value nan s a c C v = absurd v
 decimal-value (inf t) s a c C v = absurd v
 decimal-value (fin t m e) s a c C v =
-    ap (λ (z : Bool). numberOf z (rounded floatRule (m * up e) (down e))) (v .0)
-    ∙ ap (numberOf s) (rounding-same (m * up e) (down e) a c (down-pos e) C (v .1))
+    ap (λ (z : Bool). amountOf z (rounded floatRule (m * up e) (down e))) (v .0)
+    ∙ ap (amountOf s) (rounding-same (m * up e) (down e) a c (down-pos e) C (v .1))
 
 -- ---- the size of m * 2 ^ j, in units of 2 ^ -1074: m / 2 ^ k rounded where j + k is 1074, and m * 2 ^ k where j is k + 1074
 small : (n : ℕ) → n ≤ 2 ^ 53 → n ≡ capped n
@@ -54,10 +53,10 @@ pub cap-above : (n : ℕ) → limit ≤ n → limit ≡ capped n
 cap-above n h = omega arith
 
 -- ---- the scale
-pub scale-good : (x : Float) (k : ℕ) → k ≤ 18 → {r : Number} → r ≡ decimalOf (mul binary64 x (ofInt binary64 (pos (10 ^ k)))) → r ≡ toDecimal x k
+pub scale-good : (x : Float) (k : ℕ) → k ≤ 18 → {r : Answer Whole} → r ≡ decimalOf (mul binary64 x (ofInt binary64 (pos (10 ^ k)))) → r ≡ toDecimal x k
 unfolding toDecimal
 scale-good x k h e = rw (le-ltb 18 k h) e
 
-pub scale-bad : (x : Float) (k : ℕ) → 18 < k → Bad ≡ toDecimal x k
+pub scale-bad : (x : Float) (k : ℕ) → 18 < k → noNumber ≡ toDecimal x k
 unfolding toDecimal
 scale-bad x k h = rw (lt-ltb 18 k h)

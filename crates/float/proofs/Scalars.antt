@@ -4,7 +4,7 @@ use mathlib.Core.Bool.{Bool}
 use Prim.Native.Nat.{ℕ}
 use Rattle.value.specs.declared.Scalar.{Scalar}
 use Rattle.value.specs.declared.Scalar.the-variants.{Decimal}
-use Rattle.value.specs.Number.{numberOf}
+use Rattle.value.specs.Number.{amountOf}
 use Rattle.value.specs.Rounding.{rescaled}
 use Rattle.value.proofs.Rounding.{scale-same}
 use Rattle.float.specs.Convert.{decimalFor}
@@ -14,7 +14,7 @@ pub decimal-at : (v s : Scalar) (scale : ℕ) → v ≡ s → decimalFor s scale
 decimal-at v s scale e = ap (λ (z : Scalar). decimalFor z scale) (sym e)
 
 -- a Decimal that has the scale already
-pub decimal-same : (negative : Bool) (size from scale : ℕ) → from ≡ scale → numberOf negative size ≡ decimalFor (Decimal negative size from) scale
+pub decimal-same : (negative : Bool) (size from scale : ℕ) → from ≡ scale → amountOf negative size ≡ decimalFor (Decimal negative size from) scale
 unfolding decimalFor
 decimal-same negative size from scale e =
-    ap (numberOf negative) (sym (scale-same from size) ∙ ap (λ (k : ℕ). rescaled from k size) e)
+    ap (amountOf negative) (sym (scale-same from size) ∙ ap (λ (k : ℕ). rescaled from k size) e)

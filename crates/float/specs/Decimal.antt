@@ -4,21 +4,20 @@ use mathlib.Core.Bool.{Bool, cond}
 use lib.IntN.{pos}
 use lib.Dec.{ltb}
 use lib.Ieee.{Float, nan, inf, fin, binary64, up, down, ofInt, mul, div}
-use Rattle.value.specs.declared.Number.{Number}
-use Rattle.value.specs.declared.Number.the-variants.{Bad, Big}
+use Rattle.value.specs.Answer.{Answer, refused}
 use Rattle.value.specs.Digits.{signedOf}
-use Rattle.value.specs.Number.{numberOf}
+use Rattle.value.specs.Number.{Whole, noNumber, amountOf}
 use Rattle.value.specs.Rounding.{rounded, floatRule}
 
 -- a float as a decimal of scale 0: "rounds half away from zero", and a size from 10^18 on is too big; "NaN into Decimal" is refused
-unfoldable pub decimalOf : Float → Number
-decimalOf nan = Bad
-decimalOf (inf s) = Big
-decimalOf (fin s m e) = numberOf s (rounded floatRule (m * up e) (down e))
+unfoldable pub decimalOf : Float → Answer Whole
+decimalOf nan = noNumber
+decimalOf (inf s) = refused 14
+decimalOf (fin s m e) = amountOf s (rounded floatRule (m * up e) (down e))
 
 -- "Float to Decimal multiplies once by 10^scale", which is a scale of 0..18
-unfoldable pub toDecimal : Float → ℕ → Number
-toDecimal x scale = cond (ltb 18 scale) Bad (decimalOf (mul binary64 x (ofInt binary64 (pos (10 ^ scale)))))
+unfoldable pub toDecimal : Float → ℕ → Answer Whole
+toDecimal x scale = cond (ltb 18 scale) noNumber (decimalOf (mul binary64 x (ofInt binary64 (pos (10 ^ scale)))))
 
 -- the integer nearest to an f64, and 10^scale too, and the quotient
 abbrev pub ofDecimal : Bool → ℕ → ℕ → Float

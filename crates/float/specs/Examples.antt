@@ -4,15 +4,15 @@ use mathlib.Core.Bool.{true, false}
 use mathlib.Core.List.{[], _∷_}
 use lib.IntN.{negsuc}
 use lib.Ieee.{fin, binary64, ofBits, toBits, nanBits, ofInt, div, mul}
-use Rattle.value.specs.declared.Number.the-variants.{Of, Big}
-use Rattle.value.specs.declared.Scalar.the-variants.{Int, Decimal, FloatBits}
+use Rattle.value.specs.Answer.{refused, given}
+use Rattle.value.specs.Number.{some}
+use Rattle.value.specs.declared.Scalar.the-variants.{Int, FloatBits}
 use Rattle.value.specs.Rounding.{rounded, rescaled}
+use Rattle.value.specs.Scalar.{decimal}
 use Rattle.float.specs.Half.{half16, halfWord}
 use Rattle.float.specs.Single.{narrow, singleWord, cutWord}
 use Rattle.float.specs.Decimal.{decimalOf, toDecimal}
 use Rattle.binary.specs.Bytes.{wordIn, bytesOf}
-use Rattle.float.specs.declared.Parsed.the-variants.{Value, Bad as BadField}
-use Rattle.float.specs.declared.Floated.the-variants.{Word}
 use Rattle.float.specs.Convert.{floatedOf, decimalFor}
 use Rattle.float.specs.Field.{wordFor, patternFor, floatIn, floatBytes, exactIn}
 
@@ -68,33 +68,33 @@ unfolding narrow ofBits toBits
 single-least = refl
 
 -- 2.5 is 3, and -0.125 with two places is -13; -0.25 is 0, which has no sign; 10^18 is too big
-decimal-up : decimalOf (ofBits binary64 0x4004_0000_0000_0000) ≡ Of false 3
+decimal-up : decimalOf (ofBits binary64 0x4004_0000_0000_0000) ≡ some false 3
 unfolding decimalOf rounded ofBits
 decimal-up = refl
 
-decimal-down : toDecimal (ofBits binary64 0xbfc0_0000_0000_0000) 2 ≡ Of true 13
+decimal-down : toDecimal (ofBits binary64 0xbfc0_0000_0000_0000) 2 ≡ some true 13
 unfolding toDecimal decimalOf rounded ofBits mul ofInt
 decimal-down = refl
 
-decimal-none : toDecimal (ofBits binary64 0xbfd0_0000_0000_0000) 0 ≡ Of false 0
+decimal-none : toDecimal (ofBits binary64 0xbfd0_0000_0000_0000) 0 ≡ some false 0
 unfolding toDecimal decimalOf rounded ofBits mul ofInt
 decimal-none = refl
 
-decimal-big : toDecimal (ofBits binary64 0x3ff0_0000_0000_0000) 18 ≡ Big
+decimal-big : toDecimal (ofBits binary64 0x3ff0_0000_0000_0000) 18 ≡ refused 14
 unfolding toDecimal decimalOf rounded ofBits mul ofInt
 decimal-big = refl
 
 -- 125 of scale 2 to scale 1 is 12
-scale-cut : decimalFor (Decimal false 125 2) 1 ≡ Of false 12
+scale-cut : decimalFor (decimal false 125 2) 1 ≡ some false 12
 unfolding decimalFor rescaled rounded
 scale-cut = refl
 
 -- fields: a NaN of 16 bits, a half of the wrong width, 65520 at 16 bits little-endian, and -2 at 32 bits
-field-nan : floatIn 0 16 (0x7c ∷ 0x01 ∷ []) ≡ Value (FloatBits 0x7ff8_0000_0000_0000)
+field-nan : floatIn 0 16 (0x7c ∷ 0x01 ∷ []) ≡ given (FloatBits 0x7ff8_0000_0000_0000)
 unfolding floatIn wordFor wordIn halfWord toBits nanBits
 field-nan = refl
 
-field-short : floatIn 0 16 (0x01 ∷ []) ≡ BadField
+field-short : floatIn 0 16 (0x01 ∷ []) ≡ refused 8
 unfolding floatIn
 field-short = refl
 
@@ -120,10 +120,10 @@ unfolding exactIn narrow ofBits toBits halfWord
 exact-half = refl
 
 -- -1 of scale 1 as a float is -0.1, and 0 with a minus is 0
-float-of-tenth : floatedOf (Decimal true 1 1) ≡ Word 0xbfb9_9999_9999_999a
+float-of-tenth : floatedOf (decimal true 1 1) ≡ given 0xbfb9_9999_9999_999a
 unfolding floatedOf ofInt div toBits
 float-of-tenth = refl
 
-float-of-zero : floatedOf (Int true 0) ≡ Word 0
+float-of-zero : floatedOf (Int true 0) ≡ given 0
 unfolding floatedOf ofInt toBits
 float-of-zero = refl

@@ -6,6 +6,8 @@ use Prim.Native.Nat.{ℕ, _/_, _%_, _^_, _<_}
 use lib.Dec.{eqb, ltb}
 use lib.ListN.{length}
 use lib.Ieee.{binary32, nanBits}
+use Rattle.value.specs.declared.Scalar.{Scalar}
+use Rattle.value.specs.Answer.{Answer, refused, given}
 use Rattle.value.specs.Scalar.{floatOf}
 use Rattle.binary.specs.Bytes.{wordIn, bytesOf}
 use Rattle.float.specs.declared.Parsed.{Parsed}
@@ -25,8 +27,12 @@ unfoldable pub patternFor : ℕ → ℕ → ℕ
 patternFor bits w = cond (eqb bits 16) (cutWord w) (cond (eqb bits 32) (singleWord w) w)
 
 -- what a field's bytes are read as
-unfoldable pub floatIn : ℕ → ℕ → List ℕ → Parsed
-floatIn order bits s = cond (fieldOk bits (length s)) (Value (floatOf (wordFor bits (wordIn order s)))) Bad
+unfoldable pub floatIn : ℕ → ℕ → List ℕ → Answer Scalar
+floatIn order bits s = cond (fieldOk bits (length s)) (given (floatOf (wordFor bits (wordIn order s)))) (refused 8)
+
+abbrev pub parsedAs : Parsed → Answer Scalar
+parsedAs (Value v) = given v
+parsedAs Bad = refused 8
 
 -- the bytes that are written for an f64's word
 unfoldable pub floatBytes : ℕ → ℕ → ℕ → ℕ → List ℕ

@@ -1,6 +1,6 @@
 // Floating-point fields: binary16, binary32 and binary64 read and written, and floats as decimals.
 
-use value::Number;
+use value::Amount;
 use value::Scalar;
 ghost use mathlib.Core.Path.{_≡_};
 ghost use Prim.Native.Nat.{_+_, _-_, _*_, _/_, _%_, _^_, _<_};
@@ -12,13 +12,14 @@ ghost use lib.Ieee.{binary32, binary64};
 ghost use lib.Ieee.Exact.{HasValue};
 ghost use lib.Ieee.Nearest.{closest};
 ghost use Rattle.value.specs.Digits.{capped, signedOf};
+ghost use Rattle.value.specs.Answer.{refused, given};
+ghost use Rattle.value.specs.Number.{amountAs};
 ghost use Rattle.value.specs.Rounding.{rounded, floatRule};
-ghost use Rattle.float.specs.declared.Floated.the-variants.{Word, Refused};
 ghost use Rattle.float.specs.Half.{sig, halfWord};
 ghost use Rattle.float.specs.Single.{singleWord, singleSize, wideWord, cutSize, cutWord};
 ghost use Rattle.float.specs.Decimal.{toDecimal, ofDecimal};
-ghost use Rattle.float.specs.Convert.{floatedOf, decimalFor};
-ghost use Rattle.float.specs.Field.{fieldOk, wordFor, patternFor, floatIn, floatBytes, plainHalf, exactIn};
+ghost use Rattle.float.specs.Convert.{floatedOf, floatedAs, decimalFor};
+ghost use Rattle.float.specs.Field.{fieldOk, wordFor, patternFor, floatIn, parsedAs, floatBytes, plainHalf, exactIn};
 ghost use lib.ListN.{length};
 
 // The f64 word of a value, where it has one.
@@ -286,23 +287,23 @@ fn whole_size(x: u64, t: u64) -> u64
 }
 
 // x * 10^scale as a whole number.
-fn to_decimal(x: f64, scale: u64) -> Number
-    ensures { λ r. ⌜ r ≡ toDecimal x scale ⌝ }
+fn to_decimal(x: f64, scale: u64) -> Amount
+    ensures { λ r. ⌜ amountAs r ≡ toDecimal x scale ⌝ }
 {
     if scale > 18 {
-        return Number::Bad;
+        return Amount::Bad;
     }
     let y = x * ten(scale);
     if y != y {
-        return Number::Bad;
+        return Amount::Bad;
     }
     let b = f64::to_bits(y);
     let e = b % 0x8000_0000_0000_0000 / 0x10_0000_0000_0000;
     let t = b % 0x10_0000_0000_0000;
     if e == 2047 {
-        return Number::Big;
+        return Amount::Big;
     }
-    value::number_of(value::is_minus(b), whole_size(e, t))
+    value::amount_of(value::is_minus(b), whole_size(e, t))
 }
 
 // The f64 nearest to a sign and a size; 0 has no sign.
@@ -331,7 +332,7 @@ fn of_decimal(negative: bool, size: u64, scale: u64) -> f64
 
 // The f64 word that a scalar gives a Float field.
 pub fn as_f64(v: Scalar) -> Floated
-    ensures { λ r. ⌜ r ≡ floatedOf v ⌝ }
+    ensures { λ r. ⌜ floatedAs r ≡ floatedOf v ⌝ }
 {
     match v {
         Scalar::Null => Floated::Word(0),
@@ -348,7 +349,7 @@ pub fn as_f64(v: Scalar) -> Floated
 }
 
 fn decimal_word(negative: bool, size: u64, scale: u64) -> Floated
-    ensures { λ r. ⌜ r ≡ cond (ltb 18 scale) Refused (Word (Ieee.toBits binary64 (ofDecimal negative size scale))) ⌝ }
+    ensures { λ r. ⌜ floatedAs r ≡ cond (ltb 18 scale) (refused 13) (given (Ieee.toBits binary64 (ofDecimal negative size scale))) ⌝ }
 {
     if scale > 18 {
         return Floated::Refused;
@@ -357,17 +358,17 @@ fn decimal_word(negative: bool, size: u64, scale: u64) -> Floated
 }
 
 // The number that a scalar gives a Decimal field of a scale.
-pub fn as_decimal(v: Scalar, scale: u64) -> Number
-    ensures { λ r. ⌜ r ≡ decimalFor v scale ⌝ }
+pub fn as_decimal(v: Scalar, scale: u64) -> Amount
+    ensures { λ r. ⌜ amountAs r ≡ decimalFor v scale ⌝ }
 {
     match v {
-        Scalar::Null => Number::Of(false, 0),
-        Scalar::Text(_, _) => Number::Bad,
+        Scalar::Null => Amount::Of(false, 0),
+        Scalar::Text(_, _) => Amount::Bad,
         Scalar::Int(negative, size) => value::rescale(negative, size, 0, scale),
         Scalar::Decimal(negative, size, from) => value::rescale(negative, size, from, scale),
         Scalar::Float(x) => to_decimal(x, scale),
-        Scalar::FloatBits(_) => Number::Bad,
-        Scalar::Bool(_) => Number::Bad,
+        Scalar::FloatBits(_) => Amount::Bad,
+        Scalar::Bool(_) => Amount::Bad,
     }
 }
 
@@ -408,7 +409,7 @@ fn pattern_for(bits: u32, w: u64) -> u64
 
 // The value of a Float field.
 pub fn parse_float(part: &[u8], bits: u32, order: u32) -> Parsed
-    ensures { λ r. ⌜ r ≡ floatIn order bits (now (part .entry)) ⌝ }
+    ensures { λ r. ⌜ parsedAs r ≡ floatIn order bits (now (part .entry)) ⌝ }
 {
     if field_ok(bits, part.len()) {
         let v = binary::read_word(part, order);

@@ -10,8 +10,8 @@ use lib.ListN.{length, take, drop, getD, length-drop, drop-of-length-le, List·g
 use lib.Seq.{drop-drop, getD-drop}
 use borrow.Author.Tests.{ltb-true, ltb-false}
 use Rattle.lists.specs.Scan.{beforeBy}
-use Rattle.lines.specs.declared.Found.the-variants.{At, Unlawful}
-use Rattle.lines.specs.Lines.{isEnd, lineFrom, endsIn, startsWith, valueAt}
+use Rattle.value.specs.Answer.{refused, given}
+use Rattle.lines.specs.Lines.{place, isEnd, lineFrom, endsIn, startsWith, valueAt}
 use Rattle.lines.proofs.Inside.{value-inside, Inside}
 use Rattle.lines.proofs.Laws.{starts-long}
 use Rattle.layout_text.specs.declared.Part.{Part}
@@ -79,12 +79,12 @@ record Shape (word text : List ℕ) (at e : ℕ) : Type 0 where
   starts : startsWith word (lineFrom text at) ≡ true
   end : e ≡ at + length (lineFrom text at)
 
-shape : (word text : List ℕ) (at a e n : ℕ) → At a e n ≡ valueAt word text at → Shape word text at e
+shape : (word text : List ℕ) (at a e n : ℕ) → given (place a e n) ≡ valueAt word text at → Shape word text at e
 unfolding valueAt
 shape word text at a e n h = by (endsIn text at) (startsWith word (lineFrom text at)) refl refl h
   where
     by : (p q : Bool) → endsIn text at ≡ p → startsWith word (lineFrom text at) ≡ q
-        → At a e n ≡ cond (p && q) (At (at + length word) (at + length (lineFrom text at)) (at + length (lineFrom text at) + 1)) Unlawful → Shape word text at e
+        → given (place a e n) ≡ cond (p && q) (given (place (at + length word) (at + length (lineFrom text at)) (at + length (lineFrom text at) + 1))) (refused 17) → Shape word text at e
     by true true p q r = record { ends = p; starts = q; end = cc }
     by true false p q r = let z : _≡_ {A = ℕ} 0 1 = cc in absurd (omega arith)
     by false q p s r = let z : _≡_ {A = ℕ} 0 1 = cc in absurd (omega arith)
@@ -108,7 +108,7 @@ long : (l : List (List ℕ)) (i : ℕ) (x : List ℕ) (rest : List (List ℕ)) �
 long l i x rest e = let q : length (drop i l) ≡ length l - i = length-drop i l in omega (arith, ap length e)
 
 module _ (word text : List ℕ) (i at : ℕ) (h : Here text i at) where
-  pub line-found : (a e n : ℕ) → At a e n ≡ valueAt word text at → Lined word text i at (record { start = a; end = e; next = n })
+  pub line-found : (a e n : ℕ) → given (place a e n) ≡ valueAt word text at → Lined word text i at (record { start = a; end = e; next = n })
   line-found a e n f =
       let s : Shape word text at e = shape word text at a e n f in
       let v : Inside word text at a e n = value-inside word text at a e n f in
@@ -150,12 +150,12 @@ missing-open text i [] e s h w ws =
     rw (List·getD-eq-default (linesOf text) [] {n = i} (omega arith)) (and-false (ended text))
 missing-open text i (x ∷ r) e s h w ws = rw (s ∙ not-ended x r h) refl
 
-pub line-missing : (w : ℕ) (ws text : List ℕ) (i at : ℕ) → Here text i at → Unlawful ≡ valueAt (w ∷ ws) text at → (ended text && startsWith (w ∷ ws) (getD (linesOf text) i [])) ≡ false
+pub line-missing : (w : ℕ) (ws text : List ℕ) (i at : ℕ) → Here text i at → (question : ℕ) → refused question ≡ valueAt (w ∷ ws) text at → (ended text && startsWith (w ∷ ws) (getD (linesOf text) i [])) ≡ false
 unfolding valueAt
-line-missing w ws text i at h f = by (endsIn text at) (startsWith (w ∷ ws) (lineFrom text at)) refl refl f
+line-missing w ws text i at h question f = by (endsIn text at) (startsWith (w ∷ ws) (lineFrom text at)) refl refl f
   where
     by : (p q : Bool) → endsIn text at ≡ p → startsWith (w ∷ ws) (lineFrom text at) ≡ q
-        → Unlawful ≡ cond (p && q) (At (at + length (w ∷ ws)) (at + length (lineFrom text at)) (at + length (lineFrom text at) + 1)) Unlawful
+        → refused question ≡ cond (p && q) (given (place (at + length (w ∷ ws)) (at + length (lineFrom text at)) (at + length (lineFrom text at) + 1))) (refused 17)
         → (ended text && startsWith (w ∷ ws) (getD (linesOf text) i [])) ≡ false
     by true true p q r = let z : _≡_ {A = ℕ} 0 1 = cc in absurd (omega arith)
     by true false p q r =

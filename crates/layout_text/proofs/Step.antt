@@ -10,9 +10,8 @@ use lib.Dec.{eqb}
 use lib.ListN.{length, take, drop, getD, length-drop}
 use lib.Seq.{length-take-le}
 use borrow.Author.Tests.{eqb-true, eqb-false}
-use Rattle.lines.specs.declared.Found.{Found}
-use Rattle.lines.specs.declared.Found.the-variants.{At, Unlawful}
-use Rattle.lines.specs.Lines.{startsWith, valueAt}
+use Rattle.value.specs.Answer.{Answer, refused, given}
+use Rattle.lines.specs.Lines.{Place, place, startsWith, valueAt}
 use Rattle.layout_text.specs.declared.Part.{Part}
 use Rattle.layout_text.specs.Form.{linesOf, ended, says}
 use Rattle.layout_text.specs.Walk.{Here, failed, partOf, lineAt, bytesOf}
@@ -29,10 +28,10 @@ pub part-step : (w : ℕ) (ws text : List ℕ) (i at : ℕ) (p : Part) → p ≡
     → ((p ≡ failed) × ((ended text && startsWith (w ∷ ws) (getD (linesOf text) i [])) ≡ false)) ⊎ Lined (w ∷ ws) text i at p
 part-step w ws text i at p e h = go (valueAt (w ∷ ws) text at) refl e
   where
-    go : (f : Found) → f ≡ valueAt (w ∷ ws) text at → p ≡ partOf f
+    go : (f : Answer Place) → f ≡ valueAt (w ∷ ws) text at → p ≡ partOf f
         → ((p ≡ failed) × ((ended text && startsWith (w ∷ ws) (getD (linesOf text) i [])) ≡ false)) ⊎ Lined (w ∷ ws) text i at p
-    go (At a x n) f q = inr (subst (λ (r : Part). Lined (w ∷ ws) text i at r) (sym q) (line-found (w ∷ ws) text i at h a x n f))
-    go Unlawful f q = inl (q, line-missing w ws text i at h f)
+    go (given (place a x n)) f q = inr (subst (λ (r : Part). Lined (w ∷ ws) text i at r) (sym q) (line-found (w ∷ ws) text i at h a x n f))
+    go (refused question) f q = inl (q, line-missing w ws text i at h question f)
 
 and-first : (a s t r : Bool) → (a && s) ≡ false → (a && ((s && t) && r)) ≡ false
 and-first true true t r e = absurd (false≢true (sym e))

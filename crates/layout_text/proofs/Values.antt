@@ -14,11 +14,8 @@ use Rattle.lists.proofs.Scan.{every-head}
 use Rattle.value.specs.Digits.{valueFrom, isDigit, digitIn}
 use Rattle.spans.proofs.Tree.{and-left, and-right}
 use Rattle.layout.specs.Layout.{absent}
-use Rattle.lines.specs.declared.Found.{Found}
-use Rattle.lines.specs.declared.Found.the-variants.{At, Unlawful}
-use Rattle.lines.specs.declared.Parsed.{Parsed}
-use Rattle.lines.specs.declared.Parsed.the-variants.{Value, Bad}
-use Rattle.lines.specs.Lines.{valueAt, leads, bound, numberOf, inName, nameOk, maskOk}
+use Rattle.value.specs.Answer.{Answer, refused, given}
+use Rattle.lines.specs.Lines.{Place, place, valueAt, leads, bound, numberOf, inName, nameOk, maskOk}
 use Rattle.lines.proofs.Inside.{value-inside, Inside}
 use Rattle.layout_text.specs.declared.Part.{Part}
 use Rattle.layout_text.specs.Form.{isNone, isValue, worth, isNumber, optional, maskFor}
@@ -26,11 +23,11 @@ use Rattle.layout_text.specs.Walk.{failed, partOf, lineAt, bytesOf, With
 
 -- ---- a part lies in its text
 
-within-of : (word text : List ℕ) (at : ℕ) (f : Found) → f ≡ valueAt word text at → Within text (partOf f)
-within-of word text at (At a e n) q =
+within-of : (word text : List ℕ) (at : ℕ) (f : Answer Place) → f ≡ valueAt word text at → Within text (partOf f)
+within-of word text at (given (place a e n)) q =
     let v : Inside word text at a e n = value-inside word text at a e n q in
     (v .order, omega (arith, v .inside))
-within-of word text at Unlawful q = (omega arith, omega arith)
+within-of word text at (refused question) q = (omega arith, omega arith)
 
 pub found-within : (word text : List ℕ) (at : ℕ) (p : Part) → p ≡ partOf (valueAt word text at) → Within text p
 found-within word text at p e = subst (λ (r : Part). Within text r) (sym e) (within-of word text at (valueAt word text at) refl)
@@ -58,16 +55,16 @@ pub record Asks (test : Bool) (p : Part) (n : ℕ) : Type 0 where
 pub number-asks : (text : List ℕ) (p : Part) → Asks (isNumber (bytesOf text p)) p (numberIn text p .next)
 number-asks text p = by (numberOf (bytesOf text p))
   where
-    by : (r : Parsed) → Asks (isValue r) p (numberWith r (p .next) .next)
-    by (Value v) = record { none = λ z. z; pass = λ t. refl; fail = λ f. absurd (false≢true (sym f)) }
-    by Bad = record { none = λ z. refl; pass = λ t. absurd (false≢true t); fail = λ f. refl }
+    by : (r : Answer ℕ) → Asks (isValue r) p (numberWith r (p .next) .next)
+    by (given v) = record { none = λ z. z; pass = λ t. refl; fail = λ f. absurd (false≢true (sym f)) }
+    by (refused question) = record { none = λ z. refl; pass = λ t. absurd (false≢true t); fail = λ f. refl }
 
 pub number-worth : (text : List ℕ) (p : Part) → numberIn text p .value ≡ worth (numberOf (bytesOf text p))
 number-worth text p = by (numberOf (bytesOf text p))
   where
-    by : (r : Parsed) → numberWith r (p .next) .value ≡ worth r
-    by (Value v) = refl
-    by Bad = refl
+    by : (r : Answer ℕ) → numberWith r (p .next) .value ≡ worth r
+    by (given v) = refl
+    by (refused question) = refl
 
 pick-asks : (t : Bool) (p : Part) → Asks t p (cond t p failed .next)
 pick-asks true p = record { none = λ z. z; pass = λ t. refl; fail = λ f. absurd (false≢true (sym f)) }
@@ -179,7 +176,7 @@ pub number-short : (s : List ℕ) → isNumber s ≡ true → length s ≤ 10
 unfolding numberOf
 number-short s e = by (leads s && (everyBy isDigit s && ltb (valueFrom 0 (map digitIn s)) bound)) refl e
   where
-    by : (t : Bool) → (leads s && (everyBy isDigit s && ltb (valueFrom 0 (map digitIn s)) bound)) ≡ t → isValue (cond t (Value (valueFrom 0 (map digitIn s))) Bad) ≡ true → length s ≤ 10
+    by : (t : Bool) → (leads s && (everyBy isDigit s && ltb (valueFrom 0 (map digitIn s)) bound)) ≡ t → isValue (cond t (given (valueFrom 0 (map digitIn s))) (refused 17)) ≡ true → length s ≤ 10
     by false q r = absurd (false≢true r)
     by true q r = go s (and-left (leads s) (everyBy isDigit s && ltb (valueFrom 0 (map digitIn s)) bound) q) (and-right (leads s) (everyBy isDigit s && ltb (valueFrom 0 (map digitIn s)) bound) q)
       where

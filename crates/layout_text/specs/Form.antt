@@ -5,8 +5,7 @@ use Prim.Native.Nat.{ℕ, suc, _+_, _*_, _/_, _%_}
 use lib.Dec.{eqb}
 use lib.ListN.{length, take, drop, getD}
 use Rattle.layout.specs.Layout.{allBelow}
-use Rattle.lines.specs.declared.Parsed.{Parsed}
-use Rattle.lines.specs.declared.Parsed.the-variants.{Value, Bad}
+use Rattle.value.specs.Answer.{Answer, refused, given}
 use Rattle.lines.specs.Lines.{isEnd, startsWith, numberOf, nameOk, maskOk}
 
 -- a byte before a run of lines: the first byte of the first line
@@ -89,13 +88,13 @@ abbrev pub isNone : List ℕ → Bool
 isNone [] = true
 isNone (x ∷ s) = false
 
-abbrev pub isValue : Parsed → Bool
-isValue (Value v) = true
-isValue Bad = false
+abbrev pub isValue : Answer ℕ → Bool
+isValue (given v) = true
+isValue (refused question) = false
 
-abbrev pub worth : Parsed → ℕ
-worth (Value v) = v
-worth Bad = 0
+abbrev pub worth : Answer ℕ → ℕ
+worth (given v) = v
+worth (refused question) = 0
 
 abbrev pub isNumber : List ℕ → Bool
 isNumber s = isValue (numberOf s)

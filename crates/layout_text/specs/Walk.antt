@@ -8,11 +8,8 @@ use lib.ListN.{length, take, drop, getD}
 use Rattle.spans.specs.Tree.{tree, nested}
 use Rattle.layout.specs.declared.Entry.{Entry}
 use Rattle.layout.specs.Layout.{absent, allBelow, entryOk}
-use Rattle.lines.specs.declared.Found.{Found}
-use Rattle.lines.specs.declared.Found.the-variants.{At, Unlawful}
-use Rattle.lines.specs.declared.Parsed.{Parsed}
-use Rattle.lines.specs.declared.Parsed.the-variants.{Value, Bad}
-use Rattle.lines.specs.Lines.{lineFrom, valueAt, numberOf, nameOk, maskOk}
+use Rattle.value.specs.Answer.{Answer, refused, given}
+use Rattle.lines.specs.Lines.{Place, place, lineFrom, valueAt, numberOf, nameOk, maskOk}
 use Rattle.layout_text.specs.declared.Part.{Part}
 use Rattle.layout_text.specs.declared.Number.{Number}
 use Rattle.layout_text.specs.declared.Said.{Said}
@@ -36,9 +33,9 @@ pub record Here (text : List ℕ) (i at : ℕ) : Type 0 where
 abbrev pub failed : Part
 failed = record { start = 0; end = 0; next = 0 }
 
-abbrev pub partOf : Found → Part
-partOf (At a e n) = record { start = a; end = e; next = n }
-partOf Unlawful = failed
+abbrev pub partOf : Answer Place → Part
+partOf (given (place a e n)) = record { start = a; end = e; next = n }
+partOf (refused question) = failed
 
 unfoldable pub lineAt : List ℕ → List ℕ → ℕ → Part
 lineAt word text at = cond (eqb at 0) failed (partOf (valueAt word text at))
@@ -49,9 +46,9 @@ bytesOf text p = take (p .end - p .start) (drop (p .start) text)
 abbrev pub Within : List ℕ → Part → Type 0
 Within text p = (p .start ≤ p .end) × (p .end ≤ length text)
 
-abbrev pub numberWith : Parsed → ℕ → Number
-numberWith (Value v) next = record { value = v; next = next }
-numberWith Bad next = record { value = 0; next = 0 }
+abbrev pub numberWith : Answer ℕ → ℕ → Number
+numberWith (given v) next = record { value = v; next = next }
+numberWith (refused question) next = record { value = 0; next = 0 }
 
 abbrev pub numberIn : List ℕ → Part → Number
 numberIn text p = numberWith (numberOf (bytesOf text p)) (p .next)

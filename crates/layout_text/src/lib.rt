@@ -19,7 +19,7 @@ ghost use lib.ListN.{length, getD, take, drop, set, replicate};
 ghost use Rattle.layout.specs.Layout.{absent};
 ghost use denote.Ref.{ptr};
 ghost use Rattle.lists.specs.Part.{placeIn};
-ghost use Rattle.lines.specs.Lines.{lineFrom, startIn};
+ghost use Rattle.lines.specs.Lines.{lineFrom, startIn, foundAs, parsedAs};
 ghost use Rattle.lines.specs.Names.{indexIn, see, distinct, namesAt};
 ghost use Rattle.layout_text.specs.Form.{linesOf, countOf, lawful};
 ghost use Rattle.layout_text.specs.Reading.{namesOf, masksOf, scaleOf, precisionOf, maskWordOf, twelve, wordsOf};
@@ -43,7 +43,7 @@ pub struct Number {
 }
 
 fn part_of(found: Found) -> Part
-    ensures { λ r. ⌜ r ≡ partOf found ⌝ }
+    ensures { λ r. ⌜ r ≡ partOf (foundAs found) ⌝ }
 {
     match found {
         Found::At(a, e, n) => Part {
@@ -75,7 +75,7 @@ fn line_at(text: &[u8], at: usize, word: &[u8]) -> Part
 }
 
 fn number_with(n: Parsed, next: usize) -> Number
-    ensures { λ r. ⌜ r ≡ numberWith n next ⌝ }
+    ensures { λ r. ⌜ r ≡ numberWith (parsedAs n) next ⌝ }
 {
     match n {
         Parsed::Value(v) => Number {

@@ -5,7 +5,7 @@ ghost use mathlib.Core.Path.{_≡_};
 ghost use lib.ListN.{length};
 ghost use Rattle.ebcdic.specs.Ebcdic.{toAscii, toEbcdic};
 ghost use Rattle.value.specs.Scalar.{scalarOf};
-ghost use Rattle.decode_scalar.specs.Decode.{says, answerOf, textAfter};
+ghost use Rattle.decode_scalar.specs.Decode.{says, answerOf, decodedAs, textAfter};
 ghost use Rattle.encode_scalar.specs.Encode.{judgedOf, bytesOf, partAfter};
 ghost use Rattle.leaves.specs.Leaves.{numberIn, itemIn};
 
@@ -25,8 +25,8 @@ pub extern "C" fn leaf_to_ebcdic(b: u8) -> u8
 
 // The answer as a number, and its item, named 0, at the front of the words; 16 where they have no room for it.
 fn put_answer(d: Decoded, item: &mut [u64]) -> u32
-    ensures { λ n. ⌜ n ≡ numberIn d (length (now (item .entry))) ⌝ }
-    ensures { λ _. ⌜ now (item .exit) ≡ itemIn d (now (item .entry)) ⌝ }
+    ensures { λ n. ⌜ n ≡ numberIn (decodedAs d) (length (now (item .entry))) ⌝ }
+    ensures { λ _. ⌜ now (item .exit) ≡ itemIn (decodedAs d) (now (item .entry)) ⌝ }
 {
     match d {
         Decoded::Value(v) => {

@@ -9,8 +9,8 @@ use lib.ListN.{length, take, drop, length-drop}
 use lib.Seq.{drop-drop}
 use borrow.Author.Tests.{ltb-true}
 use Rattle.lists.specs.Scan.{beforeBy, everyBy}
-use Rattle.lines.specs.Lines.{isEnd, lineFrom, endsIn, startsWith, valueAt}
-use Rattle.lines.specs.declared.Found.the-variants.{At, Unlawful}
+use Rattle.lines.specs.Lines.{place, isEnd, lineFrom, endsIn, startsWith, valueAt}
+use Rattle.value.specs.Answer.{refused, given}
 use Rattle.lines.proofs.Laws.{starts-long}
 
 before-take : (f : ℕ → Bool) (s : List ℕ) → take (length (beforeBy f s)) s ≡ beforeBy f s
@@ -59,12 +59,12 @@ found word text at p q =
           ∙ ap (drop w) (before-take isEnd (drop at text));
     }
 
-pub value-inside : (word text : List ℕ) (at a e n : ℕ) → At a e n ≡ valueAt word text at → Inside word text at a e n
+pub value-inside : (word text : List ℕ) (at a e n : ℕ) → given (place a e n) ≡ valueAt word text at → Inside word text at a e n
 unfolding valueAt
 value-inside word text at a e n h = by (endsIn text at) (startsWith word (lineFrom text at)) refl refl h
   where
     by : (p q : Bool) → endsIn text at ≡ p → startsWith word (lineFrom text at) ≡ q
-        → At a e n ≡ cond (p && q) (At (at + length word) (at + length (lineFrom text at)) (at + length (lineFrom text at) + 1)) Unlawful → Inside word text at a e n
+        → given (place a e n) ≡ cond (p && q) (given (place (at + length word) (at + length (lineFrom text at)) (at + length (lineFrom text at) + 1))) (refused 17) → Inside word text at a e n
     by true true p q r =
         let x : at + length word ≡ a = cc in
         let y : at + length (lineFrom text at) ≡ e = cc in

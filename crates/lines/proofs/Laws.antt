@@ -13,10 +13,8 @@ use borrow.Author.Tests.{eq-eqb, ne-eqb, lt-ltb, le-ltb, le-leb, lt-leb, leb-tru
 use Rattle.lists.specs.Scan.{beforeBy, everyBy}
 use Rattle.lists.proofs.Scan.{tail-part}
 use Rattle.value.specs.Digits.{valueFrom, isDigit, digitIn}
-use Rattle.lines.specs.Lines.{isEnd, lineFrom, startIn, startsWith, valueAt, leads, bound, numberOf}
-use Rattle.lines.specs.declared.Found.the-variants.{At, Unlawful}
-use Rattle.lines.specs.declared.Parsed.{Parsed}
-use Rattle.lines.specs.declared.Parsed.the-variants.{Value, Bad}
+use Rattle.lines.specs.Lines.{place, isEnd, lineFrom, startIn, startsWith, valueAt, leads, bound, numberOf}
+use Rattle.value.specs.Answer.{Answer, refused, given}
 
 pub and-false : (b : Bool) → (b && false) ≡ false
 and-false true = refl
@@ -69,19 +67,19 @@ module _ (text : List ℕ) (at n : ℕ) where
       line-long : length (lineFrom text at) ≡ n
       line-long = sym (ap length line-is) ∙ ap (λ (k : ℕ). length (take k rest)) (sub-zero n) ∙ length-take-le n rest inside
 
-      pub line-open : length rest ≤ n → Unlawful ≡ valueAt word text at
+      pub line-open : length rest ≤ n → refused 17 ≡ valueAt word text at
       unfolding valueAt
       line-open h = rw (line-long, le-ltb n (length (drop at text)) (subst (λ (l : List ℕ). length l ≤ n) (tail-part text at) h))
 
-      pub line-other : n < length rest → startsWith word line ≡ false → Unlawful ≡ valueAt word text at
+      pub line-other : n < length rest → startsWith word line ≡ false → refused 17 ≡ valueAt word text at
       unfolding valueAt
       line-other h e = rw (line-long, lt-ltb n (length (drop at text)) (subst (λ (l : List ℕ). n < length l) (tail-part text at) h), sym (ap (startsWith word) line-is) ∙ e)
 
-      pub line-found : n < length rest → startsWith word line ≡ true → At (at + length word) (at + n) (at + n + 1) ≡ valueAt word text at
+      pub line-found : n < length rest → startsWith word line ≡ true → given (place (at + length word) (at + n) (at + n + 1)) ≡ valueAt word text at
       unfolding valueAt
       line-found h e = rw (line-long, lt-ltb n (length (drop at text)) (subst (λ (l : List ℕ). n < length l) (tail-part text at) h), sym (ap (startsWith word) line-is) ∙ e)
 
-pub line-past : (word text : List ℕ) (at : ℕ) → length text < at → Unlawful ≡ valueAt word text at
+pub line-past : (word text : List ℕ) (at : ℕ) → length text < at → refused 17 ≡ valueAt word text at
 unfolding valueAt beforeBy
 line-past word text at h = rw (drop-of-length-le text (le-of-lt h))
 
@@ -112,14 +110,14 @@ leads-more (x ∷ []) h k = absurd (k refl)
 leads-more (x ∷ y ∷ s) h k = refl
 
 -- what the bytes make of a number that is read already
-abbrev pub numberFrom : ℕ → List ℕ → Parsed
-numberFrom v s = cond (everyBy isDigit s && ltb (valueFrom v (map digitIn s)) bound) (Value (valueFrom v (map digitIn s))) Bad
+abbrev pub numberFrom : ℕ → List ℕ → Answer ℕ
+numberFrom v s = cond (everyBy isDigit s && ltb (valueFrom v (map digitIn s)) bound) (given (valueFrom v (map digitIn s))) (refused 17)
 
 pub number-start : (s : List ℕ) → leads s ≡ true → numberOf s ≡ numberFrom 0 s
 unfolding numberOf
 number-start s e = rw e
 
-pub number-lead : (s : List ℕ) → leads s ≡ false → Bad ≡ numberOf s
+pub number-lead : (s : List ℕ) → leads s ≡ false → refused 17 ≡ numberOf s
 unfolding numberOf
 number-lead s e = rw e
 
@@ -127,7 +125,7 @@ grows : (v : ℕ) (s : List ℕ) → v ≤ valueFrom v (map digitIn s)
 grows v [] = le-refl v
 grows v (x ∷ s) = le-trans {m = v * 10 + digitIn x} (omega arith) (grows (v * 10 + digitIn x) s)
 
-over : (v : ℕ) (s : List ℕ) → bound ≤ v → numberFrom v s ≡ Bad
+over : (v : ℕ) (s : List ℕ) → bound ≤ v → numberFrom v s ≡ refused 17
 over v s h = rw (le-ltb (valueFrom v (map digitIn s)) bound (le-trans h (grows v s)), and-false (everyBy isDigit s))
 
 module _ (s : List ℕ) (i v : ℕ) (h : i < length s) where
@@ -135,14 +133,14 @@ module _ (s : List ℕ) (i v : ℕ) (h : i < length s) where
   unfolding everyBy
   number-go e = rw (add-one, drop-cons s i 0, e)
 
-  pub number-stop : isDigit (getD s i 0) ≡ false → numberFrom v (drop i s) ≡ Bad
+  pub number-stop : isDigit (getD s i 0) ≡ false → numberFrom v (drop i s) ≡ refused 17
   unfolding everyBy
   number-stop e = rw (drop-cons s i 0, e)
 
-  pub number-over : isDigit (getD s i 0) ≡ true → bound ≤ v * 10 + (getD s i 0 - 48) → numberFrom v (drop i s) ≡ Bad
+  pub number-over : isDigit (getD s i 0) ≡ true → bound ≤ v * 10 + (getD s i 0 - 48) → numberFrom v (drop i s) ≡ refused 17
   number-over e c = number-go e ∙ over (v * 10 + (getD s i 0 - 48)) (drop (i + 1) s) c
 
-pub number-end : (s : List ℕ) (i v : ℕ) → length s ≤ i → v < bound → numberFrom v (drop i s) ≡ Value v
+pub number-end : (s : List ℕ) (i v : ℕ) → length s ≤ i → v < bound → numberFrom v (drop i s) ≡ given v
 unfolding everyBy
 number-end s i v h k = rw (drop-of-length-le s h, lt-ltb v bound k)
 

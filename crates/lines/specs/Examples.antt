@@ -3,60 +3,59 @@ use mathlib.Core.Path.{_≡_, refl}
 use mathlib.Core.List.{[], _∷_}
 use mathlib.Core.Bool.{true, false}
 use Rattle.lists.specs.Scan.{beforeBy, everyBy}
-use Rattle.lines.specs.declared.Found.the-variants.{At, Unlawful}
-use Rattle.lines.specs.declared.Parsed.the-variants.{Value, Bad}
-use Rattle.lines.specs.Lines.{startsWith, valueAt, numberOf, nameOk, maskOk}
+use Rattle.value.specs.Answer.{refused, given}
+use Rattle.lines.specs.Lines.{place, startsWith, valueAt, numberOf, nameOk, maskOk}
 use Rattle.lines.specs.Names.{equal, sameName, indexIn, numberIn}
 
 -- `p=12` and 0x0A, at 0; without 0x0A; another word; past the end
-value-found : valueAt (0x70 ∷ 0x3D ∷ []) (0x70 ∷ 0x3D ∷ 0x31 ∷ 0x32 ∷ 0x0A ∷ 0x71 ∷ []) 0 ≡ At 2 4 5
+value-found : valueAt (0x70 ∷ 0x3D ∷ []) (0x70 ∷ 0x3D ∷ 0x31 ∷ 0x32 ∷ 0x0A ∷ 0x71 ∷ []) 0 ≡ given (place 2 4 5)
 unfolding valueAt startsWith beforeBy
 value-found = refl
 
-value-open : valueAt (0x70 ∷ 0x3D ∷ []) (0x70 ∷ 0x3D ∷ 0x31 ∷ 0x32 ∷ []) 0 ≡ Unlawful
+value-open : valueAt (0x70 ∷ 0x3D ∷ []) (0x70 ∷ 0x3D ∷ 0x31 ∷ 0x32 ∷ []) 0 ≡ refused 17
 unfolding valueAt startsWith beforeBy
 value-open = refl
 
-value-other : valueAt (0x71 ∷ 0x3D ∷ []) (0x70 ∷ 0x3D ∷ 0x31 ∷ 0x0A ∷ []) 0 ≡ Unlawful
+value-other : valueAt (0x71 ∷ 0x3D ∷ []) (0x70 ∷ 0x3D ∷ 0x31 ∷ 0x0A ∷ []) 0 ≡ refused 17
 unfolding valueAt startsWith beforeBy
 value-other = refl
 
-value-past : valueAt (0x70 ∷ 0x3D ∷ []) (0x70 ∷ 0x3D ∷ 0x0A ∷ []) 9 ≡ Unlawful
+value-past : valueAt (0x70 ∷ 0x3D ∷ []) (0x70 ∷ 0x3D ∷ 0x0A ∷ []) 9 ≡ refused 17
 unfolding valueAt startsWith beforeBy
 value-past = refl
 
 -- an empty value
-value-empty : valueAt (0x70 ∷ 0x3D ∷ []) (0x0A ∷ 0x70 ∷ 0x3D ∷ 0x0A ∷ []) 1 ≡ At 3 3 4
+value-empty : valueAt (0x70 ∷ 0x3D ∷ []) (0x0A ∷ 0x70 ∷ 0x3D ∷ 0x0A ∷ []) 1 ≡ given (place 3 3 4)
 unfolding valueAt startsWith beforeBy
 value-empty = refl
 
 -- `0`, `10`, `01`, nothing, `1x`
-number-zero : numberOf (0x30 ∷ []) ≡ Value 0
+number-zero : numberOf (0x30 ∷ []) ≡ given 0
 unfolding numberOf everyBy
 number-zero = refl
 
-number-ten : numberOf (0x31 ∷ 0x30 ∷ []) ≡ Value 10
+number-ten : numberOf (0x31 ∷ 0x30 ∷ []) ≡ given 10
 unfolding numberOf everyBy
 number-ten = refl
 
-leading-zero : numberOf (0x30 ∷ 0x31 ∷ []) ≡ Bad
+leading-zero : numberOf (0x30 ∷ 0x31 ∷ []) ≡ refused 17
 unfolding numberOf everyBy
 leading-zero = refl
 
-number-empty : numberOf [] ≡ Bad
+number-empty : numberOf [] ≡ refused 17
 unfolding numberOf everyBy
 number-empty = refl
 
-no-digit : numberOf (0x31 ∷ 0x78 ∷ []) ≡ Bad
+no-digit : numberOf (0x31 ∷ 0x78 ∷ []) ≡ refused 17
 unfolding numberOf everyBy
 no-digit = refl
 
 -- 4294967294 and 4294967295
-greatest : numberOf (0x34 ∷ 0x32 ∷ 0x39 ∷ 0x34 ∷ 0x39 ∷ 0x36 ∷ 0x37 ∷ 0x32 ∷ 0x39 ∷ 0x34 ∷ []) ≡ Value 4294967294
+greatest : numberOf (0x34 ∷ 0x32 ∷ 0x39 ∷ 0x34 ∷ 0x39 ∷ 0x36 ∷ 0x37 ∷ 0x32 ∷ 0x39 ∷ 0x34 ∷ []) ≡ given 4294967294
 unfolding numberOf everyBy
 greatest = refl
 
-too-great : numberOf (0x34 ∷ 0x32 ∷ 0x39 ∷ 0x34 ∷ 0x39 ∷ 0x36 ∷ 0x37 ∷ 0x32 ∷ 0x39 ∷ 0x35 ∷ []) ≡ Bad
+too-great : numberOf (0x34 ∷ 0x32 ∷ 0x39 ∷ 0x34 ∷ 0x39 ∷ 0x36 ∷ 0x37 ∷ 0x32 ∷ 0x39 ∷ 0x35 ∷ []) ≡ refused 17
 unfolding numberOf everyBy
 too-great = refl
 

@@ -6,6 +6,7 @@ use lib.ListN.{length, drop}
 use lib.Dec.{eqb, leb, ltb}
 use Rattle.lists.specs.Scan.{beforeBy, everyBy}
 use Rattle.value.specs.Digits.{valueOf, isDigit, digitIn}
+use Rattle.value.specs.Answer.{Answer, refused, given}
 use Rattle.lines.specs.declared.Found.{Found}
 use Rattle.lines.specs.declared.Found.the-variants.{At, Unlawful}
 use Rattle.lines.specs.declared.Parsed.{Parsed}
@@ -32,11 +33,19 @@ startsWith (w ∷ ws) [] = false
 startsWith (w ∷ ws) (x ∷ s) = eqb x w && startsWith ws s
 
 -- "`word=value`": where the value starts and where it ends, and where the next line starts
-unfoldable pub valueAt : List ℕ → List ℕ → ℕ → Found
+pub data Place : Type 0 where
+  place : ℕ → ℕ → ℕ → Place
+
+-- "Layout text lawful? Else 17"
+unfoldable pub valueAt : List ℕ → List ℕ → ℕ → Answer Place
 valueAt word text at =
     cond (endsIn text at && startsWith word (lineFrom text at))
-    (At (at + length word) (at + length (lineFrom text at)) (at + length (lineFrom text at) + 1))
-    Unlawful
+    (given (place (at + length word) (at + length (lineFrom text at)) (at + length (lineFrom text at) + 1)))
+    (refused 17)
+
+abbrev pub foundAs : Found → Answer Place
+foundAs (At start end next) = given (place start end next)
+foundAs Unlawful = refused 17
 
 -- ---- numbers
 
@@ -54,8 +63,12 @@ bound = 4294967295
 abbrev pub spelled : List ℕ → ℕ
 spelled s = valueOf (map digitIn s)
 
-unfoldable pub numberOf : List ℕ → Parsed
-numberOf s = cond (leads s && (everyBy isDigit s && ltb (spelled s) bound)) (Value (spelled s)) Bad
+unfoldable pub numberOf : List ℕ → Answer ℕ
+numberOf s = cond (leads s && (everyBy isDigit s && ltb (spelled s) bound)) (given (spelled s)) (refused 17)
+
+abbrev pub parsedAs : Parsed → Answer ℕ
+parsedAs (Value v) = given v
+parsedAs Bad = refused 17
 
 -- ---- names and masks
 

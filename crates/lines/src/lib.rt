@@ -6,7 +6,7 @@ ghost use lib.ListN.{length, take};
 ghost use denote.Ref.{ptr};
 ghost use Rattle.lists.specs.Part.{placeIn};
 ghost use Rattle.lists.specs.Scan.{beforeBy};
-ghost use Rattle.lines.specs.Lines.{isEnd, lineFrom, startIn, startsWith, valueAt, leads, numberOf, isLetter, inName, nameOk, maskOk};
+ghost use Rattle.lines.specs.Lines.{isEnd, lineFrom, startIn, startsWith, valueAt, foundAs, leads, numberOf, parsedAs, isLetter, inName, nameOk, maskOk};
 ghost use Rattle.lines.specs.Names.{foldOf, sameName, indexIn, namesAt, numberAt, countAfter, startsAfter};
 ghost use Rattle.value.specs.Digits.{isDigit};
 
@@ -55,7 +55,7 @@ fn starts_with(word: &[u8], s: &[u8]) -> bool
 
 // The value behind a word, its `=` counted, in the line that starts at a position.
 pub fn value_at(text: &[u8], at: usize, word: &[u8]) -> Found
-    ensures { λ r. ⌜ r ≡ valueAt (now (word .entry)) (now (text .entry)) at ⌝ }
+    ensures { λ r. ⌜ foundAs r ≡ valueAt (now (word .entry)) (now (text .entry)) at ⌝ }
 {
     if text.len() < at {
         return Found::Unlawful;
@@ -110,7 +110,7 @@ fn has_lead(s: &[u8]) -> bool
 
 // A decimal number without leading zeros, below 4294967295.
 pub fn number_of(part: &[u8]) -> Parsed
-    ensures { λ r. ⌜ r ≡ numberOf (now (part .entry)) ⌝ }
+    ensures { λ r. ⌜ parsedAs r ≡ numberOf (now (part .entry)) ⌝ }
 {
     if !has_lead(part) {
         return Parsed::Bad;

@@ -4,14 +4,16 @@ use mathlib.Core.List.{List, map}
 use mathlib.Core.Bool.{Bool, true, false, cond}
 use Prim.Native.Nat.{ℕ, suc, _+_, _-_, _*_, _<_, _≤_, min}
 use native.Mathlib.Numerals.{add-one}
+use native.Mathlib.Omega.{arith}
 use lib.Dec.{ltb}
 use lib.ListN.{length, getD, take, drop, drop-of-length-le}
 use lib.Seq.{drop-cons}
 use borrow.Author.Tests.{lt-ltb, le-ltb}
-use Rattle.value.specs.declared.Number.the-variants.{Bad, Big}
 use Rattle.value.specs.Digits.{valueFrom, valueOf, isDigit, digitIn, limit}
-use Rattle.value.specs.Number.{some, numberOf, withSign}
+use Rattle.value.specs.Answer.{refused}
+use Rattle.value.specs.Number.{some, readIn, unlawful, withSign}
 use Rattle.value.proofs.Digits.{cap-answer}
+use Rattle.value.proofs.Answers.{Numbered, numbered-cond, numbered-in}
 use Rattle.lists.specs.Scan.{leftBy, leftCount, rightBy, keepBy, everyBy}
 use Rattle.lists.proofs.Scan.{left-count, map-left, map-count, map-right, both-ends}
 use Rattle.ebcdic.specs.Ebcdic.{fromPage}
@@ -71,10 +73,16 @@ kept-signed negative s = by (everyBy isAscii s)
     v : ℕ
     v = valueOf (map digitIn (keepBy isDigit s))
 
-    small : (t : Bool) → withSign negative (cond t (some false v) Big) ≡ cond t (some negative v) Big
+    small : (t : Bool) → withSign negative (cond t (some false v) (refused 9)) ≡ cond t (some negative v) (refused 9)
     small true = refl
     small false = refl
 
-    by : (t : Bool) → withSign negative (cond t (numberOf false v) Bad) ≡ cond t (numberOf negative v) Bad
+    by : (t : Bool) → withSign negative (cond t (readIn limit false v) unlawful) ≡ cond t (readIn limit negative v) unlawful
     by true = small (ltb v limit)
     by false = refl
+
+-- the digits kept are refused by a question alone
+pub kept-numbered : (negative : Bool) (s : List ℕ) → Numbered (keptOf negative s)
+unfolding keptBy
+kept-numbered negative s =
+    numbered-cond (everyBy isAscii s) (readIn limit negative (valueOf (map digitIn (keepBy isDigit s)))) unlawful (numbered-in 9 limit negative (valueOf (map digitIn (keepBy isDigit s))) (λ e. omega arith)) (λ e. omega arith)

@@ -9,11 +9,10 @@ use native.Mathlib.Decide.{decLt}
 use lib.Dec.{ltb, lit<}
 use lib.ListN.{length, getD, take}
 use borrow.Author.Tests.{lt-ltb}
-use Rattle.value.specs.declared.Number.{Number}
-use Rattle.value.specs.declared.Number.the-variants.{Of, Bad, Big}
+use Rattle.value.specs.Answer.{Answer, refused, given}
 use lib.IntN.{ℤ, pos}
 use Rattle.value.specs.Digits.{digitAt, digitsOf, spread, limit, signedOf}
-use Rattle.value.specs.Number.{some, numberOf}
+use Rattle.value.specs.Number.{Whole, number, some, readIn, unlawful}
 use Rattle.value.specs.Field.{lastOf, digitsBy}
 use Rattle.value.proofs.Digits.{ok-digits, value-of-digits, digit-below, high-digit, low-digit}
 use Rattle.value.proofs.Answers.{numberIn-fits}
@@ -118,7 +117,7 @@ round answer bad (suc k) negative size signed h =
 -- so a size below the limit is read back
 pub decoded : (w : ℕ) (negative : Bool) (size : ℕ) (signed : Bool) → fitsOf w size ≡ true → size < limit → decodeOf (encodedOf w negative size signed) ≡ some (signed && negative) size
 unfolding decodeOf
-decoded w negative size signed h l = round numberOf Bad w negative size signed h ∙ numberIn-fits limit (signed && negative) size l
+decoded w negative size signed h l = round (readIn limit) unlawful w negative size signed h ∙ numberIn-fits 9 limit (signed && negative) size l
 
 -- each byte but the last holds the two digits of its place, and the last one the units and the sign
 pub by-place : (w : ℕ) (negative : Bool) (size : ℕ) (signed : Bool) (i : ℕ) → i < w - 1
@@ -138,10 +137,9 @@ by-place-last (suc k) negative size signed h =
     (field-last size (signOf signed negative) (sign-small signed negative) k)
 
 -- the same in ℤ, of a field with a sign: -0 is 0
-abbrev pub integerIn : Number → ℤ
-integerIn (Of negative size) = signedOf negative size
-integerIn Bad = pos 0
-integerIn Big = pos 0
+abbrev pub integerIn : Answer Whole → ℤ
+integerIn (given (number negative size)) = signedOf negative size
+integerIn (refused question) = pos 0
 
 zero-unsigned : (negative : Bool) (size : ℕ) → signedOf (ltb 0 size && negative) size ≡ signedOf negative size
 zero-unsigned true zero = refl

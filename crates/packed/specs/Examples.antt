@@ -1,44 +1,44 @@
 -- The starred records of the format, by computation.
 use mathlib.Core.Path.{_≡_, refl}
-use mathlib.Core.List.{List, [], _∷_}
-use mathlib.Core.Bool.{Bool, true, false}
-use Prim.Native.Nat.{ℕ, _-_, _^_}
-use lib.IntN.{ℤ, pos, negsuc}
-use Rattle.value.specs.declared.Number.{Number}
-use Rattle.value.specs.declared.Number.the-variants.{Of, Bad, Big}
+use mathlib.Core.List.{[], _∷_}
+use mathlib.Core.Bool.{true, false}
+use Prim.Native.Nat.{_-_, _^_}
+use lib.IntN.{pos, negsuc}
+use Rattle.value.specs.Answer.{refused}
 use Rattle.value.specs.Digits.{signedOf}
 use Rattle.value.specs.Field.{fieldOf}
-use Rattle.packed.specs.Packed.{decodeOf, encodedOf, fitsOf, writtenOf}
+use Rattle.value.specs.Number.{some}
+use Rattle.packed.specs.Packed.{decodeOf, fitsOf, writtenOf}
 
-minus-12345 : decodeOf (0x12 ∷ 0x34 ∷ 0x5D ∷ []) ≡ Of true 12345
+minus-12345 : decodeOf (0x12 ∷ 0x34 ∷ 0x5D ∷ []) ≡ some true 12345
 unfolding decodeOf fieldOf
 minus-12345 = refl
 
-one-positive : decodeOf (0x1E ∷ []) ≡ Of false 1
+one-positive : decodeOf (0x1E ∷ []) ≡ some false 1
 unfolding decodeOf fieldOf
 one-positive = refl
 
-no-sign : decodeOf (0x19 ∷ []) ≡ Bad
+no-sign : decodeOf (0x19 ∷ []) ≡ refused 8
 unfolding decodeOf fieldOf
 no-sign = refl
 
-no-digit : decodeOf (0xA1 ∷ 0x1C ∷ []) ≡ Bad
+no-digit : decodeOf (0xA1 ∷ 0x1C ∷ []) ≡ refused 8
 unfolding decodeOf fieldOf
 no-digit = refl
 
-no-width : decodeOf [] ≡ Bad
+no-width : decodeOf [] ≡ refused 8
 unfolding decodeOf fieldOf
 no-width = refl
 
-minus-zero : decodeOf (0x0D ∷ []) ≡ Of false 0
+minus-zero : decodeOf (0x0D ∷ []) ≡ some false 0
 unfolding decodeOf fieldOf
 minus-zero = refl
 
-largest : decodeOf (0x09 ∷ 0x99 ∷ 0x99 ∷ 0x99 ∷ 0x99 ∷ 0x99 ∷ 0x99 ∷ 0x99 ∷ 0x99 ∷ 0x9C ∷ []) ≡ Of false (10 ^ 18 - 1)
+largest : decodeOf (0x09 ∷ 0x99 ∷ 0x99 ∷ 0x99 ∷ 0x99 ∷ 0x99 ∷ 0x99 ∷ 0x99 ∷ 0x99 ∷ 0x9C ∷ []) ≡ some false (10 ^ 18 - 1)
 unfolding decodeOf fieldOf
 largest = refl
 
-too-large : decodeOf (0x10 ∷ 0x00 ∷ 0x00 ∷ 0x00 ∷ 0x00 ∷ 0x00 ∷ 0x00 ∷ 0x00 ∷ 0x00 ∷ 0x0C ∷ []) ≡ Big
+too-large : decodeOf (0x10 ∷ 0x00 ∷ 0x00 ∷ 0x00 ∷ 0x00 ∷ 0x00 ∷ 0x00 ∷ 0x00 ∷ 0x00 ∷ 0x0C ∷ []) ≡ refused 9
 unfolding decodeOf fieldOf
 too-large = refl
 

@@ -4,10 +4,9 @@ use mathlib.Core.Bool.{Bool, _||_, cond}
 use Prim.Native.Nat.{ℕ, _+_, _-_, _*_, _/_, _%_}
 use lib.Dec.{leb, eqb}
 use lib.ListN.{length}
-use Rattle.value.specs.declared.Number.{Number}
-use Rattle.value.specs.declared.Number.the-variants.{Bad}
-use Rattle.value.specs.Digits.{digitsOf, roomFor}
-use Rattle.value.specs.Number.{numberOf}
+use Rattle.value.specs.Digits.{digitsOf, limit, roomFor}
+use Rattle.value.specs.Answer.{Answer}
+use Rattle.value.specs.Number.{Whole, readIn, unlawful}
 use Rattle.value.specs.Field.{fieldOf}
 
 -- a byte's two nibbles
@@ -32,8 +31,8 @@ signed b = isSign (b % 16)
 abbrev pub packedBy : {X : Type 0} → (Bool → ℕ → X) → X → List ℕ → X
 packedBy answer bad part = fieldOf nibbles highOf signed (λ b size. answer (isNegative (b % 16)) size) bad part
 
-unfoldable pub decodeOf : List ℕ → Number
-decodeOf part = packedBy numberOf Bad part
+unfoldable pub decodeOf : List ℕ → Answer Whole
+decodeOf part = packedBy (readIn limit) unlawful part
 
 -- ---- writing
 

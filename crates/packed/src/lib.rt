@@ -6,11 +6,12 @@ ghost use lib.ListN.{length};
 ghost use mathlib.Core.List.{List, [], _∷_, _++_};
 ghost use Prim.Native.Nat.{ℕ, _+_, _-_, _*_, _<_, _≤_};
 ghost use Rattle.value.specs.Digits.{digitsOf};
+ghost use Rattle.value.specs.Number.{readAs};
 ghost use Rattle.packed.specs.Packed.{decodeOf, fitsOf, writtenOf, signOf, isNegative, pairs};
 
 // The number of a packed field.
 pub fn decode(part: &[u8]) -> Number
-    ensures { λ r. ⌜ r ≡ decodeOf (now (part .entry)) ⌝ }
+    ensures { λ r. ⌜ readAs r ≡ decodeOf (now (part .entry)) ⌝ }
 {
     let n = part.len();
     if n == 0 {
@@ -42,7 +43,7 @@ pub fn decode(part: &[u8]) -> Number
         return Number::Bad;
     }
     let total = value::push_digit(size, high, value::LIMIT);
-    value::number_of(is_negative(sign), total)
+    value::number_in(value::LIMIT, is_negative(sign), total)
 }
 
 fn is_negative(sign: u8) -> bool

@@ -11,7 +11,7 @@ use lib.ListN.{length, take, drop, length-append}
 use lib.Seq.{take-append-seam}
 use Rattle.value.specs.declared.Scalar.{Scalar}
 use Rattle.value.specs.declared.Scalar.the-variants.{Decimal}
-use Rattle.text.specs.declared.Shown.the-variants.{Length, Refused}
+use Rattle.value.specs.Answer.{refused, given}
 use Rattle.text.specs.Text.{front}
 use Rattle.text.specs.Shown.{decimalText, Shows, shows, none, isText, shownOf, textIn, answerOf, shownIn, roomOf, refusalAt}
 
@@ -24,22 +24,22 @@ decimal-none negative size scale h = rw (lt-leb scale 18 h)
 -- ---- what is answered
 
 pub says-text : (s : Shows) (t out fin : List ℕ) (n : ℕ) → s ≡ shows t → n ≡ length t → n ≤ 24 → fin ≡ front t out
-    → (Length n ≡ answerOf s) × ((fin ≡ shownIn s out) × (roomOf s ≤ 24))
-says-text s t out fin n e l h f = rw e (ap Length l, (f, subst (λ (m : ℕ). m ≤ 24) l h))
+    → (given n ≡ answerOf s) × ((fin ≡ shownIn s out) × (roomOf s ≤ 24))
+says-text s t out fin n e l h f = rw e (ap given l, (f, subst (λ (m : ℕ). m ≤ 24) l h))
 
-pub says-none : (s : Shows) (out : List ℕ) → s ≡ none → (Refused ≡ answerOf s) × ((out ≡ shownIn s out) × (roomOf s ≤ 24))
+pub says-none : (s : Shows) (out : List ℕ) → s ≡ none → (refused 13 ≡ answerOf s) × ((out ≡ shownIn s out) × (roomOf s ≤ 24))
 says-none s out e = rw e (refl, (refl, omega arith))
 
 -- ---- what an answer tells
 
-pub text-told : (s : Shows) (n : ℕ) (out last : List ℕ) → Length n ≡ answerOf s → last ≡ shownIn s out → s ≡ shows (take (n - 0) last)
+pub text-told : (s : Shows) (n : ℕ) (out last : List ℕ) → given n ≡ answerOf s → last ≡ shownIn s out → s ≡ shows (take (n - 0) last)
 text-told (shows t) n out last e q =
     let l : length t ≡ n = cc in
     ap shows (sym (take-append-seam t (drop (length t) out)) ∙ ap (take (length t)) (sym q) ∙ ap (λ (m : ℕ). take m last) (l ∙ sym (sub-zero n)))
 text-told none n out last e q = let z : _≡_ {A = ℕ} 0 1 = cc in absurd (omega arith)
 
 -- the text lies inside the array
-pub room-told : (s : Shows) (n : ℕ) (out last : List ℕ) → Length n ≡ answerOf s → last ≡ shownIn s out → n ≤ length last
+pub room-told : (s : Shows) (n : ℕ) (out last : List ℕ) → given n ≡ answerOf s → last ≡ shownIn s out → n ≤ length last
 room-told (shows t) n out last e q =
     let l : n ≡ length t = cc in
     let k : length last ≡ length t + length (drop (length t) out) = ap length q ∙ length-append t (drop (length t) out) in
@@ -47,11 +47,11 @@ room-told (shows t) n out last e q =
 room-told none n out last e q = let z : _≡_ {A = ℕ} 0 1 = cc in absurd (omega arith)
 
 -- the judgement needs the length alone
-pub refusal-told : (s : Shows) (n w : ℕ) → Length n ≡ answerOf s → cond (leb n w) 0 14 ≡ refusalAt w s
+pub refusal-told : (s : Shows) (n w : ℕ) → given n ≡ answerOf s → cond (leb n w) 0 14 ≡ refusalAt w s
 refusal-told (shows t) n w e = let l : n ≡ length t = cc in ap (λ (m : ℕ). cond (leb m w) 0 14) l
 refusal-told none n w e = let z : _≡_ {A = ℕ} 0 1 = cc in absurd (omega arith)
 
-pub none-told : (s : Shows) → Refused ≡ answerOf s → s ≡ none
+pub none-told : (s : Shows) → refused 13 ≡ answerOf s → s ≡ none
 none-told (shows t) e = let z : _≡_ {A = ℕ} 0 1 = cc in absurd (omega arith)
 none-told none e = refl
 

@@ -10,7 +10,8 @@ use Rattle.lists.specs.Scan.{leftBy, rightBy, beforeBy}
 use Rattle.ebcdic.specs.Ebcdic.{fromPage, ontoPage, toAscii, asciiTable, toEbcdic, ebcdicTable}
 use Rattle.text.specs.Text.{cut, readText, written, Fits}
 use Rattle.text.specs.Shown.{digitCount, wholeText, intText, decimalText, textIn, refusalAt}
-use Rattle.value.specs.declared.Scalar.the-variants.{Text, Decimal, FloatBits}
+use Rattle.value.specs.declared.Scalar.the-variants.{Text, FloatBits}
+use Rattle.value.specs.Scalar.{decimal}
 
 -- `AB  ` left-justified
 left-cut : readText 0 false true 32 (65 ∷ 66 ∷ 32 ∷ 32 ∷ []) ≡ 65 ∷ 66 ∷ []
@@ -101,10 +102,10 @@ text-too-long : refusalAt 1 (textIn (Text 0 2) (65 ∷ 66 ∷ [])) ≡ 14
 text-too-long = refl
 
 -- `-1.2` takes four bytes
-decimal-fits : refusalAt 4 (textIn (Decimal true 12 1) []) ≡ 0
+decimal-fits : refusalAt 4 (textIn (decimal true 12 1) []) ≡ 0
 unfolding digitCount decimalText
 decimal-fits = refl
 
-decimal-too-long : refusalAt 3 (textIn (Decimal true 12 1) []) ≡ 14
+decimal-too-long : refusalAt 3 (textIn (decimal true 12 1) []) ≡ 14
 unfolding digitCount decimalText
 decimal-too-long = refl

@@ -7,6 +7,7 @@ use lib.Dec.{eqb, leb, ltb}
 use Rattle.value.specs.Digits.{digitText, digitsOf}
 use Rattle.value.specs.declared.Scalar.{Scalar}
 use Rattle.value.specs.declared.Scalar.the-variants.{Null, Text, Int, Decimal, Float as FloatV, FloatBits, Bool as BoolV}
+use Rattle.value.specs.Answer.{Answer, refused, given}
 use Rattle.text.specs.Text.{front, writtenIn}
 use Rattle.text.specs.declared.Shown.{Shown}
 use Rattle.text.specs.declared.Shown.the-variants.{Length, Refused}
@@ -73,9 +74,14 @@ textIn v bytes = cond (isText v) (shows bytes) (shownOf v)
 
 -- ---- what the functions answer and leave
 
-abbrev pub answerOf : Shows → Shown
-answerOf (shows t) = Length (length t)
-answerOf none = Refused
+-- the length of a text; "value of a kind Rust takes there ..? 13"
+abbrev pub answerOf : Shows → Answer ℕ
+answerOf (shows t) = given (length t)
+answerOf none = refused 13
+
+abbrev pub shownAs : Shown → Answer ℕ
+shownAs (Length n) = given n
+shownAs Refused = refused 13
 
 -- the text at the front of the array; its other bytes stay
 abbrev pub shownIn : Shows → List ℕ → List ℕ

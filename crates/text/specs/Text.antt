@@ -7,6 +7,7 @@ use lib.ListN.{length, drop, replicate, getD}
 use lib.Dec.{eqb, leb}
 use Rattle.lists.specs.Scan.{leftBy, leftCount, rightBy, beforeBy}
 use Rattle.ebcdic.specs.Ebcdic.{fromPage, ontoPage}
+use Rattle.value.specs.Answer.{Answer, refused, given}
 use Rattle.text.specs.declared.Put.{Put}
 use Rattle.text.specs.declared.Put.the-variants.{Length, Full}
 
@@ -31,9 +32,13 @@ cutFrom right trim pad s = cond trim (cond right (leftCount (isByte pad) s) 0) 0
 abbrev pub front : List ℕ → List ℕ → List ℕ
 front t out = t ++ drop (length t) out
 
--- a text to the front of a buffer, if it has room; else the buffer stays
-abbrev pub putOf : List ℕ → List ℕ → Put
-putOf t out = cond (leb (length t) (length out)) (Length (length t)) Full
+-- a text to the front of a buffer, if it has room; else the buffer stays. "Place for item and text? 16"
+abbrev pub putOf : List ℕ → List ℕ → Answer ℕ
+putOf t out = cond (leb (length t) (length out)) (given (length t)) (refused 16)
+
+abbrev pub putAs : Put → Answer ℕ
+putAs (Length n) = given n
+putAs Full = refused 16
 
 abbrev pub putIn : List ℕ → List ℕ → List ℕ
 putIn t out = cond (leb (length t) (length out)) (front t out) out

@@ -11,10 +11,10 @@ ghost use denote.Ref.{ptr};
 ghost use Rattle.lists.specs.Part.{placeIn};
 ghost use Rattle.lists.specs.Scan.{leftBy, leftCount, rightBy, beforeBy};
 ghost use Rattle.ebcdic.specs.Ebcdic.{fromPage};
-ghost use Rattle.text.specs.Text.{isByte, readText, cutFrom, front, putOf, putIn, writtenIn, padded};
+ghost use Rattle.text.specs.Text.{isByte, readText, cutFrom, front, putOf, putAs, putIn, writtenIn, padded};
 ghost use Rattle.value.specs.Digits.{digitText};
 ghost use Rattle.text.specs.Shown.{digitCount, wholeText, minusText, intText, decimalText, boolText, placed};
-ghost use Rattle.text.specs.Shown.{shows, isText, shownOf, textIn, answerOf, shownIn, roomOf, refusalAt, encodedIn};
+ghost use Rattle.text.specs.Shown.{shows, isText, shownOf, textIn, answerOf, shownAs, shownIn, roomOf, refusalAt, encodedIn};
 
 // What put_text answers: the length of the text that it put, or that it had no room.
 pub enum Put {
@@ -97,7 +97,7 @@ pub fn trimmed(s: &[u8], page: u32, right: bool, trim: bool, pad: u8) -> &[u8]
 
 // The reader's leaf: the text of a field's bytes to the front of a buffer, if it has room.
 pub fn put_text(s: &[u8], page: u32, right: bool, trim: bool, pad: u8, out: &mut [u8]) -> Put
-    ensures { λ r. ⌜ r ≡ putOf (readText page right trim pad (now (s .entry))) (now (out .entry)) ⌝ }
+    ensures { λ r. ⌜ putAs r ≡ putOf (readText page right trim pad (now (s .entry))) (now (out .entry)) ⌝ }
     ensures { λ _. ⌜ now (out .exit) ≡ putIn (readText page right trim pad (now (s .entry))) (now (out .entry)) ⌝ }
 {
     let t = trimmed(s, page, right, trim, pad);
@@ -266,7 +266,7 @@ fn is_text(v: Scalar) -> bool
 
 // The text of a scalar that is no Text to the front of an array; the array's other bytes stay.
 pub fn display_scalar(v: Scalar, out: &mut [u8; 24]) -> Shown
-    ensures { λ r. ⌜ r ≡ answerOf (shownOf v) ⌝ }
+    ensures { λ r. ⌜ shownAs r ≡ answerOf (shownOf v) ⌝ }
     ensures { λ _. ⌜ now (out .exit) ≡ shownIn (shownOf v) (now (out .entry)) ⌝ }
     ensures { λ _. ⌜ roomOf (shownOf v) ≤ 24 ⌝ }
 {

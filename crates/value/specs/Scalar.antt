@@ -9,6 +9,10 @@ use Rattle.value.specs.declared.Scalar.{Scalar}
 use Rattle.value.specs.declared.Scalar.the-variants.{Null, Text, Int, Decimal, Float as FloatV, FloatBits, Bool as BoolV}
 use Rattle.value.specs.Word.{wordOf, minusIn, sizeIn}
 
+-- the Decimal of a sign, a size and a scale
+abbrev pub decimal : Bool → ℕ → ℕ → Scalar
+decimal negative size scale = Decimal negative size scale
+
 abbrev pub tagOf : Scalar → ℕ
 tagOf Null = 0
 tagOf (Text start count) = 1

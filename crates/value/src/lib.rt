@@ -8,13 +8,21 @@ ghost use lib.ListN.{length};
 ghost use lib.Ieee as Ieee;
 ghost use lib.Ieee.{binary64};
 ghost use Rattle.value.specs.Digits.{capped, limit, roomFor};
-ghost use Rattle.value.specs.Number.{some, numberIn, numberOf, withSign};
+ghost use Rattle.value.specs.Number.{some, readIn, amountOf, withSign, numberBy, readAs, amountAs};
 ghost use Rattle.value.specs.Rounding.{rescaled};
 ghost use Rattle.value.specs.Word.{wordOf, minusIn, sizeIn, powerTen};
 ghost use Rattle.value.specs.Scalar.{tagOf, firstOf, secondOf, putOf, floatOf, scalarOf};
 
-// What reading a number answers: whether it is negative, and its size; 0 is never negative. Bad: an unlawful byte. Big: out of range.
+// What is answered for a number that is read, or for the integer that a value stands for: whether it is negative, and its size; 0 is never negative.
+// Bad: an unlawful byte, or no integer. Big: out of range.
 pub enum Number {
+    Of(bool, u64),
+    Bad,
+    Big,
+}
+
+// The same for a value that is to be written into a Decimal or an Edited field. Bad: a value that is no number there. Big: a size from 10^18.
+pub enum Amount {
     Of(bool, u64),
     Bad,
     Big,
@@ -41,15 +49,18 @@ pub const LIMIT: u64 = 1000000000000000000;
 pub fn push_digit(size: u64, digit: u8, cap: u64) -> u64
     ensures { λ r. ⌜ r ≡ min (size * 10 + digit) cap ⌝ }
 {
-    if size > cap / 10 {
+    if size >= cap / 10 + (cap % 10 + 9) / 10 {
         return cap;
     }
     let tens = size * 10;
-    let units = digit as u64;
-    if units >= cap - tens {
+    let next = std::num::wrapping_add_u64(tens, digit as u64);
+    if next < tens {
         return cap;
     }
-    tens + units
+    if next >= cap {
+        return cap;
+    }
+    next
 }
 
 // Two digits more.
@@ -106,7 +117,7 @@ pub fn has_room(places: usize, size: u64) -> bool
 
 // The number of a sign and a size that is in range.
 pub fn signed_size(negative: bool, size: u64) -> Number
-    ensures { λ r. ⌜ r ≡ some negative size ⌝ }
+    ensures { λ r. ⌜ ((bad big : ℕ) → numberBy bad big r ≡ some negative size) ⌝ }
 {
     if size == 0 {
         return Number::Of(false, 0);
@@ -114,9 +125,9 @@ pub fn signed_size(negative: bool, size: u64) -> Number
     Number::Of(negative, size)
 }
 
-// The answer for a sign and a size that is to be below a bound.
+// The answer for a sign and a size that are read, where the size is to be below a bound.
 pub fn number_in(bound: u64, negative: bool, size: u64) -> Number
-    ensures { λ r. ⌜ r ≡ numberIn bound negative size ⌝ }
+    ensures { λ r. ⌜ readAs r ≡ readIn bound negative size ⌝ }
 {
     if size >= bound {
         return Number::Big;
@@ -124,22 +135,28 @@ pub fn number_in(bound: u64, negative: bool, size: u64) -> Number
     signed_size(negative, size)
 }
 
-// The same for a Decimal's size.
-pub fn number_of(negative: bool, size: u64) -> Number
-    ensures { λ r. ⌜ r ≡ numberOf negative size ⌝ }
-{
-    number_in(LIMIT, negative, size)
-}
-
 // A number with a sign in front of it.
 pub fn with_sign(negative: bool, n: Number) -> Number
-    ensures { λ r. ⌜ r ≡ withSign negative n ⌝ }
+    ensures { λ r. ⌜ readAs r ≡ withSign negative (readAs n) ⌝ }
 {
     match n {
         Number::Of(_, size) => signed_size(negative, size),
         Number::Bad => Number::Bad,
         Number::Big => Number::Big,
     }
+}
+
+// The answer for a sign and a size that are to be written.
+pub fn amount_of(negative: bool, size: u64) -> Amount
+    ensures { λ r. ⌜ amountAs r ≡ amountOf negative size ⌝ }
+{
+    if size >= LIMIT {
+        return Amount::Big;
+    }
+    if size == 0 {
+        return Amount::Of(false, 0);
+    }
+    Amount::Of(negative, size)
 }
 
 // 10^k where a word holds it, else 0.
@@ -171,38 +188,38 @@ pub fn ten_to(k: u64) -> u64
     }
 }
 
-// A size of one scale at another, as a number; the scale that is lost is cut.
-pub fn rescale(negative: bool, size: u64, from: u64, to: u64) -> Number
-    ensures { λ r. ⌜ r ≡ numberOf negative (rescaled from to size) ⌝ }
+// A size of one scale at another, as an amount; the scale that is lost is cut.
+pub fn rescale(negative: bool, size: u64, from: u64, to: u64) -> Amount
+    ensures { λ r. ⌜ amountAs r ≡ amountOf negative (rescaled from to size) ⌝ }
 {
     if from == to {
-        return number_of(negative, size);
+        return amount_of(negative, size);
     }
     if from < to {
         return scale_up(negative, size, to - from);
     }
     let k = from - to;
     if k > 19 {
-        return number_of(negative, 0);
+        return amount_of(negative, 0);
     }
     let p = ten_to(k);
-    number_of(negative, size / p)
+    amount_of(negative, size / p)
 }
 
-fn scale_up(negative: bool, size: u64, k: u64) -> Number
-    ensures { λ r. ⌜ r ≡ numberOf negative (size * 10 ^ k) ⌝ }
+fn scale_up(negative: bool, size: u64, k: u64) -> Amount
+    ensures { λ r. ⌜ amountAs r ≡ amountOf negative (size * 10 ^ k) ⌝ }
 {
     if size == 0 {
-        return number_of(negative, 0);
+        return amount_of(negative, 0);
     }
     if k > 18 {
-        return Number::Big;
+        return Amount::Big;
     }
     if size >= ten_to(18 - k) {
-        return Number::Big;
+        return Amount::Big;
     }
     let p = ten_to(k);
-    number_of(negative, size * p)
+    amount_of(negative, size * p)
 }
 
 // ---- words

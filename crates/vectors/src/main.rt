@@ -5,6 +5,7 @@
 
 use float::Parsed;
 use libc::STDOUT_FILENO;
+use value::Amount;
 use value::Number;
 ghost use Prim.Native.Nat.{_<_, _≤_};
 ghost use lib.ListN.{length};
@@ -393,7 +394,7 @@ fn encode_row(r: &[u8], part: &mut [u8], size: u64, negative: bool) -> bool {
     if 24 + 18 <= r.len() {
         if w <= 18 {
             let e = 24 + w;
-            return edited::encode(part, 0, &r[24..e], Number::Of(negative, size)) == 0;
+            return edited::encode(part, 0, &r[24..e], Amount::Of(negative, size)) == 0;
         }
     }
     false

@@ -11,9 +11,8 @@ use lib.Seq.{getD-at}
 use borrow.Author.Tests.{lt-ltb, le-ltb, le-leb, lt-leb, ne-eqb}
 use Rattle.ebcdic.specs.Ebcdic.{fromPage, ontoPage}
 use Rattle.ebcdic.proofs.Laws.{bytes-back}
-use Rattle.value.specs.declared.Number.the-variants.{Bad}
 use Rattle.value.specs.Digits.{digitAt, digitsOf, digitText, spread, limit}
-use Rattle.value.specs.Number.{some, numberOf}
+use Rattle.value.specs.Number.{some, readIn, unlawful}
 use Rattle.value.specs.Field.{digitsBy}
 use Rattle.value.proofs.Digits.{ok-digits, value-of-digits, digit-below, digits-snoc, length-digitText}
 use Rattle.value.proofs.Answers.{numberIn-fits}
@@ -134,4 +133,4 @@ zoned-back answer bad page w negative size signed f =
 pub decoded : (page w : ℕ) (negative : Bool) (size : ℕ) (signed : Bool) → fitsOf w size ≡ true → size < limit
     → decodeOf (map (fromPage page) (map (ontoPage page) (encodedOf w negative size signed))) ≡ some (signed && negative) size
 unfolding decodeOf
-decoded page w negative size signed f l = zoned-back numberOf Bad page w negative size signed f ∙ numberIn-fits limit (signed && negative) size l
+decoded page w negative size signed f l = zoned-back (readIn limit) unlawful page w negative size signed f ∙ numberIn-fits 9 limit (signed && negative) size l

@@ -8,25 +8,25 @@ use lib.ListN.{length, getD, length-map}
 use borrow.Author.Tests.{le-ltb}
 use Rattle.lists.proofs.Lists.{getD-map}
 use Rattle.ebcdic.specs.Ebcdic.{fromPage}
-use Rattle.value.specs.declared.Number.{Number}
-use Rattle.value.specs.declared.Number.the-variants.{Bad}
-use Rattle.value.specs.Number.{numberIn}
+use Rattle.value.specs.Answer.{Answer}
+use Rattle.value.specs.Number.{Whole, readIn, unlawful}
+use Rattle.value.specs.Digits.{limit}
 use Rattle.value.specs.Field.{lastOf}
-use Rattle.value.proofs.Answers.{numberIn-capped}
+use Rattle.value.proofs.Answers.{numberIn-capped, Numbered, numbered-in}
 use Rattle.value.proofs.Field as Field
 use Rattle.value.proofs.Field.{Read, read-one}
-use Rattle.zoned.specs.Zoned.{zone, digitOf, lastDigit, minus, anySign, zonedBy}
+use Rattle.zoned.specs.Zoned.{zone, digitOf, lastDigit, minus, anySign, zonedBy, decodeOf}
 
 module _ (bound page : ℕ) (part : List ℕ) where
   abbrev ascii : List ℕ
   ascii = map (fromPage page) part
 
-  abbrev says : Number
-  says = zonedBy (numberIn bound) Bad ascii
+  abbrev says : Answer Whole
+  says = zonedBy (readIn bound) unlawful ascii
 
   -- what a lawful field answers
-  abbrev answer : ℕ → ℕ → Number
-  answer b size = numberIn bound (minus b) size
+  abbrev answer : ℕ → ℕ → Answer Whole
+  answer b size = readIn bound (minus b) size
 
   long : length ascii ≡ length part
   long = length-map part (fromPage page)
@@ -37,14 +37,14 @@ module _ (bound page : ℕ) (part : List ℕ) where
   last : (x : ℕ) → 0 < length part → x ≡ fromPage page (getD part (length part - 1) 0) → lastOf ascii ≡ x
   last x h e = ap (λ (n : ℕ). getD ascii (n - 1) 0) long ∙ byte (length part - 1) x (omega arith) e
 
-  pub none : length part ≡ 0 → Bad ≡ says
-  none h = sym (Field.bad-empty zone lastDigit anySign answer Bad ascii (long ∙ h))
+  pub none : length part ≡ 0 → unlawful ≡ says
+  none h = sym (Field.bad-empty zone lastDigit anySign answer unlawful ascii (long ∙ h))
 
-  pub bad : (i x d : ℕ) → i < length part - 1 → x ≡ fromPage page (getD part i 0) → d ≡ digitOf x → 10 ≤ d → Bad ≡ says
+  pub bad : (i x d : ℕ) → i < length part - 1 → x ≡ fromPage page (getD part i 0) → d ≡ digitOf x → 10 ≤ d → unlawful ≡ says
   bad i x d h e f k =
       let l = long in
       let b : 10 ≤ digitOf (getD ascii i 0) = rw (byte i x (omega arith) e, ← f) k in
-      sym (Field.bad-body zone lastDigit anySign answer Bad ascii i (omega arith) (rw (le-ltb (digitOf (getD ascii i 0)) 10 b)))
+      sym (Field.bad-body zone lastDigit anySign answer unlawful ascii i (omega arith) (rw (le-ltb (digitOf (getD ascii i 0)) 10 b)))
 
   pub more : (i size x d next : ℕ) → i < length part - 1 → Read bound zone ascii i size → x ≡ fromPage page (getD part i 0) → d ≡ digitOf x → d < 10
       → next ≡ min (size * 10 + d) bound → Read bound zone ascii (i + 1) next
@@ -52,14 +52,19 @@ module _ (bound page : ℕ) (part : List ℕ) where
       let l = long in
       read-one bound zone ascii i size (omega arith) r d next (ap zone (byte i x (omega arith) e) ∙ ap (λ (y : ℕ). y ∷ []) (sym f)) k n
 
-  pub bad-last : (x d : ℕ) → 0 < length part → x ≡ fromPage page (getD part (length part - 1) 0) → d ≡ lastDigit x → 10 ≤ d → Bad ≡ says
-  bad-last x d h e f k = sym (Field.bad-last zone lastDigit anySign answer Bad ascii (rw (last x h e, ← f) k))
+  pub bad-last : (x d : ℕ) → 0 < length part → x ≡ fromPage page (getD part (length part - 1) 0) → d ≡ lastDigit x → 10 ≤ d → unlawful ≡ says
+  bad-last x d h e f k = sym (Field.bad-last zone lastDigit anySign answer unlawful ascii (rw (last x h e, ← f) k))
 
   pub all : (i size x d total : ℕ) (negative : Bool) → 0 < length part → i ≡ length part - 1 → Read bound zone ascii i size → x ≡ fromPage page (getD part (length part - 1) 0)
-      → d ≡ lastDigit x → d < 10 → total ≡ min (size * 10 + d) bound → negative ≡ minus x → numberIn bound negative total ≡ says
+      → d ≡ lastDigit x → d < 10 → total ≡ min (size * 10 + d) bound → negative ≡ minus x → readIn bound negative total ≡ says
   all i size x d total negative h q r e f k t m =
       let l = long in
       let y = last x h e in
       let p : i ≡ length ascii - 1 = omega arith in
       rw (m, ← y)
-      (Field.read-all zone lastDigit anySign answer Bad ascii bound (λ b v. numberIn-capped bound bound (minus b) v (omega arith)) size total (omega arith) (rw p at r) (rw (y, ← f) k) refl (rw (y, ← f) t))
+      (Field.read-all zone lastDigit anySign answer unlawful ascii bound (λ b v. numberIn-capped 9 bound (minus b) v bound (omega arith)) size total (omega arith) (rw p at r) (rw (y, ← f) k) refl (rw (y, ← f) t))
+
+pub decode-numbered : (part : List ℕ) → Numbered (decodeOf part)
+unfolding decodeOf
+decode-numbered part =
+    Field.field-all zone lastDigit anySign (λ b size. readIn limit (minus b) size) unlawful part Numbered (λ v. numbered-in 9 limit (minus (lastOf part)) v (λ e. omega arith)) (λ e. omega arith)

@@ -6,7 +6,7 @@ ghost use mathlib.Core.Bool.{Bool, cond};
 ghost use mathlib.Core.List.{List, [], _∷_, _++_, map};
 ghost use Prim.Native.Nat.{ℕ, _+_, _<_, _≤_};
 ghost use lib.ListN.{length};
-ghost use Rattle.value.specs.Number.{numberIn};
+ghost use Rattle.value.specs.Number.{readIn, unlawful, readAs};
 ghost use Rattle.ebcdic.specs.Ebcdic.{fromPage, ontoPage};
 ghost use Rattle.zoned.specs.Zoned.{zonedBy, decodeOf, digitOf, lastDigit, minus, overpunch, encodedOf, fitsOf};
 
@@ -59,7 +59,7 @@ fn is_minus(b: u8) -> bool
 
 // The number of a zoned field, whose size is to be below a bound.
 pub fn decode_within(part: &[u8], page: u32, bound: u64) -> Number
-    ensures { λ r. ⌜ r ≡ zonedBy (numberIn bound) Number.Bad (map (fromPage page) (now (part .entry))) ⌝ }
+    ensures { λ r. ⌜ readAs r ≡ zonedBy (readIn bound) unlawful (map (fromPage page) (now (part .entry))) ⌝ }
 {
     let n = part.len();
     if n == 0 {
@@ -89,7 +89,7 @@ pub fn decode_within(part: &[u8], page: u32, bound: u64) -> Number
 
 // The number of a zoned field.
 pub fn decode(part: &[u8], page: u32) -> Number
-    ensures { λ r. ⌜ r ≡ decodeOf (map (fromPage page) (now (part .entry))) ⌝ }
+    ensures { λ r. ⌜ readAs r ≡ decodeOf (map (fromPage page) (now (part .entry))) ⌝ }
 {
     decode_within(part, page, value::LIMIT)
 }

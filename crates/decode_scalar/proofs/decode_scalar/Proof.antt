@@ -101,11 +101,18 @@ returns-6 c = rw (c .before .match .keys6, ← (c .parse-bool .ensures)) (refl, 
 
 returns-7 : tie.Need-returns-7
 unfolding says
-returns-7 c = rw (c .before .before .match .keys7) (answered _ _ _ (decimal-plain (c .before .before .before .before .before .args .r) (decimalIn (c .before .before .before .before .before .args .p) (c .before .before .before .before .before .args .q) (c .before .before .before .before .before .args .page) (c .before .before .before .before .before .args .part .now))) (c .decimal-scalar .ensures ∙ ap (λ n. answerOf (decimalSays (c .before .before .before .before .before .args .r) n) 0) (c .before .parse-decimal .ensures)))
+returns-7 c =
+    let at-args = c .before .before .before .before .before .args in
+    let at-match = c .before .before .match in
+    rw (at-match .keys7) (answered _ _ _ (decimal-plain (at-args .r) (decimalIn (at-args .p) (at-args .q) (at-args .page) (at-args .part .now))) (c .decimal-scalar .ensures ∙ ap (λ n. answerOf (decimalSays (at-args .r) n) 0) (c .before .parse-decimal .ensures)))
 
 returns-8 : tie.Need-returns-8
 unfolding says
-returns-8 c = rw (c .before .before .before .match .keys8, ← (c .before .before .flag4 .ensures)) (answered _ _ _ (decimal-plain (c .before .before .before .before .before .before .args .r) (Edited.decodedOf (c .before .before .flag4 .result) (map (fromPage (c .before .before .before .before .before .before .args .page)) (c .before .before .before .before .before .before .args .part .now)))) (c .decimal-scalar2 .ensures ∙ ap (λ n. answerOf (decimalSays (c .before .before .before .before .before .before .args .r) n) 0) (c .before .decode .ensures)))
+returns-8 c =
+    let at-args = c .before .before .before .before .before .before .args in
+    let at-match = c .before .before .before .match in
+    let at-flag4 = c .before .before .flag4 in
+    rw (at-match .keys8, ← (at-flag4 .ensures)) (answered _ _ _ (decimal-plain (at-args .r) (Edited.decodedOf (at-flag4 .result) (map (fromPage (at-args .page)) (at-args .part .now)))) (c .decimal-scalar2 .ensures ∙ ap (λ n. answerOf (decimalSays (at-args .r) n) 0) (c .before .decode .ensures)))
 
 returns-9 : tie.Need-returns-9
 unfolding says

@@ -1,6 +1,7 @@
 use mathlib.Core.Path.{sym, ap}
 use Prim.Native.Nat.{_-_}
 use Rattle.decode_scalar.specs.Decode.{answerOf, floatSays}
+use Rattle.float.specs.Field.{parsedAs}
 use borrow.Author.Needs.{needs}
 use Rattle.decode_scalar.proofs.float_answer.Statement.{statement}
 use Rattle.decode_scalar.proofs.float_answer.Tie as tie
@@ -12,7 +13,7 @@ enum-told : tie.Need-enum-told
 enum-told c = search needs
 
 returns : tie.Need-returns
-returns c = sym (ap (λ m. answerOf (floatSays m) 0) (c .before .f .given .1))
+returns c = sym (ap (λ m. answerOf (floatSays (parsedAs m)) 0) (c .before .f .given .1))
 
 returns-2 : tie.Need-returns-2
 returns-2 c = search needs

@@ -1,6 +1,7 @@
 use mathlib.Core.Path.{sym, ap}
 use Prim.Native.Nat.{_-_}
 use Rattle.decode_scalar.specs.Decode.{answerOf, intSays}
+use Rattle.value.specs.Number.{readAs}
 use borrow.Author.Needs.{needs}
 use Rattle.decode_scalar.proofs.int_scalar.Statement.{statement}
 use Rattle.decode_scalar.proofs.int_scalar.Tie as tie
@@ -15,7 +16,7 @@ enum-told-2 : tie.Need-enum-told-2
 enum-told-2 c = search needs
 
 returns : tie.Need-returns
-returns c = sym (ap (λ m. answerOf (intSays m) 0) (c .before .n .given .1))
+returns c = sym (ap (λ m. answerOf (intSays (readAs m)) 0) (c .before .n .given .1))
 
 returns-2 : tie.Need-returns-2
 returns-2 c = search needs

@@ -37,13 +37,13 @@ enum-told-5 : tie.Need-enum-told-5
 enum-told-5 c = search needs
 
 returns : tie.Need-returns
-returns c = search needs
+returns c = sym (ap (λ (v : Scalar). wholeIn v (c .before .before .before .args .text .now)) (c .enum-told .given .1))
 
 returns-2 : tie.Need-returns-2
 returns-2 c = c .text-whole .ensures ∙ sym (ap (λ (v : Scalar). wholeIn v (c .before .before .before .before .args .text .now)) (c .before .enum-told2 .given .1))
 
 returns-3 : tie.Need-returns-3
-returns-3 c = c .signed-size .ensures ∙ sym (ap (λ (v : Scalar). wholeIn v (c .before .before .before .before .before .args .text .now)) (c .before .before .v .given .1))
+returns-3 c = c .signed-size .ensures 13 14 ∙ sym (ap (λ (v : Scalar). wholeIn v (c .before .before .before .before .before .args .text .now)) (c .before .before .v .given .1))
 
 returns-4 : tie.Need-returns-4
 returns-4 c = c .decimal-whole .ensures ∙ sym (ap (λ (v : Scalar). wholeIn v (c .before .before .before .before .before .args .text .now)) (c .before .before .v2 .given .1))

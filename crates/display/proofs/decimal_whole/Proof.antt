@@ -10,7 +10,7 @@ signed-size-requires : tie.Need-signed-size-requires
 signed-size-requires c κs = search needs
 
 returns : tie.Need-returns
-returns c = rw (eq-eqb _ _ (c .before .if1 .taken)) (c .signed-size .ensures)
+returns c = rw (eq-eqb _ _ (c .before .if1 .taken)) (c .signed-size .ensures 13 14)
 
 returns-2 : tie.Need-returns-2
 returns-2 c = rw (ne-eqb _ _ (c .if1 .left))

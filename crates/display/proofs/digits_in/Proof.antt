@@ -47,9 +47,15 @@ loop-less c = search needs
 
 loop-again : tie.Need-loop-again Inv-loop μ-loop
 loop-again c =
-    let a = c .before .before .before .before .before .before .before .before .before .before .args in
-    let x = c .before .before .before .before .from-page .ensures in
-    (omega arith, c .before .before .before .before .before .before .before .loop .inv .1 ∙ whole-go (fromPage (a .page)) (a .part .now) (a .bound) (a .negative) (c .before .before .before .before .before .before .before .loop .i) (c .before .before .before .before .before .before .before .loop .size) (c .push-digit .result) (c .before .before .before .before .before .before .loop-test .taken) (ap isDigit (sym x) ∙ sym (c .before .before .before .is-digit .ensures) ∙ c .before .before .if2 .taken) (rw (c .before .digit-in .ensures, x) at (c .push-digit .ensures)))
+    let at-args = c .before .before .before .before .before .before .before .before .before .before .args in
+    let at-loop = c .before .before .before .before .before .before .before .loop in
+    let at-loop-test = c .before .before .before .before .before .before .loop-test in
+    let at-from-page = c .before .before .before .before .from-page in
+    let at-is-digit = c .before .before .before .is-digit in
+    let at-if2 = c .before .before .if2 in
+    let a = at-args in
+    let x = at-from-page .ensures in
+    (omega arith, at-loop .inv .1 ∙ whole-go (fromPage (a .page)) (a .part .now) (a .bound) (a .negative) (at-loop .i) (at-loop .size) (c .push-digit .result) (at-loop-test .taken) (ap isDigit (sym x) ∙ sym (at-is-digit .ensures) ∙ at-if2 .taken) (rw (c .before .digit-in .ensures, x) at (c .push-digit .ensures)))
 
 returns-2 : tie.Need-returns-2 Inv-loop μ-loop
 returns-2 c =

@@ -1,5 +1,7 @@
 use mathlib.Core.Path.{sym, ap}
 use Prim.Native.Nat.{_-_}
+use Rattle.value.specs.declared.Number.{Number}
+use Rattle.value.specs.Number.{readAs}
 use Rattle.display.specs.Display.{orRefused}
 use borrow.Author.Needs.{needs}
 use Rattle.display.proofs.or_refused.Statement.{statement}
@@ -15,7 +17,7 @@ enum-told-2 : tie.Need-enum-told-2
 enum-told-2 c = search needs
 
 returns : tie.Need-returns
-returns c = sym (ap orRefused (c .before .n .given .1))
+returns c = sym (ap (λ (m : Number). orRefused (readAs m)) (c .before .n .given .1))
 
 returns-2 : tie.Need-returns-2
 returns-2 c = search needs

@@ -33,16 +33,30 @@ digits-in-requires c κs = search needs
 
 returns-2 : tie.Need-returns-2
 returns-2 c =
-    let a = c .before .before .before .before .before .before .before .before .before .args in
-    c .digits-in .ensures ∙ rw (c .before .before .before .before .before .before .sign-at .ensures) (int-taken (fromPage (a .page)) (a .sign) (a .part .now) (c .before .before .before .before .before .before .before .trim .result .now) (c .before .before .before .before .before .strip-separate-sign .result .now) (c .before .before .before .before .before .before .before .trim .ensures .0) (c .before .before .before .before .before .strip-separate-sign .ensures) (c .before .before .before .before .trim2 .result .now) (c .before .before .before .before .trim2 .ensures .0) (c .before .before .before .if1 .left) (ap isSign (sym (c .before .before .before .before .before .before .sign-at .ensures)) ∙ sym (c .before .before .is-sign .ensures) ∙ c .before .if2 .taken))
+    let at-args = c .before .before .before .before .before .before .before .before .before .args in
+    let at-trim = c .before .before .before .before .before .before .before .trim in
+    let at-sign-at = c .before .before .before .before .before .before .sign-at in
+    let at-strip-separate-sign = c .before .before .before .before .before .strip-separate-sign in
+    let at-trim2 = c .before .before .before .before .trim2 in
+    let at-if1 = c .before .before .before .if1 in
+    let at-is-sign = c .before .before .is-sign in
+    let a = at-args in
+    c .digits-in .ensures ∙ rw (at-sign-at .ensures) (int-taken (fromPage (a .page)) (a .sign) (a .part .now) (at-trim .result .now) (at-strip-separate-sign .result .now) (at-trim .ensures .0) (at-strip-separate-sign .ensures) (at-trim2 .result .now) (at-trim2 .ensures .0) (at-if1 .left) (ap isSign (sym (at-sign-at .ensures)) ∙ sym (at-is-sign .ensures) ∙ c .before .if2 .taken))
 
 whole-of-requires : tie.Need-whole-of-requires
 whole-of-requires c κs = search needs
 
 returns-3 : tie.Need-returns-3
 returns-3 c =
-    let a = c .before .before .before .before .before .before .before .before .before .args in
-    c .whole-of .ensures ∙ int-plain (fromPage (a .page)) (a .sign) (a .part .now) (c .before .before .before .before .before .before .before .trim .result .now) (c .before .before .before .before .before .strip-separate-sign .result .now) (c .before .before .before .before .before .before .before .trim .ensures .0) (c .before .before .before .before .before .strip-separate-sign .ensures) (c .before .before .before .before .trim2 .result .now) (c .before .before .before .before .trim2 .ensures .0) (c .before .before .before .if1 .left) (ap isSign (sym (c .before .before .before .before .before .before .sign-at .ensures)) ∙ sym (c .before .before .is-sign .ensures) ∙ c .before .if2 .left)
+    let at-args = c .before .before .before .before .before .before .before .before .before .args in
+    let at-trim = c .before .before .before .before .before .before .before .trim in
+    let at-sign-at = c .before .before .before .before .before .before .sign-at in
+    let at-strip-separate-sign = c .before .before .before .before .before .strip-separate-sign in
+    let at-trim2 = c .before .before .before .before .trim2 in
+    let at-if1 = c .before .before .before .if1 in
+    let at-is-sign = c .before .before .is-sign in
+    let a = at-args in
+    c .whole-of .ensures ∙ int-plain (fromPage (a .page)) (a .sign) (a .part .now) (at-trim .result .now) (at-strip-separate-sign .result .now) (at-trim .ensures .0) (at-strip-separate-sign .ensures) (at-trim2 .result .now) (at-trim2 .ensures .0) (at-if1 .left) (ap isSign (sym (at-sign-at .ensures)) ∙ sym (at-is-sign .ensures) ∙ c .before .if2 .left)
 
 pub parse-display-int-spec : {M : Type 1} → statement M
 parse-display-int-spec =

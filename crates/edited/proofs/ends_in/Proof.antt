@@ -33,10 +33,22 @@ to-upper-requires-2 : tie.Need-to-upper-requires-2
 to-upper-requires-2 c κs = search needs
 
 returns-2 : tie.Need-returns-2
-returns-2 c = ends-go (fromPage (c .before .before .before .before .before .before .before .before .before .args .page)) (c .before .before .before .before .before .before .before .before .before .args .t .now) (c .before .before .before .before .before .before .before .before .before .args .a) (c .before .before .before .before .before .before .before .before .before .args .b) (c .before .before .before .before .to-upper .result) (c .before .to-upper2 .result) (c .before .before .before .before .before .before .before .if1 .left) (c .before .before .before .before .to-upper .ensures ∙ ap upper (c .before .before .before .before .before .from-page .ensures)) (c .before .to-upper2 .ensures ∙ ap upper (c .before .before .from-page2 .ensures)) (c .if2 .taken)
+returns-2 c =
+    let at-args = c .before .before .before .before .before .before .before .before .before .args in
+    let at-if1 = c .before .before .before .before .before .before .before .if1 in
+    let at-from-page = c .before .before .before .before .before .from-page in
+    let at-to-upper = c .before .before .before .before .to-upper in
+    let at-from-page2 = c .before .before .from-page2 in
+    ends-go (fromPage (at-args .page)) (at-args .t .now) (at-args .a) (at-args .b) (at-to-upper .result) (c .before .to-upper2 .result) (at-if1 .left) (at-to-upper .ensures ∙ ap upper (at-from-page .ensures)) (c .before .to-upper2 .ensures ∙ ap upper (at-from-page2 .ensures)) (c .if2 .taken)
 
 returns-3 : tie.Need-returns-3
-returns-3 c = ends-not (fromPage (c .before .before .before .before .before .before .before .before .before .args .page)) (c .before .before .before .before .before .before .before .before .before .args .t .now) (c .before .before .before .before .before .before .before .before .before .args .a) (c .before .before .before .before .before .before .before .before .before .args .b) (c .before .before .before .before .to-upper .result) (c .before .to-upper2 .result) (c .before .before .before .before .before .before .before .if1 .left) (c .before .before .before .before .to-upper .ensures ∙ ap upper (c .before .before .before .before .before .from-page .ensures)) (c .before .to-upper2 .ensures ∙ ap upper (c .before .before .from-page2 .ensures)) (c .if2 .left)
+returns-3 c =
+    let at-args = c .before .before .before .before .before .before .before .before .before .args in
+    let at-if1 = c .before .before .before .before .before .before .before .if1 in
+    let at-from-page = c .before .before .before .before .before .from-page in
+    let at-to-upper = c .before .before .before .before .to-upper in
+    let at-from-page2 = c .before .before .from-page2 in
+    ends-not (fromPage (at-args .page)) (at-args .t .now) (at-args .a) (at-args .b) (at-to-upper .result) (c .before .to-upper2 .result) (at-if1 .left) (at-to-upper .ensures ∙ ap upper (at-from-page .ensures)) (c .before .to-upper2 .ensures ∙ ap upper (at-from-page2 .ensures)) (c .if2 .left)
 
 pub ends-in-spec : {M : Type 1} → statement M
 ends-in-spec =

@@ -1,5 +1,8 @@
+-- By the cases of the amount.
 use mathlib.Core.Path.{sym, ap, _∙_}
 use Prim.Native.Nat.{_-_}
+use Rattle.value.specs.declared.Amount.{Amount}
+use Rattle.value.specs.Number.{amountAs}
 use Rattle.edited.specs.Edited.{judged}
 use borrow.Author.Needs.{needs}
 use Rattle.edited.proofs.judge.Statement.{statement}
@@ -21,15 +24,15 @@ judge-big-requires : tie.Need-judge-big-requires
 judge-big-requires c κs = search needs
 
 returns : tie.Need-returns
-returns c = c .judge-size .ensures ∙ sym (ap (judged (c .before .before .before .before .before .args .mask .now)) (c .before .before .n .given .1))
+returns c = c .judge-size .ensures ∙ sym (ap (λ (m : Amount). judged (c .before .before .before .before .before .args .mask .now) (amountAs m)) (c .before .before .n .given .1))
 
 returns-2 : tie.Need-returns-2
 unfolding judged
-returns-2 c = sym (ap (judged (c .before .before .before .args .mask .now)) (c .enum-told .given .1))
+returns-2 c = sym (ap (λ (m : Amount). judged (c .before .before .before .args .mask .now) (amountAs m)) (c .enum-told .given .1))
 
 returns-3 : tie.Need-returns-3
 unfolding judged
-returns-3 c = c .judge-big .ensures ∙ sym (ap (judged (c .before .before .before .before .args .mask .now)) (c .before .enum-told2 .given .1))
+returns-3 c = c .judge-big .ensures ∙ sym (ap (λ (m : Amount). judged (c .before .before .before .before .args .mask .now) (amountAs m)) (c .before .enum-told2 .given .1))
 
 pub judge-spec : {M : Type 1} → statement M
 judge-spec =

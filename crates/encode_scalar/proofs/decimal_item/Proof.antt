@@ -15,15 +15,15 @@ is-minus-requires c κs = search needs
 size-of-requires : tie.Need-size-of-requires
 size-of-requires c κs = search needs
 
-number-of-requires : tie.Need-number-of-requires
-number-of-requires c κs = search needs
+amount-of-requires : tie.Need-amount-of-requires
+amount-of-requires c κs = search needs
 
 returns : tie.Need-returns
 unfolding scalarOf
 returns c =
     let a = c .before .before .before .before .before .args in
     let d = decimal-same (minusIn (a .a)) (sizeIn (a .a)) (a .b) (a .scale) (c .before .before .before .if2 .taken) in
-    rw (c .before .before .before .before .if1 .taken) (c .number-of .ensures ∙ rw (c .before .before .is-minus .ensures, c .before .size-of .ensures) d)
+    rw (c .before .before .before .before .if1 .taken) (c .amount-of .ensures ∙ rw (c .before .before .is-minus .ensures, c .before .size-of .ensures) d)
 
 returns-2 : tie.Need-returns-2
 returns-2 c = rw (le-leb _ _ (c .if3 .taken))
@@ -43,7 +43,7 @@ decimal-item-spec =
     (tie.spec
     is-minus-requires
     size-of-requires
-    number-of-requires
+    amount-of-requires
     returns
     returns-2
     item-scalar-requires

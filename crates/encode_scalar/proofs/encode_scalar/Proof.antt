@@ -6,7 +6,8 @@ use lib.Dec.{eqb, leb}
 use lib.ListN.{length, take}
 use Rattle.text.specs.Text.{padded}
 use Rattle.encode_scalar.specs.Encode.{judgedOf, bytesOf, numberJudged, numberBytes, decimalJudged, decimalWritten, partAfter}
-use Rattle.value.specs.declared.Number.{Number}
+use Rattle.value.specs.Answer.{Answer}
+use Rattle.value.specs.Number.{Whole}
 use Rattle.float.specs.Convert.{decimalFor}
 use Rattle.value.specs.Scalar.{scalarOf}
 use Rattle.text.proofs.Back.{padded-length}
@@ -34,7 +35,7 @@ returns c =
     rw (item .before .before .if1 .taken) (
       c .before .before .write-decimal .ensures .0 ∙ ap (decimalJudged (a .p) (a .q) (a .s) w) (item .decimal-item .ensures) ∙ item-judged (leb 6 (a .tag)) (a .p) (a .q) (a .s) w n,
       c .before .before .write-decimal .ensures .1
-          ∙ ap (λ (m : Number). partAfter (decimalJudged (a .p) (a .q) (a .s) w m) (decimalWritten (a .p) (a .q) (a .page) w m) (a .part .now)) (item .decimal-item .ensures)
+          ∙ ap (λ (m : Answer Whole). partAfter (decimalJudged (a .p) (a .q) (a .s) w m) (decimalWritten (a .p) (a .q) (a .page) w m) (a .part .now)) (item .decimal-item .ensures)
           ∙ item-after (leb 6 (a .tag)) (a .p) (a .q) (a .s) (a .page) w n (a .part .now),
     )
 

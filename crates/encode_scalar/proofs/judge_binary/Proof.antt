@@ -1,6 +1,8 @@
 use mathlib.Core.Path.{refl, sym, ap, _∙_}
 use Prim.Native.Nat.{_-_}
 use Rattle.encode_scalar.specs.Encode.{binaryJudged}
+use Rattle.value.specs.declared.Number.{Number}
+use Rattle.value.specs.Number.{writtenAs}
 use borrow.Author.Needs.{needs}
 use Rattle.encode_scalar.proofs.judge_binary.Statement.{statement}
 use Rattle.encode_scalar.proofs.judge_binary.Tie as tie
@@ -21,7 +23,7 @@ enum-told-2 : tie.Need-enum-told-2
 enum-told-2 c = search needs
 
 returns : tie.Need-returns
-returns c = c .fitting .ensures ∙ rw (c .before .width-ok .ensures) refl ∙ sym (ap (binaryJudged (c .before .before .before .before .before .args .width)) (c .before .before .before .n .given .1))
+returns c = c .fitting .ensures ∙ rw (c .before .width-ok .ensures) refl ∙ sym (ap (λ (m : Number). binaryJudged (c .before .before .before .before .before .args .width) (writtenAs m)) (c .before .before .before .n .given .1))
 
 returns-2 : tie.Need-returns-2
 returns-2 c = search needs

@@ -1,6 +1,8 @@
 use mathlib.Core.Path.{refl, sym, ap, _∙_}
 use Prim.Native.Nat.{_-_}
 use Rattle.encode_scalar.specs.Encode.{decimalJudged}
+use Rattle.value.specs.declared.Amount.{Amount}
+use Rattle.value.specs.Number.{amountAs}
 use borrow.Author.Needs.{needs}
 use Rattle.encode_scalar.proofs.judge_decimal.Statement.{statement}
 use Rattle.encode_scalar.proofs.judge_decimal.Tie as tie
@@ -21,7 +23,7 @@ enum-told-2 : tie.Need-enum-told-2
 enum-told-2 c = search needs
 
 returns : tie.Need-returns
-returns c = c .fitting .ensures ∙ rw (c .before .fits-decimal .ensures) refl ∙ sym (ap (decimalJudged (c .before .before .before .before .before .args .p) (c .before .before .before .before .before .args .q) (c .before .before .before .before .before .args .s) (c .before .before .before .before .before .args .width)) (c .before .before .before .n .given .1))
+returns c = c .fitting .ensures ∙ rw (c .before .fits-decimal .ensures) refl ∙ sym (ap (λ (m : Amount). decimalJudged (c .before .before .before .before .before .args .p) (c .before .before .before .before .before .args .q) (c .before .before .before .before .before .args .s) (c .before .before .before .before .before .args .width) (amountAs m)) (c .before .before .before .n .given .1))
 
 returns-2 : tie.Need-returns-2
 returns-2 c = search needs

@@ -1,6 +1,8 @@
 use mathlib.Core.Path.{refl, sym, ap, _∙_}
 use Prim.Native.Nat.{_-_}
 use Rattle.encode_scalar.specs.Encode.{intJudged}
+use Rattle.value.specs.declared.Number.{Number}
+use Rattle.value.specs.Number.{writtenAs}
 use borrow.Author.Needs.{needs}
 use Rattle.encode_scalar.proofs.judge_int.Statement.{statement}
 use Rattle.encode_scalar.proofs.judge_int.Tie as tie
@@ -21,7 +23,7 @@ enum-told-2 : tie.Need-enum-told-2
 enum-told-2 c = search needs
 
 returns : tie.Need-returns
-returns c = c .fitting .ensures ∙ rw (c .before .fits-int .ensures) refl ∙ sym (ap (intJudged (c .before .before .before .before .before .args .width) (c .before .before .before .before .before .args .signed) (c .before .before .before .before .before .args .sign)) (c .before .before .before .n .given .1))
+returns c = c .fitting .ensures ∙ rw (c .before .fits-int .ensures) refl ∙ sym (ap (λ (m : Number). intJudged (c .before .before .before .before .before .args .width) (c .before .before .before .before .before .args .signed) (c .before .before .before .before .before .args .sign) (writtenAs m)) (c .before .before .before .n .given .1))
 
 returns-2 : tie.Need-returns-2
 returns-2 c = search needs

@@ -1,8 +1,7 @@
 use mathlib.Core.Path.{refl, _∙_}
 use Prim.Native.Nat.{_-_}
 use lib.ListN.{length}
-use Rattle.value.specs.declared.Number.the-variants.{Of}
-use Rattle.encode_scalar.specs.Encode.{decimalFit, decimalWritten}
+use Rattle.encode_scalar.specs.Encode.{decimalFit, decimalBytes}
 use Rattle.encode_scalar.proofs.Parts.{fitted, decimal-length}
 use borrow.Author.Needs.{needs}
 use Rattle.encode_scalar.proofs.write_decimal.Statement.{statement}
@@ -32,7 +31,7 @@ returns c =
     let g = c .before .before .before .before .before .before .n .given in
     let w = length (a .part .now) in
     let f = decimalFit (a .p) (a .q) (a .s) w (g .0 .0) (g .0 .1 .0) in
-    rw (g .1) (c .fitting .ensures ∙ rw (c .before .before .before .encode-decimal .ensures .0) refl, fitted f (decimalWritten (a .p) (a .q) (a .page) w (Of (g .0 .0) (g .0 .1 .0))) (a .part .now) (c .before .before .before .encode-decimal .last .0) (c .before .before .before .encode-decimal .ensures .1) (decimal-length (a .p) (a .q) (a .s) (a .page) w (g .0 .0) (g .0 .1 .0)))
+    rw (g .1) (c .fitting .ensures ∙ rw (c .before .before .before .encode-decimal .ensures .0) refl, fitted f (decimalBytes (a .p) (a .q) (a .page) w (g .0 .0) (g .0 .1 .0)) (a .part .now) (c .before .before .before .encode-decimal .last .0) (c .before .before .before .encode-decimal .ensures .1) (decimal-length (a .p) (a .q) (a .s) (a .page) w (g .0 .0) (g .0 .1 .0)))
 
 returns-2 : tie.Need-returns-2
 returns-2 c = rw (c .enum-told .given .1) (refl, refl)

@@ -78,7 +78,7 @@ returns-6 : tie.Need-returns-6
 unfolding numberJudged numberBytes
 returns-6 c =
     let m = c .match .rest in
-    rw (ne-eqb _ _ (m .0 .0 .0 .0 .1), ne-eqb _ _ (m .0 .0 .0 .1), ne-eqb _ _ (m .0 .0 .1), ne-eqb _ _ (m .0 .1), c .before .before .before .before .pre, ne-eqb _ _ (m .1)) (refl, nothing (c .before .before .before .before .args .part .now))
+    rw (ne-eqb _ _ (m .0 .0 .0 .0 .1), ne-eqb _ _ (m .0 .0 .0 .1), ne-eqb _ _ (m .0 .0 .1), ne-eqb _ _ (m .0 .1), c .before .before .before .before .pre, ne-eqb _ _ (m .1)) (refl, nothing 0 (c .before .before .before .before .args .part .now))
 
 pub write-number-spec : {M : Type 1} → statement M
 write-number-spec =

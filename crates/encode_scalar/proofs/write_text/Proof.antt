@@ -13,7 +13,10 @@ same-length : tie.Need-same-length
 same-length c = search needs
 
 returns : tie.Need-returns
-returns c = (c .before .before .encode-text .ensures .0, text-part (c .before .before .before .before .before .before .args .page) (c .before .before .before .before .before .before .args .right) (c .before .before .before .before .before .before .args .pad) (c .before .before .before .before .before .before .args .part .now) _ (textIn (c .before .before .before .before .before .before .args .v) (c .before .before .before .before .before .before .args .text .now)) (c .before .before .encode-text .ensures .1))
+returns c =
+    let at-args = c .before .before .before .before .before .before .args in
+    let at-encode-text = c .before .before .encode-text in
+    (at-encode-text .ensures .0, text-part (at-args .page) (at-args .right) (at-args .pad) (at-args .part .now) _ (textIn (at-args .v) (at-args .text .now)) (at-encode-text .ensures .1))
 
 pub write-text-spec : {M : Type 1} → statement M
 write-text-spec = tie.close (tie.spec encode-text-requires same-length returns)

@@ -1,7 +1,6 @@
 use mathlib.Core.Path.{sym, ap, _∙_}
-use Prim.Native.Nat.{_-_}
 use lib.Ieee.{binary64, toBits}
-use Rattle.float.specs.declared.Floated.the-variants.{Word}
+use Rattle.value.specs.Answer.{given}
 use Rattle.float.specs.Convert.{floatedOf}
 use borrow.Author.Needs.{needs}
 use Rattle.float.proofs.as_f64.Statement.{statement}
@@ -50,7 +49,7 @@ returns-2 c = sym (ap floatedOf (c .enum-told2 .given .1))
 
 returns-3 : tie.Need-returns-3
 unfolding floatedOf
-returns-3 c = ap Word (c .float-word .ensures ∙ ap (toBits binary64) (c .before .nearest-float .ensures)) ∙ sym (ap floatedOf (c .before .before .before .v .given .1))
+returns-3 c = ap given (c .float-word .ensures ∙ ap (toBits binary64) (c .before .nearest-float .ensures)) ∙ sym (ap floatedOf (c .before .before .before .v .given .1))
 
 returns-4 : tie.Need-returns-4
 unfolding floatedOf
@@ -58,7 +57,7 @@ returns-4 c = c .decimal-word .ensures ∙ sym (ap floatedOf (c .before .before 
 
 returns-5 : tie.Need-returns-5
 unfolding floatedOf
-returns-5 c = ap Word (c .float-word2 .ensures) ∙ sym (ap floatedOf (c .before .before .v3 .given .1))
+returns-5 c = ap given (c .float-word2 .ensures) ∙ sym (ap floatedOf (c .before .before .v3 .given .1))
 
 returns-6 : tie.Need-returns-6
 unfolding floatedOf

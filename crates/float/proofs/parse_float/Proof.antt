@@ -19,7 +19,13 @@ float-scalar-requires : tie.Need-float-scalar-requires
 float-scalar-requires c κs = search needs
 
 returns : tie.Need-returns
-returns c = read-value (c .before .before .before .before .before .before .args .order) (c .before .before .before .before .before .before .args .bits) (c .before .before .before .before .before .before .args .part .now) (λ k h. omega (arith, c .before .before .before .before .before .shared-slice-known .given k)) (sym (c .before .before .before .before .field-ok .ensures) ∙ c .before .before .before .if1 .taken) (c .before .before .read-word .result) (c .before .before .read-word .ensures) (c .before .word-for .result) (c .float-scalar .result) (c .before .word-for .ensures) (c .float-scalar .ensures)
+returns c =
+    let at-args = c .before .before .before .before .before .before .args in
+    let at-shared-slice-known = c .before .before .before .before .before .shared-slice-known in
+    let at-field-ok = c .before .before .before .before .field-ok in
+    let at-if1 = c .before .before .before .if1 in
+    let at-read-word = c .before .before .read-word in
+    read-value (at-args .order) (at-args .bits) (at-args .part .now) (λ k h. omega (arith, at-shared-slice-known .given k)) (sym (at-field-ok .ensures) ∙ at-if1 .taken) (at-read-word .result) (at-read-word .ensures) (c .before .word-for .result) (c .float-scalar .result) (c .before .word-for .ensures) (c .float-scalar .ensures)
 
 returns-2 : tie.Need-returns-2
 returns-2 c = read-bad (c .before .before .before .args .order) (c .before .before .before .args .bits) (c .before .before .before .args .part .now) (sym (c .before .field-ok .ensures) ∙ c .if1 .left)

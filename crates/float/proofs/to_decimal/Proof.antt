@@ -4,15 +4,16 @@ use Prim.Native.Nat.{ℕ, _-_, _*_}
 use lib.Dec.{leb}
 use Prim.Native.Nat.{_/_, _%_, _^_}
 use lib.Dec.{T}
+use native.Mathlib.Omega.{arith}
 use lib.Pow.{pow-pos}
 use lib.Ieee.{Float, binary64, mul, toBits, fits}
 use lib.Ieee.Fits.{mul-fits}
 use lib.Ieee.Compare.{differs-from-itself}
-use Rattle.value.specs.declared.Number.{Number}
-use Rattle.value.specs.Number.{numberOf}
-use Rattle.value.specs.Digits.{capped}
+use Rattle.value.specs.Answer.{Answer}
+use Rattle.value.specs.Number.{Whole, amountOf}
+use Rattle.value.specs.Digits.{capped, limit}
 use Rattle.value.specs.Rounding.{rounded, floatRule}
-use Rattle.value.proofs.Answers.{numberOf-capped}
+use Rattle.value.proofs.Answers.{numberIn-capped}
 use Rattle.float.specs.Half.{sig}
 use Rattle.float.specs.Decimal.{decimalOf, toDecimal}
 use Rattle.float.proofs.Rounding.{decimal-value, scale-good, scale-bad}
@@ -26,7 +27,7 @@ held : (c : tie.After-ten) → T (fits binary64 (mul binary64 (c .before .before
 held c = mul-fits binary64 (c .before .before .args .x) (c .ten .result)
 
 -- what holds of the code's product holds of the contract's
-done : (c : tie.After-ten) {r : Number} → r ≡ decimalOf (mul binary64 (c .before .before .args .x) (c .ten .result)) → r ≡ toDecimal (c .before .before .args .x) (c .before .before .args .scale)
+done : (c : tie.After-ten) {r : Answer Whole} → r ≡ decimalOf (mul binary64 (c .before .before .args .x) (c .ten .result)) → r ≡ toDecimal (c .before .before .args .x) (c .before .before .args .scale)
 done c e =
     scale-good (c .before .before .args .x) (c .before .before .args .scale) (c .before .if1 .left)
     (e ∙ ap (λ (t : Float). decimalOf (mul binary64 (c .before .before .args .x) t)) (c .ten .ensures))
@@ -34,16 +35,16 @@ done c e =
 -- a finite product: its sign, and what `whole_size` found
 finite : (c : tie.Else3) (s : Bool) (n : ℕ) → let z = c .before .before in let b = toBits binary64 (mul binary64 (z .before .before .args .x) (z .ten .result)) in
     s ≡ leb (2 ^ 63) b → n ≡ capped (rounded floatRule (sig (2 ^ 52) (b % 2 ^ 63 / 2 ^ 52) (b % 2 ^ 52) * 2 ^ (b % 2 ^ 63 / 2 ^ 52 - 1)) (2 ^ 1074))
-    → numberOf s n ≡ toDecimal (z .before .before .args .x) (z .before .before .args .scale)
+    → amountOf s n ≡ toDecimal (z .before .before .args .x) (z .before .before .args .scale)
 finite c s n p q =
     let z = c .before .before in
     let y = mul binary64 (z .before .before .args .x) (z .ten .result) in
     let b = toBits binary64 y in
     let m = sig (2 ^ 52) (b % 2 ^ 63 / 2 ^ 52) (b % 2 ^ 52) * 2 ^ (b % 2 ^ 63 / 2 ^ 52 - 1) in
     done z
-    (ap (λ (t : Bool). numberOf t n) p
-    ∙ ap (numberOf (leb (2 ^ 63) b)) q
-    ∙ numberOf-capped (leb (2 ^ 63) b) (rounded floatRule m (2 ^ 1074))
+    (ap (λ (t : Bool). amountOf t n) p
+    ∙ ap (amountOf (leb (2 ^ 63) b)) q
+    ∙ numberIn-capped 14 limit (leb (2 ^ 63) b) (rounded floatRule m (2 ^ 1074)) limit (omega arith)
     ∙ sym (decimal-value y (leb (2 ^ 63) b) m (2 ^ 1074) (pow-pos 1074) (own-value y (held z) (c .if3 .left))))
 
 returns : tie.Need-returns
@@ -69,11 +70,11 @@ is-minus-requires c κs = search needs
 whole-size-requires : tie.Need-whole-size-requires
 whole-size-requires c κs = search needs
 
-number-of-requires : tie.Need-number-of-requires
-number-of-requires c κs = search needs
+amount-of-requires : tie.Need-amount-of-requires
+amount-of-requires c κs = search needs
 
 returns-4 : tie.Need-returns-4
-returns-4 c = c .number-of .ensures ∙ finite (c .before .before .before) _ _ (c .before .before .is-minus .ensures) (c .before .whole-size .ensures)
+returns-4 c = c .amount-of .ensures ∙ finite (c .before .before .before) _ _ (c .before .before .is-minus .ensures) (c .before .whole-size .ensures)
 
 pub to-decimal-spec : {M : Type 1} → statement M
 to-decimal-spec =
@@ -86,5 +87,5 @@ to-decimal-spec =
     returns-3
     is-minus-requires
     whole-size-requires
-    number-of-requires
+    amount-of-requires
     returns-4)

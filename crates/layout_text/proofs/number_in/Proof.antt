@@ -1,7 +1,7 @@
 use mathlib.Core.Path.{ap, _∙_}
-use Prim.Native.Nat.{_-_}
+use Prim.Native.Nat.{ℕ, _-_}
 use Rattle.layout_text.specs.Walk.{numberWith}
-use Rattle.lines.specs.declared.Parsed.{Parsed}
+use Rattle.value.specs.Answer.{Answer}
 use borrow.Author.Needs.{needs}
 use Rattle.layout_text.proofs.number_in.Statement.{statement}
 use Rattle.layout_text.proofs.number_in.Tie as tie
@@ -22,7 +22,7 @@ number-with-requires : tie.Need-number-with-requires
 number-with-requires c κs = search needs
 
 returns : tie.Need-returns
-returns c = c .number-with .ensures ∙ ap (λ (m : Parsed). numberWith m (c .before .before .before .before .args .part .next)) (c .before .number-of .ensures)
+returns c = c .number-with .ensures ∙ ap (λ (m : Answer ℕ). numberWith m (c .before .before .before .before .args .part .next)) (c .before .number-of .ensures)
 
 pub number-in-spec : {M : Type 1} → statement M
 number-in-spec =

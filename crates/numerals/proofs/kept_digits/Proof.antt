@@ -6,21 +6,20 @@ use Prim.Native.Nat.{ℕ, _-_, _≤_, _<_}
 use native.Mathlib.Omega.{arith}
 use lib.ListN.{length, take, drop, getD}
 use borrow.Author.Needs.{needs}
-use Rattle.value.specs.declared.Number.the-variants.{Bad}
 use Rattle.value.specs.Digits.{isDigit, limit}
-use Rattle.value.specs.Number.{numberOf}
-use Rattle.value.proofs.Answers.{numberOf-capped}
+use Rattle.value.specs.Number.{readIn, unlawful}
+use Rattle.value.proofs.Answers.{numberIn-capped}
 use Rattle.ebcdic.specs.Ebcdic.{fromPage}
 use Rattle.numerals.specs.Numerals.{keptOf}
 use Rattle.numerals.proofs.Reading.{keptFrom, kept-is, kept-high, kept-skip, kept-go, kept-end}
 use Rattle.numerals.proofs.kept_digits.Statement.{statement}
 use Rattle.numerals.proofs.kept_digits.Tie as tie
 
-whole : (page : ℕ) (part : List ℕ) → keptOf false (map (fromPage page) part) ≡ keptFrom (numberOf false) Bad 0 (map (fromPage page) part)
-whole page part = sym (kept-is (numberOf false) Bad (map (fromPage page) part))
+whole : (page : ℕ) (part : List ℕ) → keptOf false (map (fromPage page) part) ≡ keptFrom (readIn limit false) unlawful 0 (map (fromPage page) part)
+whole page part = sym (kept-is (readIn limit false) unlawful (map (fromPage page) part))
 
 abbrev Inv-loop : tie.InvT-loop
-Inv-loop part page size₀ i₀ size i = (i ≤ length part) × (keptFrom (numberOf false) Bad 0 (map (fromPage page) part) ≡ keptFrom (numberOf false) Bad size (map (fromPage page) (drop i part)))
+Inv-loop part page size₀ i₀ size i = (i ≤ length part) × (keptFrom (readIn limit false) unlawful 0 (map (fromPage page) part) ≡ keptFrom (readIn limit false) unlawful size (map (fromPage page) (drop i part)))
 
 abbrev μ-loop : tie.MeasureT-loop
 μ-loop part page size₀ i₀ size i = length part - i
@@ -39,7 +38,7 @@ returns c =
     let here = c .before .before .before .before in
     let a = here .before .before .args in
     let h : 128 ≤ fromPage (a .page) (getD (a .part .now) (here .loop .i) 0) = rw (c .before .from-page .ensures) at (c .if1 .taken) in
-    sym (whole (a .page) (a .part .now) ∙ here .loop .inv .1 ∙ kept-high (numberOf false) Bad (fromPage (a .page)) (a .part .now) (here .loop .i) (here .loop .size) (c .before .before .before .loop-test .taken) h)
+    sym (whole (a .page) (a .part .now) ∙ here .loop .inv .1 ∙ kept-high (readIn limit false) unlawful (fromPage (a .page)) (a .part .now) (here .loop .i) (here .loop .size) (c .before .before .before .loop-test .taken) h)
 
 is-digit-requires : tie.Need-is-digit-requires Inv-loop μ-loop
 is-digit-requires c κs = search needs
@@ -65,7 +64,7 @@ loop-again c =
     let h : fromPage (a .page) (getD (a .part .now) (here .loop .i) 0) < 128 = rw x at (c .before .before .before .before .if1 .left) in (
       omega arith,
       here .loop .inv .1
-          ∙ kept-go (numberOf false) Bad (fromPage (a .page)) (a .part .now) (here .loop .i) (here .loop .size) (read .before .before .loop-test .taken) limit (numberOf-capped false) (c .push-digit .result) h
+          ∙ kept-go (readIn limit false) unlawful (fromPage (a .page)) (a .part .now) (here .loop .i) (here .loop .size) (read .before .before .loop-test .taken) limit (λ n. numberIn-capped 9 limit false n limit (omega arith)) (c .push-digit .result) h
           (ap isDigit (sym x) ∙ sym (c .before .before .before .is-digit .ensures) ∙ c .before .before .if2 .taken) (rw (c .before .digit-in .ensures, x) at (c .push-digit .ensures)),
     )
 
@@ -84,19 +83,19 @@ loop-again-2 c =
     let h : fromPage (a .page) (getD (a .part .now) (here .loop .i) 0) < 128 = rw x at (c .before .before .if1 .left) in (
       omega arith,
       here .loop .inv .1
-          ∙ kept-skip (numberOf false) Bad (fromPage (a .page)) (a .part .now) (here .loop .i) (here .loop .size) (read .before .before .loop-test .taken) h
+          ∙ kept-skip (readIn limit false) unlawful (fromPage (a .page)) (a .part .now) (here .loop .i) (here .loop .size) (read .before .before .loop-test .taken) h
           (ap isDigit (sym x) ∙ sym (c .before .is-digit .ensures) ∙ c .if2 .left),
     )
 
-number-of-requires : tie.Need-number-of-requires Inv-loop μ-loop
-number-of-requires c κs = search needs
+number-in-requires : tie.Need-number-in-requires Inv-loop μ-loop
+number-in-requires c κs = search needs
 
 returns-2 : tie.Need-returns-2 Inv-loop μ-loop
 returns-2 c =
     let here = c .before .before in
     let a = here .before .before .args in
-    c .number-of .ensures
-    ∙ sym (whole (a .page) (a .part .now) ∙ here .loop .inv .1 ∙ kept-end (numberOf false) Bad (fromPage (a .page)) (a .part .now) (here .loop .i) (here .loop .size) (c .before .loop-test .left))
+    c .number-in .ensures
+    ∙ sym (whole (a .page) (a .part .now) ∙ here .loop .inv .1 ∙ kept-end (readIn limit false) unlawful (fromPage (a .page)) (a .part .now) (here .loop .i) (here .loop .size) (c .before .loop-test .left))
 
 pub kept-digits-spec : {M : Type 1} → statement M
 kept-digits-spec =
@@ -117,5 +116,5 @@ kept-digits-spec =
     add-i-2
     loop-less-2
     loop-again-2
-    number-of-requires
+    number-in-requires
     returns-2)

@@ -36,7 +36,12 @@ loop-less : tie.Need-loop-less Inv-loop μ-loop
 loop-less c = search needs
 
 loop-again : tie.Need-loop-again Inv-loop μ-loop
-loop-again c = (omega arith, (simp length-set (c .before .before .before .before .loop .inv .1 .0), written-more (ontoPage (c .before .before .before .before .before .before .args .page)) (c .before .before .before .before .loop .part) (length (c .before .before .before .before .before .before .args .part .now)) (c .before .before .before .before .before .before .args .size) (c .before .before .before .before .loop .i) (c .before .before .before .before .loop .rest) (c .before .digit-on .result) (c .drop-digit .result) (c .before .before .before .loop-test .taken) (c .before .before .before .before .loop .inv .0) (c .before .before .before .before .loop .inv .1 .0) (c .before .before .before .before .loop .inv .1 .1) (rw (c .before .before .last-digit .ensures .0) at (c .before .digit-on .ensures)) (c .drop-digit .ensures)))
+loop-again c =
+    let at-args = c .before .before .before .before .before .before .args in
+    let at-loop = c .before .before .before .before .loop in
+    let at-loop-test = c .before .before .before .loop-test in
+    let at-last-digit = c .before .before .last-digit in
+    (omega arith, (simp length-set (at-loop .inv .1 .0), written-more (ontoPage (at-args .page)) (at-loop .part) (length (at-args .part .now)) (at-args .size) (at-loop .i) (at-loop .rest) (c .before .digit-on .result) (c .drop-digit .result) (at-loop-test .taken) (at-loop .inv .0) (at-loop .inv .1 .0) (at-loop .inv .1 .1) (rw (at-last-digit .ensures .0) at (c .before .digit-on .ensures)) (c .drop-digit .ensures)))
 
 same-length : tie.Need-same-length Inv-loop μ-loop
 same-length c = c .before .loop .inv .1 .0

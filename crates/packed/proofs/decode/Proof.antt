@@ -61,14 +61,14 @@ push-digit-requires c κs = search needs
 is-negative-requires : tie.Need-is-negative-requires Inv-loop μ-loop
 is-negative-requires c κs = search needs
 
-number-of-requires : tie.Need-number-of-requires Inv-loop μ-loop
-number-of-requires c κs = search needs
+number-in-requires : tie.Need-number-in-requires Inv-loop μ-loop
+number-in-requires c κs = search needs
 
 returns-6 : tie.Need-returns-6 Inv-loop μ-loop
 returns-6 c =
     let here = c .before .before .before .before .before .before .before in
     let e : here .loop .i ≡ length (here .before .before .before .args .part .now) - 1 = omega arith in
-    c .number-of .ensures
+    c .number-in .ensures
     ∙ rw (c .before .is-negative .ensures) (read-all _ _ _ (omega arith) (rw e at (here .loop .inv .1)) (c .before .before .before .before .if4 .left) (c .before .before .before .if5 .left) (c .before .before .push-digit .ensures))
 
 pub decode-spec : {M : Type 1} → statement M
@@ -92,5 +92,5 @@ decode-spec =
     returns-5
     push-digit-requires
     is-negative-requires
-    number-of-requires
+    number-in-requires
     returns-6)

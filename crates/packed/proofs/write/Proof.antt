@@ -50,7 +50,12 @@ loop-less : tie.Need-loop-less Inv-loop μ-loop
 loop-less c = search needs
 
 loop-again : tie.Need-loop-again Inv-loop μ-loop
-loop-again c = (omega arith, (simp length-set (c .before .before .before .before .loop .inv .1 .0), written-more (c .before .before .before .before .loop .part) (length (c .before .before .before .before .before .before .before .before .before .args .part .now)) (c .before .before .before .before .before .before .before .before .before .args .size) (c .before .before .before .before .before .before .before .before .before .args .sign) (c .before .before .before .before .loop .i) (c .before .before .before .before .loop .rest) (c .before .before .last-pair .result) (c .before .pair-of2 .result) (c .drop-pair .result) (c .before .before .before .loop-test .taken) (c .before .before .before .before .loop .inv .0) (c .before .before .before .before .loop .inv .1 .0) (c .before .before .before .before .loop .inv .1 .1) (c .before .before .last-pair .ensures .0) (c .before .pair-of2 .ensures) (c .drop-pair .ensures)))
+loop-again c =
+    let at-args = c .before .before .before .before .before .before .before .before .before .args in
+    let at-loop = c .before .before .before .before .loop in
+    let at-loop-test = c .before .before .before .loop-test in
+    let at-last-pair = c .before .before .last-pair in
+    (omega arith, (simp length-set (at-loop .inv .1 .0), written-more (at-loop .part) (length (at-args .part .now)) (at-args .size) (at-args .sign) (at-loop .i) (at-loop .rest) (at-last-pair .result) (c .before .pair-of2 .result) (c .drop-pair .result) (at-loop-test .taken) (at-loop .inv .0) (at-loop .inv .1 .0) (at-loop .inv .1 .1) (at-last-pair .ensures .0) (c .before .pair-of2 .ensures) (c .drop-pair .ensures)))
 
 same-length : tie.Need-same-length Inv-loop μ-loop
 same-length c = c .before .loop .inv .1 .0

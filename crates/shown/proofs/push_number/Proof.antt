@@ -1,7 +1,7 @@
 use mathlib.Core.Path.{sym, ap, _∙_}
 use Prim.Native.Nat.{_-_}
 use lib.ListN.{length}
-use Rattle.text.specs.Shown.{shownOf}
+use Rattle.text.specs.Shown.{shownOf, shownAs}
 use Rattle.text.proofs.Answers.{text-told, room-told, none-told}
 use Rattle.shown.specs.Sink.{state, all}
 use Rattle.shown.proofs.Sinks.{nothing}
@@ -25,7 +25,7 @@ part-t-start c = search needs
 part-t-end : tie.Need-part-t-end
 part-t-end c =
     let d = c .before .before .before .before .display-scalar in
-    room-told (shownOf (c .before .before .before .before .before .before .before .args .v)) (c .before .before .n .given .0 .0) _ (d .last .1 .0) (sym (c .before .before .n .given .1) ∙ d .ensures .0) (d .ensures .1 .0)
+    room-told (shownOf (c .before .before .before .before .before .before .before .args .v)) (c .before .before .n .given .0 .0) _ (d .last .1 .0) (sym (ap shownAs (c .before .before .n .given .1)) ∙ d .ensures .0) (d .ensures .1 .0)
 
 push-all-requires : tie.Need-push-all-requires
 push-all-requires c κs = search needs
@@ -36,13 +36,13 @@ same-length c = search needs
 returns : tie.Need-returns
 returns c =
     let d = c .before .before .before .before .before .before .before .before .before .display-scalar in
-    c .before .before .push-all .ensures ∙ ap (all (state (c .before .before .before .before .before .before .before .before .before .before .before .before .args .out .now) (c .before .before .before .before .before .before .before .before .before .before .before .before .args .s))) (number-told (c .before .before .before .before .before .before .before .before .before .before .before .before .args .v) _ (text-told (shownOf (c .before .before .before .before .before .before .before .before .before .before .before .before .args .v)) (c .before .before .before .before .before .before .before .n .given .0 .0) _ (d .last .1 .0) (sym (c .before .before .before .before .before .before .before .n .given .1) ∙ d .ensures .0) (d .ensures .1 .0)))
+    c .before .before .push-all .ensures ∙ ap (all (state (c .before .before .before .before .before .before .before .before .before .before .before .before .args .out .now) (c .before .before .before .before .before .before .before .before .before .before .before .before .args .s))) (number-told (c .before .before .before .before .before .before .before .before .before .before .before .before .args .v) _ (text-told (shownOf (c .before .before .before .before .before .before .before .before .before .before .before .before .args .v)) (c .before .before .before .before .before .before .before .n .given .0 .0) _ (d .last .1 .0) (sym (ap shownAs (c .before .before .before .before .before .before .before .n .given .1)) ∙ d .ensures .0) (d .ensures .1 .0)))
 
 enum-told : tie.Need-enum-told
 enum-told c = search needs
 
 returns-2 : tie.Need-returns-2
-returns-2 c = nothing (c .before .before .before .before .before .args .out .now) (c .before .before .before .before .before .args .s) ∙ ap (all (state (c .before .before .before .before .before .args .out .now) (c .before .before .before .before .before .args .s))) (number-none (c .before .before .before .before .before .args .v) (none-told (shownOf (c .before .before .before .before .before .args .v)) (sym (c .enum-told .given .1) ∙ c .before .before .display-scalar .ensures .0)))
+returns-2 c = nothing (c .before .before .before .before .before .args .out .now) (c .before .before .before .before .before .args .s) ∙ ap (all (state (c .before .before .before .before .before .args .out .now) (c .before .before .before .before .before .args .s))) (number-none (c .before .before .before .before .before .args .v) (none-told (shownOf (c .before .before .before .before .before .args .v)) (sym (ap shownAs (c .enum-told .given .1)) ∙ c .before .before .display-scalar .ensures .0)))
 
 pub push-number-spec : {M : Type 1} → statement M
 push-number-spec =

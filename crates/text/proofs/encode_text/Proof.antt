@@ -1,7 +1,7 @@
-use mathlib.Core.Path.{_≡_, refl, sym, _∙_}
+use mathlib.Core.Path.{_≡_, refl, sym, ap, _∙_}
 use Prim.Native.Nat.{_-_}
 use lib.ListN.{length, take}
-use Rattle.text.specs.Shown.{shows, none, shownOf, textIn}
+use Rattle.text.specs.Shown.{shownAs, shows, none, shownOf, textIn}
 use Rattle.text.proofs.Answers.{text-told, room-told, none-told, own-text, other-text}
 use borrow.Author.Needs.{needs}
 use Rattle.text.proofs.encode_text.Statement.{statement}
@@ -37,7 +37,7 @@ part-t-start c = search needs
 part-t-end : tie.Need-part-t-end
 part-t-end c =
     let d = c .before .before .before .before .display-scalar in
-    room-told (shownOf (c .before .before .before .before .before .before .before .before .before .before .args .v)) (c .before .before .n .given .0 .0) _ (d .last .1 .0) (sym (c .before .before .n .given .1) ∙ d .ensures .0) (d .ensures .1 .0)
+    room-told (shownOf (c .before .before .before .before .before .before .before .before .before .before .args .v)) (c .before .before .n .given .0 .0) _ (d .last .1 .0) (sym (ap shownAs (c .before .before .n .given .1)) ∙ d .ensures .0) (d .ensures .1 .0)
 
 put-fitting-requires-2 : tie.Need-put-fitting-requires-2
 put-fitting-requires-2 c κs = search needs
@@ -51,7 +51,7 @@ returns-2 c =
     let d = c .before .before .before .before .before .before .before .before .before .display-scalar in
     let e : textIn (a .v) (a .text .now) ≡ shows (take (c .before .before .before .before .before .before .before .n .given .0 .0 - 0) (d .last .1 .0)) =
     other-text (a .v) (a .text .now) (sym (c .before .before .before .before .before .before .before .before .before .before .before .before .is-text .ensures) ∙ c .before .before .before .before .before .before .before .before .before .before .before .if1 .left)
-    ∙ text-told (shownOf (a .v)) (c .before .before .before .before .before .before .before .n .given .0 .0) _ (d .last .1 .0) (sym (c .before .before .before .before .before .before .before .n .given .1) ∙ d .ensures .0) (d .ensures .1 .0) in
+    ∙ text-told (shownOf (a .v)) (c .before .before .before .before .before .before .before .n .given .0 .0) _ (d .last .1 .0) (sym (ap shownAs (c .before .before .before .before .before .before .before .n .given .1)) ∙ d .ensures .0) (d .ensures .1 .0) in
     rw e (c .before .before .put-fitting2 .ensures)
 
 enum-told : tie.Need-enum-told
@@ -62,7 +62,7 @@ returns-3 c =
     let a = c .before .before .before .before .before .before .before .before .args in
     let e : textIn (a .v) (a .text .now) ≡ none =
     other-text (a .v) (a .text .now) (sym (c .before .before .before .before .before .is-text .ensures) ∙ c .before .before .before .before .if1 .left)
-    ∙ none-told (shownOf (a .v)) (sym (c .enum-told .given .1) ∙ c .before .before .display-scalar .ensures .0) in
+    ∙ none-told (shownOf (a .v)) (sym (ap shownAs (c .enum-told .given .1)) ∙ c .before .before .display-scalar .ensures .0) in
     rw e (refl, refl)
 
 pub encode-text-spec : {M : Type 1} → statement M

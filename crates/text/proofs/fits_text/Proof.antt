@@ -1,7 +1,7 @@
 use mathlib.Core.Path.{_≡_, refl, sym, ap, _∙_}
 use Prim.Native.Nat.{_-_}
 use lib.ListN.{take}
-use Rattle.text.specs.Shown.{shows, none, shownOf, textIn, refusalAt}
+use Rattle.text.specs.Shown.{shownAs, shows, none, shownOf, textIn, refusalAt}
 use Rattle.text.proofs.Answers.{refusal-told, none-told, own-text, other-text}
 use borrow.Author.Needs.{needs}
 use Rattle.text.proofs.fits_text.Statement.{statement}
@@ -32,7 +32,7 @@ returns-2 : tie.Need-returns-2
 returns-2 c =
     let a = c .before .before .before .before .before .before .before .before .before .args in
     c .fits3 .ensures
-    ∙ refusal-told (shownOf (a .v)) (c .before .before .n .given .0 .0) (a .width) (sym (c .before .before .n .given .1) ∙ c .before .before .before .before .display-scalar .ensures .0)
+    ∙ refusal-told (shownOf (a .v)) (c .before .before .n .given .0 .0) (a .width) (sym (ap shownAs (c .before .before .n .given .1)) ∙ c .before .before .before .before .display-scalar .ensures .0)
     ∙ ap (refusalAt (a .width)) (sym (other-text (a .v) (a .text .now) (sym (c .before .before .before .before .before .before .before .is-text .ensures) ∙ c .before .before .before .before .before .before .if1 .left)))
 
 enum-told : tie.Need-enum-told
@@ -43,7 +43,7 @@ returns-3 c =
     let a = c .before .before .before .before .before .before .before .args in
     let e : textIn (a .v) (a .text .now) ≡ none =
     other-text (a .v) (a .text .now) (sym (c .before .before .before .before .before .is-text .ensures) ∙ c .before .before .before .before .if1 .left)
-    ∙ none-told (shownOf (a .v)) (sym (c .enum-told .given .1) ∙ c .before .before .display-scalar .ensures .0) in
+    ∙ none-told (shownOf (a .v)) (sym (ap shownAs (c .enum-told .given .1)) ∙ c .before .before .display-scalar .ensures .0) in
     rw e refl
 
 pub fits-text-spec : {M : Type 1} → statement M

@@ -1,6 +1,8 @@
+-- A number is given the sign; a refusal stays.
 use mathlib.Core.Path.{sym, ap, _∙_}
 use Prim.Native.Nat.{_-_}
-use Rattle.value.specs.Number.{withSign}
+use Rattle.value.specs.Number.{withSign, readAs}
+use Rattle.value.specs.declared.Number.{Number}
 use borrow.Author.Needs.{needs}
 use Rattle.value.proofs.with_sign.Statement.{statement}
 use Rattle.value.proofs.with_sign.Tie as tie
@@ -18,7 +20,7 @@ enum-told-2 : tie.Need-enum-told-2
 enum-told-2 c = search needs
 
 returns : tie.Need-returns
-returns c = c .signed-size .ensures ∙ sym (ap (withSign (c .before .before .before .before .args .negative)) (c .before .before .n .given .1))
+returns c = c .signed-size .ensures 8 9 ∙ sym (ap (λ (m : Number). withSign (c .before .before .before .before .args .negative) (readAs m)) (c .before .before .n .given .1))
 
 returns-2 : tie.Need-returns-2
 returns-2 c = search needs

@@ -6,8 +6,7 @@ use Prim.Native.Nat.{ℕ, _≤_, _<_}
 use lib.Dec.{eqb, leb}
 use borrow.Author.Tests.{eq-eqb, ne-eqb, le-leb, lt-leb}
 use Rattle.layout.specs.Layout.{layoutAsks, recordLength}
-use Rattle.walks.specs.Records.{most, recordAsks}
-use Rattle.decode.specs.Asked.{askedOf}
+use Rattle.walks.specs.Records.{most, recordAsks, readerAsks}
 
 -- the record's own
 module _ (l : List ℕ) (bytes : ℕ) (deps : Bool) where
@@ -27,10 +26,8 @@ module _ (l : List ℕ) (bytes : ℕ) (deps : Bool) where
 
 -- behind the layout's
 module _ (l masks : List ℕ) (page bytes work : ℕ) (deps : Bool) (c : ℕ) (p : c ≡ layoutAsks l masks page work) where
-  pub asked-layout : (c ≡ 0 → ⊥) → c ≡ askedOf l masks page bytes work deps
-  unfolding askedOf
+  pub asked-layout : (c ≡ 0 → ⊥) → c ≡ readerAsks l masks page bytes work deps
   asked-layout n = rw (← p, ne-eqb c 0 n) refl
 
-  pub asked-record : c ≡ 0 → (r : ℕ) → r ≡ recordAsks l bytes deps → r ≡ askedOf l masks page bytes work deps
-  unfolding askedOf
+  pub asked-record : c ≡ 0 → (r : ℕ) → r ≡ recordAsks l bytes deps → r ≡ readerAsks l masks page bytes work deps
   asked-record z r q = q ∙ sym (rw (← p, eq-eqb c 0 z) refl)

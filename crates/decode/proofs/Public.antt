@@ -13,15 +13,14 @@ use Rattle.layout.specs.Layout.{workFor, entries, checkedOf, recordLength, depe
 use Rattle.layout.proofs.Laws.{asked-lawful}
 use Rattle.walks.specs.Kinds.{State, start, kinds}
 use Rattle.walks.specs.Reading as R
-use Rattle.walks.specs.Records.{Decoded, refused, decoded, most, outcome, decodeRecord, RecordRead, asking, recordAsks}
-use Rattle.walks.proofs.Asked.{asking-both, asking-none, asking-some, both-passed}
+use Rattle.positions.specs.Positions.{satSum}
+use Rattle.walks.specs.Records.{Decoded, refused, decoded, most, outcome, decodeRecord, RecordRead, asking, recordAsks, readerAsks}
+use Rattle.walks.proofs.Asked.{asking-none, asking-some, both-passed}
 use Rattle.decode_leaf.specs.declared.Out.{Out}
 use Rattle.decode_leaf.specs.Machine.{Held, kept}
-use Rattle.decode_leaf.specs.Capped as C
-use Rattle.decode_walk.proofs.Stands.{stands-none}
-use Rattle.decode_walk.proofs.Alike.{Alike, both-refused, both-read, level}
-use Rattle.decode_walk.proofs.Joined.{Rel, joined}
-use Rattle.decode.specs.Asked.{askedOf}
+use Rattle.decode_leaf.proofs.Stands.{stands-none}
+use Rattle.walks.proofs.Alike.{Alike, both-refused, both-read, level}
+use Rattle.decode_leaf.proofs.Joined.{Rel, joined}
 
 -- ---- outcomes that are alike
 
@@ -48,14 +47,14 @@ module _ (l masks : List ℕ) (page : ℕ) (bytes : List ℕ) (items text work :
   Whole = decodeRecord l masks page bytes items text work
 
   abbrev Walk : R.Outcome State
-  Walk = R.seq (kinds masks page [] text) bytes (entries l) 0 0 items start
+  Walk = R.seq _+_ (kinds masks page [] text) bytes (entries l) 0 0 items start
 
   abbrev Number : ℕ
-  Number = askedOf l masks page (length bytes) work deps
+  Number = readerAsks l masks page (length bytes) work deps
 
   asked-is : Whole ≡ asking refused Number (outcome Walk)
-  unfolding decodeRecord askedOf
-  asked-is = rw (← d) (asking-both refused (outcome Walk) (layoutAsks l masks page work) (recordAsks l (length bytes) deps))
+  unfolding decodeRecord
+  asked-is = rw (← d) refl
 
   module _ (n : ℕ) (p : n ≡ Number) where
     pub not-asked : (n ≡ 0 → ⊥) → Whole ≡ refused n
@@ -66,7 +65,6 @@ module _ (l masks : List ℕ) (page : ℕ) (bytes : List ℕ) (items text work :
       walk-is = asked-is ∙ asking-none refused (outcome Walk) Number (sym p ∙ z)
 
       passed : (layoutAsks l masks page work ≡ 0) × (recordAsks l (length bytes) deps ≡ 0)
-      unfolding askedOf
       passed = both-passed (layoutAsks l masks page work) (recordAsks l (length bytes) deps) (sym p ∙ z)
 
       pub not-long : length bytes ≤ most
@@ -81,13 +79,13 @@ module _ (l masks : List ℕ) (page : ℕ) (bytes : List ℕ) (items text work :
 
       -- only a layout with depending looks at the counts
       module _ (run before : List ℤ) (started : run ≡ cond deps (replicate work (pos 0)) before) where
-        alike : Alike (Rel l masks page text deps) (level (Rel l masks page text deps) 8) (C.seq (kept l page text deps) bytes (entries l) 0 0 items (record { run = run; text = [] })) Walk
+        alike : Alike (Rel l masks page text deps) (level (Rel l masks page text deps) 8) (R.seq satSum (kept l page text deps) bytes (entries l) 0 0 items (record { run = run; text = [] })) Walk
         alike = joined l masks page text deps (layout-lawful .0) d bytes not-long items run (λ q. rw (started, q) (stands-none l work (layout-lawful .1)))
 
-        pub walk-refused : (m : ℕ) → C.seq (kept l page text deps) bytes (entries l) 0 0 items (record { run = run; text = [] }) ≡ R.refused m → Whole ≡ refused m
+        pub walk-refused : (m : ℕ) → R.seq satSum (kept l page text deps) bytes (entries l) 0 0 items (record { run = run; text = [] }) ≡ R.refused m → Whole ≡ refused m
         walk-refused m e = walk-is ∙ alike-refused alike m e
 
-        pub walk-read : (ws : List ℕ) (m t : ℕ) (s : Held) → C.seq (kept l page text deps) bytes (entries l) 0 0 items (record { run = run; text = [] }) ≡ R.read ws m t s → Whole ≡ decoded ws (s .text)
+        pub walk-read : (ws : List ℕ) (m t : ℕ) (s : Held) → R.seq satSum (kept l page text deps) bytes (entries l) 0 0 items (record { run = run; text = [] }) ≡ R.read ws m t s → Whole ≡ decoded ws (s .text)
         walk-read ws m t s e = walk-is ∙ alike-read alike (λ t s r. r .1) ws m t s e
 
 -- ---- the answers and the buffers

@@ -7,15 +7,16 @@ use native.Mathlib.Omega.{arith}
 use lib.Dec.{eqb}
 use lib.IntN.{ℤ}
 use lib.ListN.{length, take, drop, length-drop, length-take, drop-of-length-le}
-use lib.Seq.{length-take-le, drop-append-le}
+use lib.Seq.{length-take-le, drop-append-le, take-nil, take-append-add}
 use Rattle.layout.specs.declared.Entry.{Entry}
-use Rattle.layout.specs.Layout.{entryAt, part, reservedWidth}
+use Rattle.layout.specs.Layout.{entryAt, part, reservedWidth, unrepeated}
 use Rattle.spans.specs.Tree.{endOf}
-use Rattle.walks.specs.Walk.{single, Codec}
-use Rattle.walks.specs.Reading.{Outcome, refused, read, Reader, wrap, one, follow}
+use Rattle.walks.specs.Walk.{Codec}
+use Rattle.items.specs.Items.{itemWords, itemCount, wordsOf, header}
+use Rattle.walks.specs.Reading.{Outcome, refused, read, Reader, withHeader, one, thenEntry, thenElement, field, seq}
 use Rattle.walks.proofs.Single.{single-reserves}
 use Rattle.decode_leaf.specs.declared.Out.{Out}
-use Rattle.decode_leaf.specs.Capped.{sat, behind, field, seq}
+use Rattle.positions.specs.Positions.{satSum, sat}
 use Rattle.decode_leaf.specs.Machine.{Held, out, state, leafAt, Fine, Met}
 use Rattle.decode_leaf.proofs.Meets.{refuse, fine}
 use Rattle.decode.proofs.Steps.{follow-none, follow-end, follow-follow, behind-none, behind-end, behind-behind, seq-end, seq-refused, seq-read, turns, turns-end, turns-refused, turns-empty, turns-read, leaf-takes}
@@ -60,8 +61,8 @@ ap₃ f p q r = λ i. f (p i) (q i) (r i)
 -- ---- the loop of a sequence: K gives the codec for a text buffer of so many bytes
 
 pub record SeqInv (K : ℕ → Codec Held) (r l i₀ t₀ : List ℕ) (c₀ : List ℤ) (lo hi base told : ℕ) (items text : List ℕ) (counts : List ℤ) (i used members shift far told₁ : ℕ) : Type 0 where
-  pub whole : seq (K (length t₀)) r (part l lo hi) base 0 (length i₀) (state c₀ told t₀)
-      ≡ follow (take used items) members far (seq (K (length t₀)) r (part l i hi) base shift (length i₀ - used) (state counts told₁ text))
+  pub whole : seq satSum (K (length t₀)) r (part l lo hi) base 0 (length i₀) (state c₀ told t₀)
+      ≡ thenEntry (take used items) members far (seq satSum (K (length t₀)) r (part l i hi) base shift (length i₀ - used) (state counts told₁ text))
   pub written : Written i₀ items used
   pub texts : length text ≡ length t₀
   pub kept : length counts ≡ length c₀
@@ -72,7 +73,7 @@ pub record SeqInv (K : ℕ → Codec Held) (r l i₀ t₀ : List ℕ) (c₀ : Li
 
 pub seq-starts : (K : ℕ → Codec Held) (r l i₀ t₀ : List ℕ) (c₀ : List ℤ) (lo hi base told : ℕ) → told ≤ length t₀ → SeqInv K r l i₀ t₀ c₀ lo hi base told i₀ t₀ c₀ lo 0 0 0 0 told
 seq-starts K r l i₀ t₀ c₀ lo hi base told h = record {
-  whole = (let z : length i₀ - 0 ≡ length i₀ = omega arith in follow-none (seq (K (length t₀)) r (part l lo hi) base 0 (length i₀) (state c₀ told t₀)) ∙ ap (λ n. follow [] 0 0 (seq (K (length t₀)) r (part l lo hi) base 0 n (state c₀ told t₀))) (sym z));
+  whole = (let z : length i₀ - 0 ≡ length i₀ = omega arith in follow-none (seq satSum (K (length t₀)) r (part l lo hi) base 0 (length i₀) (state c₀ told t₀)) ∙ ap (λ n. thenEntry [] 0 0 (seq satSum (K (length t₀)) r (part l lo hi) base 0 n (state c₀ told t₀))) (sym z));
   written = record { within = omega arith; same = refl };
   texts = refl;
   kept = refl;
@@ -85,11 +86,11 @@ seq-starts K r l i₀ t₀ c₀ lo hi base told h = record {
 module _ {K : ℕ → Codec Held} {r l i₀ t₀ : List ℕ} {c₀ : List ℤ} {lo hi base told : ℕ} {items text : List ℕ} {counts : List ℤ} {i used members shift far told₁ : ℕ}
     (v : SeqInv K r l i₀ t₀ c₀ lo hi base told items text counts i used members shift far told₁) where
   abbrev Seq-whole : Outcome Held
-  Seq-whole = seq (K (length t₀)) r (part l lo hi) base 0 (length i₀) (state c₀ told t₀)
+  Seq-whole = seq satSum (K (length t₀)) r (part l lo hi) base 0 (length i₀) (state c₀ told t₀)
 
   pub seq-done : hi ≤ i → Met Seq-whole (out used members far told₁) items text counts
   seq-done h = fine (record {
-    is = v .whole ∙ ap (follow (take used items) members far) (seq-end (K (length t₀)) r l i hi base shift (length i₀ - used) (state counts told₁ text) h) ∙ follow-end (take used items) members far (state counts told₁ text);
+    is = v .whole ∙ ap (thenEntry (take used items) members far) (seq-end (K (length t₀)) r l i hi base shift (length i₀ - used) (state counts told₁ text) h) ∙ follow-end (take used items) members far (state counts told₁ text);
     within = omega (arith, v .written .within, v .written .same);
     told = v .fits;
     few = v .few;
@@ -98,14 +99,14 @@ module _ {K : ℕ → Codec Held} {r l i₀ t₀ : List ℕ} {c₀ : List ℤ} {
   module _ (e : Entry) (en off at : ℕ) (h : i < hi) (p : e ≡ entryAt l i) (q : en ≡ endOf (e .span) i hi) (o1 : off ≡ sat (e .offset + shift)) (o2 : at ≡ sat (base + off))
       (ys : List ℕ) (same : length ys ≡ length (tail items used)) where
     abbrev pub called : Outcome Held
-    called = field (K (length text)) r e (λ b n s. seq (K (length text)) r (part l (i + 1) en) b 0 n s) at (length (tail items used)) (state counts told₁ text)
+    called = field satSum (K (length text)) r e (λ b n s. seq satSum (K (length text)) r (part l (i + 1) en) b 0 n s) at (length (tail items used)) (state counts told₁ text)
 
-    called-is : called ≡ field (K (length t₀)) r e (λ b n s. seq (K (length t₀)) r (part l (i + 1) en) b 0 n s) (sat (base + sat (e .offset + shift))) (length i₀ - used) (state counts told₁ text)
-    called-is = ap₃ (λ m a n. field (K m) r e (λ b n s. seq (K m) r (part l (i + 1) en) b 0 n s) a n (state counts told₁ text))
+    called-is : called ≡ field satSum (K (length t₀)) r e (λ b n s. seq satSum (K (length t₀)) r (part l (i + 1) en) b 0 n s) (sat (base + sat (e .offset + shift))) (length i₀ - used) (state counts told₁ text)
+    called-is = ap₃ (λ m a n. field satSum (K m) r e (λ b n s. seq satSum (K m) r (part l (i + 1) en) b 0 n s) a n (state counts told₁ text))
         (v .texts) (o2 ∙ ap (λ x. sat (base + x)) o1) (room-left (v .written) ys same)
 
     pub seq-stops : (n : ℕ) → called ≡ refused n → Seq-whole ≡ refused n
-    seq-stops n f = v .whole ∙ ap (follow (take used items) members far)
+    seq-stops n f = v .whole ∙ ap (thenEntry (take used items) members far)
         (seq-refused (K (length t₀)) r l i hi base shift (length i₀ - used) (state counts told₁ text) e en h p q n (sym called-is ∙ f))
 
     module _ (o : Out) (text′ : List ℕ) (counts′ : List ℤ) (f : Fine called o ys text′ counts′) where
@@ -122,12 +123,12 @@ module _ {K : ℕ → Codec Held} {r l i₀ t₀ : List ℕ} {c₀ : List ℤ} {
           let z : length i₀ - used - length (take (o .used) ys) ≡ length i₀ - (used + o .used) = omega (arith, length-take-le (o .used) ys (f .within)) in
           record {
             whole = v .whole
-                ∙ ap (follow (take used items) members far) (seq-read (K (length t₀)) r l i hi base shift (length i₀ - used) (state counts told₁ text) e en h p q (take (o .used) ys) (o .members) (o .taken) (state counts′ (o .told) text′) (sym called-is ∙ f .is))
+                ∙ ap (thenEntry (take used items) members far) (seq-read (K (length t₀)) r l i hi base shift (length i₀ - used) (state counts told₁ text) e en h p q (take (o .used) ys) (o .members) (o .taken) (state counts′ (o .told) text′) (sym called-is ∙ f .is))
                 ∙ follow-follow (take used items) (take (o .used) ys) members (o .members) far (sat (sat (e .offset + shift) + o .taken))
-                (seq (K (length t₀)) r (part l en hi) base (sat (shift + (o .taken - reservedWidth e))) (length i₀ - used - length (take (o .used) ys)) (state counts′ (o .told) text′))
-                ∙ ap₂ (λ ws x. follow ws (members + o .members) x (seq (K (length t₀)) r (part l en hi) base (sat (shift + (o .taken - reservedWidth e))) (length i₀ - used - length (take (o .used) ys)) (state counts′ (o .told) text′)))
+                (seq satSum (K (length t₀)) r (part l en hi) base (sat (shift + (o .taken - reservedWidth e))) (length i₀ - used - length (take (o .used) ys)) (state counts′ (o .told) text′))
+                ∙ ap₂ (λ ws x. thenEntry ws (members + o .members) x (seq satSum (K (length t₀)) r (part l en hi) base (sat (shift + (o .taken - reservedWidth e))) (length i₀ - used - length (take (o .used) ys)) (state counts′ (o .told) text′)))
                 (sym (returned-take (v .written) ys same (o .used))) (sym (further r4 r5))
-                ∙ ap₂ (λ x y. follow (take (used + o .used) (returned items used ys)) (members + o .members) far′ (seq (K (length t₀)) r (part l en hi) base x y (state counts′ (o .told) text′)))
+                ∙ ap₂ (λ x y. thenEntry (take (used + o .used) (returned items used ys)) (members + o .members) far′ (seq satSum (K (length t₀)) r (part l en hi) base x y (state counts′ (o .told) text′)))
                 (sym (grown r1 r2 r3)) z;
             written = returned-written (v .written) ys same (o .used) (f .within);
             texts = ht ∙ v .texts;
@@ -139,7 +140,7 @@ module _ {K : ℕ → Codec Held} {r l i₀ t₀ : List ℕ} {c₀ : List ℤ} {
           }
 
       -- one scalar or Pad takes its reserved bytes, and the shift stays
-      pub seq-passes : single e ≡ true → called ≡ leafAt (K (length text)) r e (e .name) true at (length (tail items used)) (state counts told₁ text)
+      pub seq-passes : unrepeated e ≡ true → called ≡ leafAt (K (length text)) r e (e .name) true at (length (tail items used)) (state counts told₁ text)
           → (end′ far′ : ℕ) → length text′ ≡ length text → length counts′ ≡ length counts → end′ ≡ sat (off + o .taken) → far′ ≡ max far end′
           → SeqInv K r l i₀ t₀ c₀ lo hi base told (returned items used ys) text′ counts′ en (used + o .used) (members + o .members) shift far′ (o .told)
       seq-passes sg q end′ far′ ht hc r4 r5 =
@@ -150,7 +151,7 @@ module _ {K : ℕ → Codec Held} {r l i₀ t₀ : List ℕ} {c₀ : List ℤ} {
 
 pub record TurnsInv (once : Bool) (F : ℕ → Reader Held) (i₀ t₀ : List ℕ) (c₀ : List ℤ) (n at told head : ℕ) (items text : List ℕ) (counts : List ℤ) (k used members place taken told₁ : ℕ) : Type 0 where
   pub whole : turns once (F (length t₀)) n at (length i₀ - head) (state c₀ told t₀)
-      ≡ behind (drop head (take used items)) members taken (turns once (F (length t₀)) (n - k) place (length i₀ - used) (state counts told₁ text))
+      ≡ thenElement satSum (drop head (take used items)) members taken (turns once (F (length t₀)) (n - k) place (length i₀ - used) (state counts told₁ text))
   pub written : Written i₀ items used
   pub texts : length text ≡ length t₀
   pub kept : length counts ≡ length c₀
@@ -165,7 +166,7 @@ pub turns-starts : (once : Bool) (F : ℕ → Reader Held) (i₀ t₀ : List ℕ
     → TurnsInv once F i₀ t₀ c₀ n at told head i₀ t₀ c₀ 0 head 0 at 0 told
 turns-starts once F i₀ t₀ c₀ n at told head h g = record {
   whole = (let z : n ≡ n - 0 = omega arith in behind-none once (F (length t₀)) n at (length i₀ - head) (state c₀ told t₀)
-      ∙ ap₂ (λ ws m. behind ws 0 0 (turns once (F (length t₀)) m at (length i₀ - head) (state c₀ told t₀))) (sym (drop-take head i₀)) z);
+      ∙ ap₂ (λ ws m. thenElement satSum ws 0 0 (turns once (F (length t₀)) m at (length i₀ - head) (state c₀ told t₀))) (sym (drop-take head i₀)) z);
   written = record { within = g; same = refl };
   texts = refl;
   kept = refl;
@@ -180,7 +181,7 @@ module _ {once : Bool} {F : ℕ → Reader Held} {i₀ t₀ : List ℕ} {c₀ : 
   Turns-whole = turns once (F (length t₀)) n at (length i₀ - head) (state c₀ told t₀)
 
   pub turns-done : n ≤ k → Turns-whole ≡ read (drop head (take used items)) members taken (state counts told₁ text)
-  turns-done h = v .whole ∙ ap (behind (drop head (take used items)) members taken) (turns-end once (F (length t₀)) n k place (length i₀ - used) (state counts told₁ text) h)
+  turns-done h = v .whole ∙ ap (thenElement satSum (drop head (take used items)) members taken) (turns-end once (F (length t₀)) n k place (length i₀ - used) (state counts told₁ text) h)
       ∙ behind-end (drop head (take used items)) members taken (state counts told₁ text) (v .capped)
 
   module _ (h : k < n) (ys : List ℕ) (same : length ys ≡ length (tail items used)) where
@@ -191,11 +192,11 @@ module _ {once : Bool} {F : ℕ → Reader Held} {i₀ t₀ : List ℕ} {c₀ : 
     element-is = ap₂ (λ m x. F m place x (state counts told₁ text)) (v .texts) (room-left (v .written) ys same)
 
     pub turns-stop : (m : ℕ) → Element ≡ refused m → Turns-whole ≡ refused m
-    turns-stop m e = v .whole ∙ ap (behind (drop head (take used items)) members taken) (turns-refused once (F (length t₀)) n k place (length i₀ - used) (state counts told₁ text) h m (sym element-is ∙ e))
+    turns-stop m e = v .whole ∙ ap (thenElement satSum (drop head (take used items)) members taken) (turns-refused once (F (length t₀)) n k place (length i₀ - used) (state counts told₁ text) h m (sym element-is ∙ e))
 
     module _ (o : Out) (text′ : List ℕ) (counts′ : List ℤ) (f : Fine Element o ys text′ counts′) (b : Bool) (p : b ≡ (not once && eqb (o .taken) 0)) where
       pub turns-nothing : b ≡ true → Turns-whole ≡ refused 10
-      turns-nothing z = v .whole ∙ ap (behind (drop head (take used items)) members taken)
+      turns-nothing z = v .whole ∙ ap (thenElement satSum (drop head (take used items)) members taken)
           (turns-empty once (F (length t₀)) n k place (length i₀ - used) (state counts told₁ text) h (take (o .used) ys) (o .members) (o .taken) (state counts′ (o .told) text′) (sym element-is ∙ f .is) b p z)
 
       head-in : head ≤ length (take used items)
@@ -211,12 +212,12 @@ module _ {once : Bool} {F : ℕ → Reader Held} {i₀ t₀ : List ℕ} {c₀ : 
           let y : length i₀ - used - length (take (o .used) ys) ≡ length i₀ - (used + o .used) = omega (arith, length-take-le (o .used) ys (f .within)) in
           record {
             whole = v .whole
-                ∙ ap (behind (drop head (take used items)) members taken)
+                ∙ ap (thenElement satSum (drop head (take used items)) members taken)
                 (turns-read once (F (length t₀)) n k place (length i₀ - used) (state counts told₁ text) h (take (o .used) ys) (o .members) (o .taken) (state counts′ (o .told) text′) (sym element-is ∙ f .is) b p z)
                 ∙ behind-behind (drop head (take used items)) (take (o .used) ys) members (o .members) taken (o .taken)
                 (turns once (F (length t₀)) (n - (k + 1)) (sat (place + o .taken)) (length i₀ - used - length (take (o .used) ys)) (state counts′ (o .told) text′))
-                ∙ ap₂ (λ ws x. behind ws (members + o .members) x (turns once (F (length t₀)) (n - (k + 1)) (sat (place + o .taken)) (length i₀ - used - length (take (o .used) ys)) (state counts′ (o .told) text′))) words (sym r2)
-                ∙ ap₂ (λ x w. behind (drop head (take (used + o .used) (returned items used ys))) (members + o .members) taken′ (turns once (F (length t₀)) (n - (k + 1)) x w (state counts′ (o .told) text′))) (sym r1) y;
+                ∙ ap₂ (λ ws x. thenElement satSum ws (members + o .members) x (turns once (F (length t₀)) (n - (k + 1)) (sat (place + o .taken)) (length i₀ - used - length (take (o .used) ys)) (state counts′ (o .told) text′))) words (sym r2)
+                ∙ ap₂ (λ x w. thenElement satSum (drop head (take (used + o .used) (returned items used ys))) (members + o .members) taken′ (turns once (F (length t₀)) (n - (k + 1)) x w (state counts′ (o .told) text′))) (sym r1) y;
             written = returned-written (v .written) ys same (o .used) (f .within);
             texts = ht ∙ v .texts;
             kept = hc ∙ v .kept;
@@ -227,38 +228,37 @@ module _ {once : Bool} {F : ℕ → Reader Held} {i₀ t₀ : List ℕ} {c₀ : 
 
 -- ---- the items of Lists and Structs
 
--- the words behind an item's own four
-module _ (name tag members used : ℕ) (xs : List ℕ) (h : 4 ≤ used) (g : used ≤ length xs) where
-  four-more : used ≡ suc (suc (suc (suc (used - 4))))
-  four-more = omega arith
+-- behind the first k of k + n words
+drop-taken : (k n : ℕ) (ys : List ℕ) → drop k (take (k + n) ys) ≡ take n (drop k ys)
+drop-taken zero n ys = let z : 0 + n ≡ n = omega arith in ap (λ m. take m ys) z
+drop-taken (suc k) n [] = let z : suc k + n ≡ suc (k + n) = omega arith in ap (λ m. drop (suc k) (take m [])) z ∙ sym (take-nil n)
+drop-taken (suc k) n (y ∷ ys) = let z : suc k + n ≡ suc (k + n) = omega arith in ap (λ m. drop (suc k) (take m (y ∷ ys))) z ∙ drop-taken k n ys
 
-  take-head : take used (name ∷ tag ∷ members ∷ (used / 4) ∷ drop 4 xs) ≡ name ∷ tag ∷ members ∷ (used / 4) ∷ take (used - 4) (drop 4 xs)
-  take-head = ap (λ n. take n (name ∷ tag ∷ members ∷ (used / 4) ∷ drop 4 xs)) four-more
+-- the words of a header and those behind it
+module _ (name tag members used : ℕ) (xs : List ℕ) (h : itemWords ≤ used) (g : used ≤ length xs) where
+  abbrev Head : ℕ → List ℕ
+  Head span = wordsOf (header name tag members span)
 
-  behind-head : drop 4 (take used xs) ≡ take (used - 4) (drop 4 xs)
-  behind-head = ap (λ n. drop 4 (take n xs)) four-more ∙ go xs (used - 4)
-    where
-      go : (ys : List ℕ) (n : ℕ) → drop 4 (take (suc (suc (suc (suc n)))) ys) ≡ take n (drop 4 ys)
-      go [] zero = refl
-      go [] (suc n) = refl
-      go (a ∷ []) zero = refl
-      go (a ∷ []) (suc n) = refl
-      go (a ∷ b ∷ []) zero = refl
-      go (a ∷ b ∷ []) (suc n) = refl
-      go (a ∷ b ∷ c ∷ []) zero = refl
-      go (a ∷ b ∷ c ∷ []) (suc n) = refl
-      go (a ∷ b ∷ c ∷ d ∷ ys) n = refl
+  more : used ≡ itemWords + (used - itemWords)
+  more = omega arith
 
-  head-length : length (take (used - 4) (drop 4 xs)) ≡ used - 4
-  head-length = length-take-le (used - 4) (drop 4 xs) (omega (arith, length-drop 4 xs))
+  take-head : (span : ℕ) → take used (Head span ++ drop itemWords xs) ≡ Head span ++ take (used - itemWords) (drop itemWords xs)
+  take-head span = ap (λ n. take n (Head span ++ drop itemWords xs)) more ∙ take-append-add (Head span) (drop itemWords xs) (used - itemWords)
 
-  span-is : length (take (used - 4) (drop 4 xs)) / 4 + 1 ≡ used / 4
-  span-is = ap (λ n. n / 4 + 1) head-length ∙ omega arith
+  behind-head : drop itemWords (take used xs) ≡ take (used - itemWords) (drop itemWords xs)
+  behind-head = ap (λ n. drop itemWords (take n xs)) more ∙ drop-taken itemWords (used - itemWords) xs
 
-  pub wrap-is : (taken : ℕ) (s : Held) → wrap name tag (read (take (used - 4) (drop 4 xs)) members taken s)
-      ≡ read (take used (name ∷ tag ∷ members ∷ (used / 4) ∷ drop 4 xs)) 1 taken s
-  wrap-is taken s = ap (λ n. read (name ∷ tag ∷ members ∷ n ∷ take (used - 4) (drop 4 xs)) 1 taken s) span-is ∙ ap (λ ws. read ws 1 taken s) (sym take-head)
+  head-length : length (take (used - itemWords) (drop itemWords xs)) ≡ used - itemWords
+  head-length = length-take-le (used - itemWords) (drop itemWords xs) (omega (arith, length-drop itemWords xs))
 
-  pub wrap-drop : (taken : ℕ) (s : Held) → wrap name tag (read (drop 4 (take used xs)) members taken s)
-      ≡ read (take used (name ∷ tag ∷ members ∷ (used / 4) ∷ drop 4 xs)) 1 taken s
-  wrap-drop taken s = ap (λ ws. wrap name tag (read ws members taken s)) behind-head ∙ wrap-is taken s
+  span-is : itemCount (take (used - itemWords) (drop itemWords xs)) + 1 ≡ used / itemWords
+  span-is = ap (λ n. n / itemWords + 1) head-length ∙ omega arith
+
+  pub header-is : (taken : ℕ) (s : Held) → withHeader name tag (read (take (used - itemWords) (drop itemWords xs)) members taken s)
+      ≡ read (take used (Head (used / itemWords) ++ drop itemWords xs)) 1 taken s
+  header-is taken s =
+      ap (λ n. read (Head n ++ take (used - itemWords) (drop itemWords xs)) 1 taken s) span-is ∙ ap (λ ws. read ws 1 taken s) (sym (take-head (used / itemWords)))
+
+  pub header-drop : (taken : ℕ) (s : Held) → withHeader name tag (read (drop itemWords (take used xs)) members taken s)
+      ≡ read (take used (Head (used / itemWords) ++ drop itemWords xs)) 1 taken s
+  header-drop taken s = ap (λ ws. withHeader name tag (read ws members taken s)) behind-head ∙ header-is taken s

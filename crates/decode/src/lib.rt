@@ -1,30 +1,32 @@
 // The record reader: a sequence reads fields, a field reads elements, a group element reads a sequence.
 use decode_leaf::Out;
-use decode_leaf::clear_counts;
-use decode_leaf::clear_items;
-use decode_leaf::clear_text;
 use decode_leaf::decode_element;
 use decode_leaf::decode_lone;
 use decode_leaf::element_count;
 use decode_leaf::element_name;
 use decode_leaf::head_words;
 use decode_leaf::how_many;
-use decode_leaf::is_single;
-use decode_leaf::larger;
-use decode_leaf::less;
 use decode_leaf::listed;
-use decode_leaf::put_header;
 use decode_leaf::refusal;
-use decode_leaf::sat_add;
 use decode_leaf::start_counts;
 use decode_leaf::took_none;
+use items::ITEM_WORDS;
+use items::put_header;
 use layout::Entry;
 use layout::ask_layout;
 use layout::has_depending_on;
 use layout::load;
 use layout::record_length;
 use layout::reserved_width;
+use layout::unrepeated;
+use layout::unrepeated_leaf;
+use positions::larger;
+use positions::less;
+use positions::sat_add;
 use spans::end_of;
+use zeros::clear_counts;
+use zeros::clear_items;
+use zeros::clear_text;
 ghost use mathlib.Core.Path.{_≡_};
 ghost use mathlib.Core.Bool.{Bool, true, false, _&&_, not, cond};
 ghost use lib.Dec.{eqb};
@@ -32,30 +34,19 @@ ghost use mathlib.Core.List.{List, []};
 ghost use Prim.Native.Nat.{ℕ, _+_, _≤_};
 ghost use lib.IntN.{pos};
 ghost use lib.ListN.{length, replicate};
-ghost use Rattle.layout.specs.Layout.{part};
-ghost use Rattle.walks.specs.Walk.{single, howMany};
-ghost use Rattle.walks.specs.Reading.{inside};
-ghost use Rattle.walks.specs.Records.{recordAsks, readInto, RecordRead};
-ghost use Rattle.decode_leaf.specs.Capped.{seq, field, table};
+ghost use Rattle.layout.specs.Layout.{unrepeatedLeaf, part, unrepeated};
+ghost use Rattle.walks.specs.Walk.{howMany};
+ghost use Rattle.walks.specs.Reading.{container, seq, field, table};
+ghost use Rattle.positions.specs.Positions.{satSum};
+ghost use Rattle.walks.specs.Records.{recordAsks, readerAsks, readInto, RecordRead};
 ghost use Rattle.decode_leaf.specs.Counts.{heldIn};
 ghost use Rattle.decode_leaf.specs.Machine.{kept, state, leafAt, Met, Elements};
-ghost use Rattle.decode.specs.Asked.{askedOf};
 
 // What reading a record answers: the number that refuses it, or 0 with the item words and the text bytes used.
 pub struct Reading {
     pub number: u32,
     pub items: usize,
     pub text: usize,
-}
-
-// Whether an entry is one scalar or Pad, so no table and no group.
-fn is_lone(e: Entry) -> bool
-    ensures { λ r. ⌜ r ≡ (not (eqb (e .kind) 9) && single e) ⌝ }
-{
-    if e.kind == 9 {
-        return false;
-    }
-    is_single(e)
 }
 
 // The entries lo up to hi, one after the other, from a base on.
@@ -75,7 +66,7 @@ fn decode_seq(
     requires { ⌜ told ≤ length (now text) ⌝ }
     requires { ⌜ length (now «record») ≤ 65536 ⌝ }
     ensures { λ r. ⌜ Met
-        (seq (kept (now (layout .entry)) page (length (now (text .entry))) deps) (now («record» .entry)) (part (now (layout .entry)) lo hi) base 0 (length (now (items .entry)))
+        (seq satSum (kept (now (layout .entry)) page (length (now (text .entry))) deps) (now («record» .entry)) (part (now (layout .entry)) lo hi) base 0 (length (now (items .entry)))
         (state (now (counts .entry)) told (now (text .entry)))) r (now (items .exit)) (now (text .exit)) (now (counts .exit)) ⌝ }
 {
     let mut i = lo;
@@ -89,7 +80,7 @@ fn decode_seq(
         let end = end_of(e.span as u64, i, hi);
         let off = sat_add(e.offset as u64, shift);
         let at = sat_add(base, off);
-        if is_lone(e) {
+        if unrepeated_leaf(e) {
             let o = decode_lone(
                 layout,
                 record,
@@ -159,10 +150,10 @@ fn decode_table(
     told: usize,
 ) -> Out
     requires { ⌜ told ≤ length (now text) ⌝ }
-    requires { ⌜ single e ≡ false ⌝ }
+    requires { ⌜ unrepeated e ≡ false ⌝ }
     requires { ⌜ length (now «record») ≤ 65536 ⌝ }
     ensures { λ r. ⌜ Elements
-        (λ deps. table e (leafAt (kept (now (layout .entry)) page (length (now (text .entry))) deps) (now («record» .entry)) e 65536 false)
+        (λ deps. table satSum e (leafAt (kept (now (layout .entry)) page (length (now (text .entry))) deps) (now («record» .entry)) e 65536 false)
         (howMany (λ name run. heldIn (now (layout .entry)) name run) e (now (counts .entry))) at (length (now (items .entry)))
         (state (now (counts .entry)) told (now (text .entry)))) r (now (items .exit)) (now (text .exit)) (now (counts .entry)) ⌝ }
 {
@@ -215,23 +206,23 @@ fn decode_field(
     told: usize,
 ) -> Out
     requires { ⌜ told ≤ length (now text) ⌝ }
-    requires { ⌜ (not (eqb (e .kind) 9) && single e) ≡ false ⌝ }
+    requires { ⌜ unrepeatedLeaf e ≡ false ⌝ }
     requires { ⌜ length (now «record») ≤ 65536 ⌝ }
     ensures { λ r. ⌜ Met
-        (field (kept (now (layout .entry)) page (length (now (text .entry))) deps) (now («record» .entry)) e
-        (λ b n s. seq (kept (now (layout .entry)) page (length (now (text .entry))) deps) (now («record» .entry)) (part (now (layout .entry)) lo hi) b 0 n s) at (length (now (items .entry)))
+        (field satSum (kept (now (layout .entry)) page (length (now (text .entry))) deps) (now («record» .entry)) e
+        (λ b n s. seq satSum (kept (now (layout .entry)) page (length (now (text .entry))) deps) (now («record» .entry)) (part (now (layout .entry)) lo hi) b 0 n s) at (length (now (items .entry)))
         (state (now (counts .entry)) told (now (text .entry)))) r (now (items .exit)) (now (text .exit)) (now (counts .exit)) ⌝ }
 {
     if e.kind != 9 {
         return decode_table(layout, record, items, text, counts, page, e, at, told);
     }
-    let once = is_single(e);
+    let once = unrepeated(e);
     let name = element_name(e, once);
     let c = element_count(layout, counts, e);
     if c.refused != 0 {
         return refusal(c.refused);
     }
-    let head = head_words(once, e.kind == 6);
+    let head = head_words(once, false);
     if items.len() < head {
         return refusal(16);
     }
@@ -291,16 +282,16 @@ fn decode_one(
     requires { ⌜ told ≤ length (now text) ⌝ }
     requires { ⌜ length (now «record») ≤ 65536 ⌝ }
     ensures { λ r. ⌜ Met
-        (inside name 7 (λ b n s. seq (kept (now (layout .entry)) page (length (now (text .entry))) deps) (now («record» .entry)) (part (now (layout .entry)) lo hi) b 0 n s) at
+        (container name 7 (λ b n s. seq satSum (kept (now (layout .entry)) page (length (now (text .entry))) deps) (now («record» .entry)) (part (now (layout .entry)) lo hi) b 0 n s) at
         (length (now (items .entry))) (state (now (counts .entry)) told (now (text .entry)))) r (now (items .exit)) (now (text .exit)) (now (counts .exit)) ⌝ }
 {
-    if items.len() < 4 {
+    if items.len() < ITEM_WORDS {
         return refusal(16);
     }
     let o = decode_seq(
         layout,
         record,
-        &mut items[4..],
+        &mut items[ITEM_WORDS..],
         text,
         counts,
         page,
@@ -313,8 +304,8 @@ fn decode_one(
     if o.refused != 0 {
         return refusal(o.refused);
     }
-    let used = o.used + 4;
-    put_header(items, name, 7, o.members, (used / 4) as u64);
+    let used = o.used + ITEM_WORDS;
+    put_header(items, name, 7, o.members, (used / ITEM_WORDS) as u64);
     Out {
         refused: 0,
         used,
@@ -342,7 +333,7 @@ fn ask_record(layout: &[u32], bytes: usize, deps: bool) -> u32
 
 // The questions before the walk: the number of the first that fails, or 0.
 fn asked(layout: &[u32], masks: &[u8], page: u32, bytes: usize, work: usize, deps: bool) -> u32
-    ensures { λ r. ⌜ r ≡ askedOf (now (layout .entry)) (now (masks .entry)) page bytes work deps ⌝ }
+    ensures { λ r. ⌜ r ≡ readerAsks (now (layout .entry)) (now (masks .entry)) page bytes work deps ⌝ }
 {
     let number = ask_layout(layout, masks, page, work);
     if number != 0 {

@@ -4,6 +4,9 @@ use mathlib.Core.Bool.{Bool, true, false, _&&_, not, cond}
 use mathlib.Core.List.{List, [], _∷_, _++_, append-nil}
 use Prim.Native.Nat.{ℕ, _+_, _-_, _/_, _≤_}
 use native.Mathlib.Omega.{arith}
+use mathlib.Core.Logic.{⊎-elim}
+use types.Run.{OneOf}
+use denote.Enum.Declared as Declared
 use lib.Dec.{eqb, leb, ltb}
 use lib.ListN.{length, set, take, drop, length-drop, drop-of-length-le}
 use lib.Seq.{take-all}
@@ -11,40 +14,16 @@ use borrow.Author.Tests.{lt-ltb, le-leb, lt-leb, eq-eqb, ne-eqb, leb-true, leb-f
 use Rattle.layout.specs.declared.Entry.{Entry}
 use Rattle.value.specs.Answer.{Answer}
 use Rattle.decode_scalar.specs.Decode.{says, answerOf, textAfter}
-use Rattle.walks.specs.Walk.{single, Many, times}
+use Rattle.walks.specs.Walk.{Many, times}
+use Rattle.layout.specs.Layout.{unrepeated}
 use Rattle.decode_leaf.specs.declared.Count.{Count}
 use Rattle.value.specs.declared.Scalar.{Scalar}
-use Rattle.value.specs.Scalar.{tagOf, firstOf, secondOf}
+use Rattle.value.proofs.Scalar.{the-type}
+use Rattle.items.specs.Items.{itemWords, wordsOf, header}
 use Rattle.value.specs.declared.Scalar.the-variants.{Null, Text, Int, Decimal, Float as FloatV, FloatBits, Bool as BoolV}
 use Rattle.decode_leaf.specs.Machine.{out, bare, headOf, Listed, Counted, movedIn, toldIn}
 
-pub put4 : (xs : List ℕ) (a b c d : ℕ) → 4 ≤ length xs → set (set (set (set xs 0 a) 1 b) 2 c) 3 d ≡ a ∷ b ∷ c ∷ d ∷ drop 4 xs
-put4 [] a b c d h = absurd (omega arith)
-put4 (w ∷ []) a b c d h = absurd (omega arith)
-put4 (w ∷ x ∷ []) a b c d h = absurd (omega arith)
-put4 (w ∷ x ∷ y ∷ []) a b c d h = absurd (omega arith)
-put4 (w ∷ x ∷ y ∷ z ∷ xs) a b c d h = refl
-
 -- ---- tests
-
-pub fits-is : (bytes at width : ℕ) → at ≤ bytes → leb width (bytes - at) ≡ leb (at + width) bytes
-fits-is bytes at width h = go (leb width (bytes - at)) refl
-  where
-    go : (b : Bool) → leb width (bytes - at) ≡ b → leb width (bytes - at) ≡ leb (at + width) bytes
-    go true e = e ∙ sym (le-leb (at + width) bytes (omega (arith, leb-true width (bytes - at) e)))
-    go false e = e ∙ sym (lt-leb (at + width) bytes (omega (arith, leb-false width (bytes - at) e)))
-
-pub table-word : (e : Entry) → (e .occurs ≡ 4294967295 → ⊥) → false ≡ single e
-unfolding single
-table-word e n = rw (ne-eqb (e .occurs) 4294967295 n) refl
-
-pub single-word : (e : Entry) → e .occurs ≡ 4294967295 → eqb (e .depending) 4294967295 ≡ single e
-unfolding single
-single-word e p = rw (eq-eqb (e .occurs) 4294967295 p) (go (eqb (e .depending) 4294967295))
-  where
-    go : (b : Bool) → b ≡ not (not b)
-    go true = refl
-    go false = refl
 
 pub none-took : (once : Bool) (taken : ℕ) → once ≡ false → eqb taken 0 ≡ (not once && eqb taken 0)
 none-took once taken e = rw e refl
@@ -66,22 +45,22 @@ module _ (e : Entry) (head : ℕ) (h : head ≡ headOf e) where
     where
       go : (b : Bool) → bare e ≡ b → bare e ≡ true
       go true q = q
-      go false q = absurd (omega (arith, h ∙ ap (λ x. cond {A = ℕ} x 0 4) q))
+      go false q = absurd (omega (arith, h ∙ ap (λ x. cond {A = ℕ} x 0 itemWords) q))
 
-  pub has-head : (head ≡ 0 → ⊥) → (bare e ≡ false) × (head ≡ 4)
+  pub has-head : (head ≡ 0 → ⊥) → (bare e ≡ false) × (head ≡ itemWords)
   has-head n = go (bare e) refl
     where
-      go : (b : Bool) → bare e ≡ b → (bare e ≡ false) × (head ≡ 4)
-      go true q = absurd (n (h ∙ ap (λ x. cond {A = ℕ} x 0 4) q))
-      go false q = (q, h ∙ ap (λ x. cond {A = ℕ} x 0 4) q)
+      go : (b : Bool) → bare e ≡ b → (bare e ≡ false) × (head ≡ itemWords)
+      go true q = absurd (n (h ∙ ap (λ x. cond {A = ℕ} x 0 itemWords) q))
+      go false q = (q, h ∙ ap (λ x. cond {A = ℕ} x 0 itemWords) q)
 
   module _ (used members taken told : ℕ) (before : List ℕ) where
     pub listed-pads : head ≡ 0 → Listed e used members taken told (out used members taken told) before before
     listed-pads z = record { is = rw (no-head z) refl; answer = rw (no-head z) refl }
 
-    pub listed-items : (head ≡ 0 → ⊥) → (after : List ℕ) → after ≡ e .name ∷ 6 ∷ members ∷ (used / 4) ∷ drop 4 before
+    pub listed-items : (head ≡ 0 → ⊥) → (span : ℕ) → span ≡ used / itemWords → (after : List ℕ) → after ≡ wordsOf (header (e .name) 6 members span) ++ drop itemWords before
         → Listed e used members taken told (out used 1 taken told) before after
-    listed-items n after p = record { is = rw (has-head n .0) p; answer = rw (has-head n .0) refl }
+    listed-items n span q after p = record { is = rw (has-head n .0, ← q) p; answer = rw (has-head n .0) refl }
 
 -- ---- counts
 
@@ -97,24 +76,21 @@ status-plus negative size e = rw e refl
 
 -- ---- texts
 
--- the words of an item are those of its scalar, but for where a text starts
-pub text-words : (told : ℕ) (v : Scalar) → tagOf v ≡ 1 → (1 ≡ tagOf (movedIn told v)) × ((told ≡ firstOf (movedIn told v)) × ((secondOf v ≡ secondOf (movedIn told v)) × (told + secondOf v ≡ toldIn told v)))
-text-words told (Text start n) q = (refl, (refl, (refl, refl)))
-text-words told Null q = absurd (omega (arith, q))
-text-words told (Int negative size) q = absurd (omega (arith, q))
-text-words told (Decimal negative size scale) q = absurd (omega (arith, q))
-text-words told (FloatV x) q = absurd (omega (arith, q))
-text-words told (FloatBits x) q = absurd (omega (arith, q))
-text-words told (BoolV b) q = absurd (omega (arith, q))
+one-is-not : OneOf (0 ∷ 2 ∷ 3 ∷ 4 ∷ 5 ∷ 6 ∷ []) 1 → ⊥
+one-is-not = ⊎-elim (λ x. omega (arith, x)) (⊎-elim (λ x. omega (arith, x)) (⊎-elim (λ x. omega (arith, x)) (⊎-elim (λ x. omega (arith, x)) (⊎-elim (λ x. omega (arith, x)) (λ x. omega (arith, x))))))
 
-pub other-words : (told : ℕ) (v : Scalar) → (tagOf v ≡ 1 → ⊥) → (v ≡ movedIn told v) × (told ≡ toldIn told v)
-other-words told (Text start n) f = absurd (f refl)
-other-words told Null f = (refl, refl)
-other-words told (Int negative size) f = (refl, refl)
-other-words told (Decimal negative size scale) f = (refl, refl)
-other-words told (FloatV x) f = (refl, refl)
-other-words told (FloatBits x) f = (refl, refl)
-other-words told (BoolV b) f = (refl, refl)
+-- a text starts behind the texts so far; any other scalar stands in its item as it is
+pub text-moved : (told : ℕ) (v : Scalar) {start n : ℕ} → v ≡ Text start n → (Text told n ≡ movedIn told v) × (told + n ≡ toldIn told v)
+text-moved told v e = rw e (refl, refl)
+
+pub other-moved : (told : ℕ) (v : Scalar) → OneOf (0 ∷ 2 ∷ 3 ∷ 4 ∷ 5 ∷ 6 ∷ []) (Declared.tagOf the-type v) → (v ≡ movedIn told v) × (told ≡ toldIn told v)
+other-moved told (Text start n) f = absurd (one-is-not f)
+other-moved told Null f = (refl, refl)
+other-moved told (Int negative size) f = (refl, refl)
+other-moved told (Decimal negative size scale) f = (refl, refl)
+other-moved told (FloatV x) f = (refl, refl)
+other-moved told (FloatBits x) f = (refl, refl)
+other-moved told (BoolV b) f = (refl, refl)
 
 -- a part from `told` on, lent and come back
 pub told-back : (told : ℕ) (buffer ys zs : List ℕ) → ys ≡ zs → take told buffer ++ (ys ++ drop (length buffer - told) (drop told buffer)) ≡ take told buffer ++ zs

@@ -1,6 +1,6 @@
 -- Laws of the run of counts: casts, words past its end, and the first entry of a name.
 use mathlib.Core.Path.{_≡_, refl, sym, ap, _∙_, subst⁻¹}
-use mathlib.Core.Bool.{Bool, true, false, _&&_, _||_, cond, true≢false}
+use mathlib.Core.Bool.{Bool, true, false, _&&_, _||_, not, cond, true≢false}
 use mathlib.Core.List.{List, [], _∷_}
 use mathlib.Core.Logic.{⊎-elim}
 use Prim.Native.Nat.{ℕ, zero, suc, _+_, _-_, _*_, _≤_, _<_, min}
@@ -11,7 +11,7 @@ use lib.IntN.{ℤ, pos, negsuc, natAbs}
 use lib.ListN.{length, getD, set}
 use lib.Signed.{nonNeg, ltZ, mag}
 use borrow.Author.Needs.{sfits-of}
-use borrow.Author.Tests.{ltb-true, eq-eqb, ne-eqb, le-leb, lt-leb}
+use borrow.Author.Tests.{not-true, not-false, ltb-true, eq-eqb, ne-eqb, le-leb, lt-leb}
 use mir.Syntax.{w64}
 use mir.Val.{Fits, SFits, toZ, ofZ}
 use mir.Facts.{toZ-ofZ}
@@ -22,9 +22,11 @@ use Rattle.layout.specs.declared.Entry.{Entry}
 use Rattle.value.specs.declared.Scalar.{Scalar}
 use Rattle.value.proofs.Scalar.{the-type}
 use Rattle.value.specs.declared.Scalar.the-variants.{Null, Text, Int, Decimal, Float as FloatV, FloatBits, Bool as BoolV}
+use Rattle.layout.specs.Layout.{controls}
 use Rattle.walks.specs.Walk.{Many, howMany}
+use Rattle.walks.specs.Kinds.{countIn}
 use Rattle.decode_leaf.specs.declared.Count.{Count}
-use Rattle.decode_leaf.specs.Counts.{natOf, firstIn, first, statusOf, setIn, noteIn, heldIn}
+use Rattle.decode_leaf.specs.Counts.{natOf, firstIn, first, statusOf, setIn, setAll, noteIn, heldIn}
 use Rattle.decode_leaf.specs.Machine.{Counted}
 
 -- ---- casts
@@ -96,27 +98,37 @@ status-small negative size = go (negative && ltb 0 size)
     go true = omega arith
     go false = omega arith
 
-module _ (l : List ℕ) (deps : Bool) (e : Entry) (once : Bool) (run : List ℤ) (b : Bool) (p : b ≡ (deps && (once && (eqb (e .kind) 1 || eqb (e .kind) 2)))) where
-  pub note-int : b ≡ true → (v : Scalar) (negative : Bool) (size : ℕ) (after : List ℤ) → v ≡ Int negative size → after ≡ setIn l (e .name) negative size run → after ≡ noteIn l deps e once v run
-  unfolding noteIn
-  note-int q v negative size after z a = rw (z, sym p ∙ q) a
+two-is-not : OneOf (0 ∷ 1 ∷ 3 ∷ 4 ∷ 5 ∷ 6 ∷ []) 2 → ⊥
+two-is-not = ⊎-elim (λ x. omega (arith, x)) (⊎-elim (λ x. omega (arith, x)) (⊎-elim (λ x. omega (arith, x)) (⊎-elim (λ x. omega (arith, x)) (⊎-elim (λ x. omega (arith, x)) (λ x. omega (arith, x))))))
 
-  pub note-not : b ≡ false → (v : Scalar) → run ≡ noteIn l deps e once v run
+module _ (l : List ℕ) (deps : Bool) (e : Entry) (run : List ℤ) where
+  pub note-off : (v : Scalar) → not deps ≡ true → run ≡ noteIn l deps e v run
   unfolding noteIn
-  note-not q v = rw (sym p ∙ q) refl
+  note-off v n = rw (not-true deps n) refl
 
-  two-is-not : OneOf (0 ∷ 1 ∷ 3 ∷ 4 ∷ 5 ∷ 6 ∷ []) 2 → ⊥
-  two-is-not = ⊎-elim (λ x. omega (arith, x)) (⊎-elim (λ x. omega (arith, x)) (⊎-elim (λ x. omega (arith, x)) (⊎-elim (λ x. omega (arith, x)) (⊎-elim (λ x. omega (arith, x)) (λ x. omega (arith, x))))))
-
-  pub note-other : b ≡ true → (v : Scalar) → OneOf (0 ∷ 1 ∷ 3 ∷ 4 ∷ 5 ∷ 6 ∷ []) (Declared.tagOf the-type v) → run ≡ noteIn l deps e once v run
+  -- what does not control a table sets no count
+  pub note-not : (v : Scalar) → controls e ≡ false → run ≡ noteIn l deps e v run
   unfolding noteIn
-  note-other q Null h = rw (sym p ∙ q) refl
-  note-other q (Text x y) h = rw (sym p ∙ q) refl
-  note-other q (Int x y) h = absurd (two-is-not h)
-  note-other q (Decimal x y z) h = rw (sym p ∙ q) refl
-  note-other q (FloatV x) h = rw (sym p ∙ q) refl
-  note-other q (FloatBits x) h = rw (sym p ∙ q) refl
-  note-other q (BoolV x) h = rw (sym p ∙ q) refl
+  note-not v q = go deps
+    where
+      go : (d : Bool) → run ≡ cond d (setAll l (cond (controls e) (countIn (e .name) v) []) run) run
+      go true = rw q refl
+      go false = refl
+
+  module _ (n : not deps ≡ false) (b : Bool) (p : b ≡ controls e) (q : b ≡ true) where
+    pub note-int : (v : Scalar) (negative : Bool) (size : ℕ) (after : List ℤ) → v ≡ Int negative size → after ≡ setIn l (e .name) negative size run → after ≡ noteIn l deps e v run
+    unfolding noteIn
+    note-int v negative size after z a = rw (z, not-false deps n, sym p ∙ q) a
+
+    pub note-other : (v : Scalar) → OneOf (0 ∷ 1 ∷ 3 ∷ 4 ∷ 5 ∷ 6 ∷ []) (Declared.tagOf the-type v) → run ≡ noteIn l deps e v run
+    unfolding noteIn
+    note-other Null h = rw (not-false deps n, sym p ∙ q) refl
+    note-other (Text x y) h = rw (not-false deps n, sym p ∙ q) refl
+    note-other (Int x y) h = absurd (two-is-not h)
+    note-other (Decimal x y z) h = rw (not-false deps n, sym p ∙ q) refl
+    note-other (FloatV x) h = rw (not-false deps n, sym p ∙ q) refl
+    note-other (FloatBits x) h = rw (not-false deps n, sym p ∙ q) refl
+    note-other (BoolV x) h = rw (not-false deps n, sym p ∙ q) refl
 
 module _ (l : List ℕ) (name : ℕ) (run : List ℤ) (j s : ℕ) (a : j ≡ first l name) (b : s ≡ natOf (getD run (j * 2) (pos 0))) where
   pub held-none : s ≡ 0 → Counted (heldIn l name run) (record { refused = 5; n = 0 })

@@ -1,7 +1,7 @@
 -- What the bytes of a field say, against what the code makes of it: a value that is said as a value is no text, and a refusal is never 0.
 use mathlib.Core.Path.{_≡_, refl, sym, ap, _∙_}
 use mathlib.Core.Bool.{Bool, true, false, _&&_, _||_, cond}
-use mathlib.Core.List.{List, _++_, map}
+use mathlib.Core.List.{List, [], _++_, map}
 use Prim.Native.Nat.{ℕ, _+_, _-_, _%_, _≤_}
 use native.Mathlib.Omega.{arith}
 use lib.Dec.{eqb, leb}
@@ -30,9 +30,10 @@ use Rattle.edited.specs.Edited as Edited
 use Rattle.edited.proofs.Round as EditedRound
 use Rattle.decode_scalar.specs.Decode.{Says, refused, value, text, says, flag, intSays, decimalSays, floatSays, decimalIn, answerOf, textAfter}
 use Rattle.decode_scalar.proofs.Answers.{decimal-numbered}
+use Rattle.layout.specs.Layout.{controls}
 use Rattle.walks.specs.Walk.{Leaf, bad, leaf}
-use Rattle.decode_leaf.specs.Counts.{noteIn, noteOf}
-use Rattle.decode_leaf.specs.Machine.{Held, state, leafIn, leafOf, movedIn, toldIn}
+use Rattle.decode_leaf.specs.Counts.{noteIn, setAll}
+use Rattle.decode_leaf.specs.Machine.{Held, state, leafOf, movedIn, toldIn}
 
 -- a scalar that is no text stands in its item as it is
 abbrev NoText : Scalar → Type 0
@@ -82,9 +83,9 @@ matches kind p q r page bs =
 
 -- ---- a refusal, and a value with its state
 
-module _ (l : List ℕ) (page : ℕ) (deps : Bool) (e : Entry) (once : Bool) (run : List ℤ) (told : ℕ) (buffer : List ℕ) (h : told ≤ length buffer) where
+module _ (l : List ℕ) (page : ℕ) (deps : Bool) (e : Entry) (run : List ℤ) (told : ℕ) (buffer : List ℕ) (h : told ≤ length buffer) where
   abbrev Leaves : Says → Leaf Held
-  Leaves x = leafOf l page (length buffer) deps e once (state run told buffer) x
+  Leaves x = leafOf l page (length buffer) deps e (state run told buffer) x
 
   so-far : length (take told buffer) ≡ told
   so-far = length-take-le told buffer h
@@ -111,17 +112,18 @@ module _ (l : List ℕ) (page : ℕ) (deps : Bool) (e : Entry) (once : Bool) (ru
       go false g f = let z : n ≡ 16 = cc in ((λ s. omega (arith, z, s)), rw (room-is t false g, z) refl)
 
   pub record Read (x : Says) (v : Scalar) (after : List ℕ) : Type 0 where
-    pub is : Leaves x ≡ leafIn (movedIn told v) (state (noteIn l deps e once v run) (toldIn told v) after)
+    pub is : Leaves x ≡ leaf (movedIn told v) (state (noteIn l deps e v run) (toldIn told v) after)
     pub within : toldIn told v ≤ length after
     pub same : length after ≡ length buffer
 
-  noted-text : (a b : ℕ) → noteIn l deps e once (Text a b) run ≡ run
+  noted-text : (a b : ℕ) → noteIn l deps e (Text a b) run ≡ run
   unfolding noteIn
-  noted-text a b = go (deps && (once && (eqb (e .kind) 1 || eqb (e .kind) 2)))
+  noted-text a b = go deps (controls e)
     where
-      go : (c : Bool) → cond c (noteOf l e (Text a b) run) run ≡ run
-      go true = refl
-      go false = refl
+      go : (d c : Bool) → cond d (setAll l (cond c [] []) run) run ≡ run
+      go true true = refl
+      go true false = refl
+      go false c = refl
 
   pub read-leaf : (x : Says) → Matches x → (v : Scalar) → given v ≡ answerOf x (length buffer - told)
       → (after : List ℕ) → after ≡ take told buffer ++ textAfter x (drop told buffer) → Read x v after

@@ -13,19 +13,20 @@ use Rattle.value.specs.declared.Scalar.{Scalar}
 use Rattle.decode_scalar.specs.declared.Decoded.{Decoded}
 use Rattle.decode_scalar.specs.declared.Decoded.the-variants.{Value, Refused}
 use Rattle.decode_scalar.specs.Decode.{Says, says, answerOf, decodedAs, textAfter}
-use Rattle.walks.specs.Walk.{isPad}
+use Rattle.layout.specs.Layout.{isPad, unrepeated}
+use Rattle.layout.proofs.Entries.{controls-table}
+use Rattle.walks.specs.Walk.{leaf}
 use Rattle.walks.specs.Reading.{Outcome, refused, read, placed, scalar, pad}
 use Rattle.decode_leaf.specs.declared.Out.{Out}
 use Rattle.decode_leaf.specs.Counts.{noteIn}
-use Rattle.decode_leaf.specs.Machine.{Held, out, refusing, state, leafIn, leafOf, leafAt, dec, kept, movedIn, toldIn, Met, Placed, textIn, textBehind}
+use Rattle.decode_leaf.specs.Machine.{Held, out, refusing, state, leafOf, leafAt, dec, kept, movedIn, toldIn, Met, Placed, textIn, textBehind}
+use Rattle.decode_leaf.proofs.Runs.{note-not}
 use Rattle.decode_leaf.proofs.Meets.{refuse, fine, same-as, value-met}
 use Rattle.decode_leaf.proofs.Said.{Read, matches, refused-leaf, read-leaf}
 
 -- an element of a table sets no count
-pub note-none : (l : List ℕ) (deps : Bool) (e : Entry) (v : Scalar) (run : List ℤ) → run ≡ noteIn l deps e false v run
-unfolding noteIn
-note-none l true e v run = refl
-note-none l false e v run = refl
+pub note-none : (l : List ℕ) (deps : Bool) (e : Entry) (v : Scalar) (run : List ℤ) → unrepeated e ≡ false → run ≡ noteIn l deps e v run
+note-none l deps e v run q = note-not l deps e run v (sym (controls-table e refl q))
 
 module _ (l bytes : List ℕ) (page : ℕ) (deps : Bool) (e : Entry) (name : ℕ) (once : Bool) (at room : ℕ) (run : List ℤ) (told : ℕ) (buffer : List ℕ) where
   abbrev Said : Says
@@ -38,22 +39,22 @@ module _ (l bytes : List ℕ) (page : ℕ) (deps : Bool) (e : Entry) (name : ℕ
   Leaf-at = leafAt (kept l page (length buffer) deps) bytes e name once at room (state run told buffer)
 
   module _ (inside : at + e .width ≤ length bytes) (h : told ≤ length buffer) where
-    scalar-is : Scalar-at ≡ placed name once (e .width) room (leafOf l page (length buffer) deps e once (state run told buffer) Said)
+    scalar-is : Scalar-at ≡ placed name once (e .width) room (leafOf l page (length buffer) deps e (state run told buffer) Said)
     unfolding scalar dec
     scalar-is = rw (le-leb (at + e .width) (length bytes) inside) refl
 
     module _ (d : Decoded) (q : decodedAs d ≡ answerOf Said (length buffer - told)) where
       pub value-refuses : {r : Out} {items after : List ℕ} {run′ : List ℤ} (n : ℕ) → d ≡ Refused n → r ≡ refusing n → Met Scalar-at r items after run′
       value-refuses n p z =
-          let f = refused-leaf l page deps e once run told buffer h Said (matches (e .kind) (e .p) (e .q) (e .r) page (take (e .width) (drop at bytes))) n (sym (ap decodedAs p) ∙ q) in
+          let f = refused-leaf l page deps e run told buffer h Said (matches (e .kind) (e .p) (e .q) (e .r) page (take (e .width) (drop at bytes))) n (sym (ap decodedAs p) ∙ q) in
           refuse n z (f .0) (scalar-is ∙ ap (placed name once (e .width) room) (f .1))
 
       module _ (v : Scalar) (p : d ≡ Value v) (after : List ℕ) (a : after ≡ take told buffer ++ textAfter Said (drop told buffer)) where
-        pub value-read : Read l page deps e once run told buffer h Said v after
-        value-read = read-leaf l page deps e once run told buffer h Said (matches (e .kind) (e .p) (e .q) (e .r) page (take (e .width) (drop at bytes))) v (sym (ap decodedAs p) ∙ q) after a
+        pub value-read : Read l page deps e run told buffer h Said v after
+        value-read = read-leaf l page deps e run told buffer h Said (matches (e .kind) (e .p) (e .q) (e .r) page (take (e .width) (drop at bytes))) v (sym (ap decodedAs p) ∙ q) after a
 
-        pub value-reads : {before : List ℕ} {r : Out} {items : List ℕ} {run′ : List ℤ} → (r .refused ≡ 0 → run′ ≡ noteIn l deps e once v run)
-            → Placed (λ s. placed name once (e .width) room (leafIn (movedIn told v) s)) (toldIn told v) (e .width) before r items
+        pub value-reads : {before : List ℕ} {r : Out} {items : List ℕ} {run′ : List ℤ} → (r .refused ≡ 0 → run′ ≡ noteIn l deps e v run)
+            → Placed (λ s. placed name once (e .width) room (leaf (movedIn told v) s)) (toldIn told v) (e .width) before r items
             → Met Scalar-at r items after run′
         value-reads c f = value-met after (scalar-is ∙ ap (placed name once (e .width) room) (value-read .is)) (value-read .within) c f
 

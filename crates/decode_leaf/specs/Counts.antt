@@ -1,6 +1,6 @@
 -- The counts of a walk in a lent run: "work space of two 64-bit words an entry". A name's two words stand at its first entry.
 use mathlib.Core.Bool.{Bool, true, false, _&&_, _||_, cond}
-use mathlib.Core.List.{List}
+use mathlib.Core.List.{List, [], _∷_}
 use Prim.Native.Nat.{ℕ, zero, suc, _+_, _*_, min}
 use lib.Dec.{eqb, ltb}
 use lib.IntN.{ℤ, pos, negsuc}
@@ -8,8 +8,8 @@ use lib.ListN.{getD, set}
 use Rattle.layout.specs.declared.Entry.{Entry}
 use Rattle.layout.specs.Layout.{entryCount, entryAt}
 use Rattle.value.specs.declared.Scalar.{Scalar}
-use Rattle.value.specs.declared.Scalar.the-variants.{Null, Text, Int, Decimal, Float as FloatV, FloatBits, Bool as BoolV}
 use Rattle.walks.specs.Walk.{Many, never, times}
+use Rattle.walks.specs.Kinds.{Count, countOf}
 
 abbrev pub natOf : ℤ → ℕ
 natOf (pos n) = n
@@ -30,18 +30,13 @@ statusOf negative size = cond (negative && ltb 0 size) 2 1
 unfoldable pub setIn : List ℕ → ℕ → Bool → ℕ → List ℤ → List ℤ
 setIn l name negative size run = set (set run (first l name * 2) (pos (statusOf negative size))) (first l name * 2 + 1) (pos (min 9223372036854775807 size))
 
--- "An unrepeated Int or Binary sets the count for its name", noted only in layouts with depending
-abbrev pub noteOf : List ℕ → Entry → Scalar → List ℤ → List ℤ
-noteOf l e (Int negative size) run = setIn l (e .name) negative size run
-noteOf l e Null run = run
-noteOf l e (Text a b) run = run
-noteOf l e (Decimal negative size scale) run = run
-noteOf l e (FloatV x) run = run
-noteOf l e (FloatBits x) run = run
-noteOf l e (BoolV b) run = run
+abbrev pub setAll : List ℕ → List Count → List ℤ → List ℤ
+setAll l [] run = run
+setAll l (c ∷ cs) run = setIn l (c .name) (c .negative) (c .size) run
 
-unfoldable pub noteIn : List ℕ → Bool → Entry → Bool → Scalar → List ℤ → List ℤ
-noteIn l deps e once v run = cond (deps && (once && (eqb (e .kind) 1 || eqb (e .kind) 2))) (noteOf l e v run) run
+-- the run behind a scalar of an entry: counts are set only in layouts with depending
+unfoldable pub noteIn : List ℕ → Bool → Entry → Scalar → List ℤ → List ℤ
+noteIn l deps e v run = cond deps (setAll l (countOf e v) run) run
 
 abbrev pub manyOf : ℕ → ℕ → Many
 manyOf status n = cond (eqb status 0) (never 5) (cond (eqb status 2) (never 6) (times n))

@@ -1,4 +1,3 @@
--- The reader as its code goes: positions that stop, counts in a run of words, and what its inner functions promise.
-pub mod Capped
+-- The reader as its code goes: counts in a run of words, and what its inner functions promise.
 pub mod Counts
 pub mod Machine

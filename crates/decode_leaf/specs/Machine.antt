@@ -9,9 +9,10 @@ use lib.ListN.{length, take, drop}
 use Rattle.layout.specs.declared.Entry.{Entry}
 use Rattle.value.specs.declared.Scalar.{Scalar}
 use Rattle.value.specs.declared.Scalar.the-variants.{Null, Text, Int, Decimal, Float as FloatV, FloatBits, Bool as BoolV}
-use Rattle.value.specs.Scalar.{tagOf, firstOf, secondOf}
+use Rattle.items.specs.Items.{itemWords, wordsOf, header}
 use Rattle.decode_scalar.specs.Decode.{Says, refused, value, text, says, textAfter}
-use Rattle.walks.specs.Walk.{single, isPad, Many, never, times, unfit, Leaf, bad, leaf, Codec}
+use Rattle.walks.specs.Walk.{Many, never, times, unfit, Leaf, bad, leaf, Codec}
+use Rattle.layout.specs.Layout.{unrepeated, isPad}
 use Rattle.walks.specs.Reading as R
 use Rattle.walks.specs.Reading.{Outcome, Reader, read, scalar, pad}
 use Rattle.decode_leaf.specs.declared.Out.{Out}
@@ -27,18 +28,16 @@ pub record Held : Type 0 where
 abbrev pub state : List ℤ → ℕ → List ℕ → Held
 state run told buffer = record { run = run; text = take told buffer }
 
-abbrev pub leafIn : Scalar → Held → Leaf Held
-leafIn v s = leaf (tagOf v) (firstOf v) (secondOf v) s
-
 -- the layout, the page, the bytes of the text buffer, whether some table depends on a count
 module _ (l : List ℕ) (page room : ℕ) (deps : Bool) where
-  abbrev pub leafOf : Entry → Bool → Held → Says → Leaf Held
-  leafOf e once s (refused n) = bad n
-  leafOf e once s (value v) = leafIn v (record { run = noteIn l deps e once v (s .run); text = s .text })
-  leafOf e once s (text t) = cond (leb (length (s .text) + length t) room) (leaf 1 (length (s .text)) (length t) (record { run = s .run; text = s .text ++ t })) (bad 16)
+  abbrev pub leafOf : Entry → Held → Says → Leaf Held
+  leafOf e s (refused n) = bad n
+  leafOf e s (value v) = leaf v (record { run = noteIn l deps e v (s .run); text = s .text })
+  leafOf e s (text t) =
+      cond (leb (length (s .text) + length t) room) (leaf (Text (length (s .text)) (length t)) (record { run = s .run; text = s .text ++ t })) (bad 16)
 
-  unfoldable pub dec : Entry → Bool → List ℕ → Held → Leaf Held
-  dec e once bs s = leafOf e once s (says (e .kind) (e .p) (e .q) (e .r) page bs)
+  unfoldable pub dec : Entry → List ℕ → Held → Leaf Held
+  dec e bs s = leafOf e s (says (e .kind) (e .p) (e .q) (e .r) page bs)
 
   abbrev pub held : ℕ → Held → Many
   held name s = heldIn l name (s .run)
@@ -53,11 +52,11 @@ leafAt k r e name once at room s = cond (isPad e) (pad r e at room s) (scalar k 
 
 -- a single entry and a table of Pads have no List's item
 abbrev pub bare : Entry → Bool
-bare e = single e || eqb (e .kind) 6
+bare e = unrepeated e || eqb (e .kind) 6
 
 -- the words of a table's own item
 abbrev pub headOf : Entry → ℕ
-headOf e = cond (bare e) 0 4
+headOf e = cond (bare e) 0 itemWords
 
 -- ---- a scalar as its item holds it: a text starts behind the texts so far
 
@@ -127,20 +126,20 @@ pub record Element (o : List ℕ → Bool → Held → Outcome Held) (told : ℕ
 pub record Elements (o : Bool → Outcome Held) (r : Out) (items buffer : List ℕ) (run : List ℤ) : Type 0 where
   pub met : (deps : Bool) → Met (o deps) r items buffer run
 
--- an item of four words, whatever the state behind it
-pub record Item (o : Held → Outcome Held) (behind width : ℕ) (r : Out) (items : List ℕ) : Type 0 where
-  pub is : (s : Held) → o s ≡ read (take 4 items) 1 width s
-  pub answer : r ≡ out 4 1 width behind
-  pub within : 4 ≤ length items
+-- one item, whatever the state behind it
+pub record OneItem (o : Held → Outcome Held) (behind width : ℕ) (r : Out) (items : List ℕ) : Type 0 where
+  pub is : (s : Held) → o s ≡ read (take itemWords items) 1 width s
+  pub answer : r ≡ out itemWords 1 width behind
+  pub within : itemWords ≤ length items
 
 pub record Placed (o : Held → Outcome Held) (behind width : ℕ) (before : List ℕ) (r : Out) (items : List ℕ) : Type 0 where
-  pub fine : r .refused ≡ 0 → Item o behind width r items
+  pub fine : r .refused ≡ 0 → OneItem o behind width r items
   pub refuses : (r .refused ≡ 0 → ⊥) → ((s : Held) → o s ≡ R.refused (r .refused)) × (r ≡ refusing (r .refused))
   pub rest : Rest r before items
 
 -- a table's own item around the elements behind it
 abbrev pub headed : Entry → ℕ → ℕ → List ℕ → List ℕ
-headed e used members items = cond (bare e) items (e .name ∷ 6 ∷ members ∷ (used / 4) ∷ drop 4 items)
+headed e used members items = cond (bare e) items (wordsOf (header (e .name) 6 members (used / itemWords)) ++ drop itemWords items)
 
 pub record Listed (e : Entry) (end members width behind : ℕ) (r : Out) (before items : List ℕ) : Type 0 where
   pub is : items ≡ headed e end members before

@@ -1,7 +1,16 @@
-// The parts of the record reader: sums that stop, the counts of a walk, one scalar or Pad with its item.
+// The parts of the record reader: the counts of a walk, one scalar or Pad with its item.
 use decode_scalar::Decoded;
+use items::ITEM_WORDS;
+use items::item_count;
+use items::item_of;
+use items::put;
+use items::put_header;
 use layout::Entry;
+use layout::controls;
+use layout::unrepeated;
+use positions::inside;
 use value::Scalar;
+use zeros::clear_counts;
 ghost use mathlib.Core.Path.{_≡_};
 ghost use mathlib.Core.Bool.{Bool, true, false, _||_, _&&_, not, cond};
 ghost use mathlib.Core.List.{List, [], _∷_, _++_};
@@ -9,12 +18,13 @@ ghost use Prim.Native.Nat.{ℕ, _+_, _-_, _*_, _/_, _≤_, _<_, min, max};
 ghost use lib.IntN.{ℤ, pos};
 ghost use lib.Dec.{eqb, leb, ltb};
 ghost use lib.ListN.{length, take, drop, getD, set, replicate};
-ghost use Rattle.walks.specs.Walk.{single, isPad, times, howMany};
+ghost use Rattle.walks.specs.Walk.{times, howMany, leaf};
+ghost use Rattle.items.specs.Items.{itemWords};
+ghost use Rattle.layout.specs.Layout.{unrepeated, isPad};
 ghost use Rattle.walks.specs.Reading.{placed, scalar};
 ghost use Rattle.decode_scalar.specs.Decode.{says, answerOf, decodedAs, textAfter};
 ghost use Rattle.decode_leaf.specs.Counts.{natOf, first, statusOf, heldIn, noteIn, setIn};
-ghost use Rattle.decode_leaf.specs.Capped.{sat};
-ghost use Rattle.decode_leaf.specs.Machine.{out, refusing, kept, state, leafIn, leafAt, Lone, Element, textIn, textBehind, Placed, Listed, Counted, headOf, movedIn, toldIn};
+ghost use Rattle.decode_leaf.specs.Machine.{out, refusing, kept, state, leafAt, Lone, Element, textIn, textBehind, Placed, Listed, Counted, headOf, movedIn, toldIn};
 
 // What a part of the walk came to: the number that refuses it, or 0 with the item words written, how many items these are at
 // their own level, the bytes taken, and the text bytes so far.
@@ -42,46 +52,6 @@ pub fn refusal(n: u32) -> Out
         taken: 0,
         told: 0,
     }
-}
-
-// ---- positions
-
-// A sum that stops at 2^63.
-pub fn sat_add(a: u64, b: u64) -> u64
-    ensures { λ r. ⌜ r ≡ sat (a + b) ⌝ }
-{
-    if a < 9223372036854775808 {
-        if b < 9223372036854775808 - a {
-            a + b
-        } else {
-            9223372036854775808
-        }
-    } else {
-        9223372036854775808
-    }
-}
-
-pub fn less(a: u64, b: u64) -> u64
-    ensures { λ r. ⌜ r ≡ a - b ⌝ }
-{
-    if b <= a { a - b } else { 0 }
-}
-
-pub fn larger(a: u64, b: u64) -> u64
-    ensures { λ r. ⌜ r ≡ max a b ⌝ }
-{
-    if a <= b { b } else { a }
-}
-
-// Whether a field of this width at this position is inside a record of so many bytes.
-fn inside_record(bytes: usize, at: u64, width: u32) -> bool
-    ensures { λ r. ⌜ r ≡ leb (at + width) bytes ⌝ }
-{
-    let n = bytes as u64;
-    if n < at {
-        return false;
-    }
-    width as u64 <= n - at
 }
 
 // ---- counts: two words for each entry, used at the first entry of each name. The first word is 0 before the count is set,
@@ -164,26 +134,14 @@ fn set_count(layout: &[u32], counts: &mut [i64], name: u32, negative: bool, size
     put_word(counts, j * 2 + 1, stored(size));
 }
 
-// An unrepeated Int or Binary sets the count for its name, where some table depends on one.
-fn sets_count(deps: bool, once: bool, kind: u32) -> bool
-    ensures { λ r. ⌜ r ≡ (deps && (once && (eqb kind 1 || eqb kind 2))) ⌝ }
+// What controls a table sets the count for its name, where some table depends on one.
+pub fn note(layout: &[u32], counts: &mut [i64], deps: bool, e: Entry, v: Scalar)
+    ensures { λ _. ⌜ now (counts .exit) ≡ noteIn (now (layout .entry)) deps e v (now (counts .entry)) ⌝ }
 {
     if !deps {
-        return false;
+        return;
     }
-    if !once {
-        return false;
-    }
-    if kind == 1 {
-        return true;
-    }
-    kind == 2
-}
-
-pub fn note(layout: &[u32], counts: &mut [i64], deps: bool, e: Entry, once: bool, v: Scalar)
-    ensures { λ _. ⌜ now (counts .exit) ≡ noteIn (now (layout .entry)) deps e once v (now (counts .entry)) ⌝ }
-{
-    if sets_count(deps, once, e.kind) {
+    if controls(e) {
         match v {
             Scalar::Int(negative, size) => set_count(layout, counts, e.name, negative, size),
             _ => {}
@@ -234,20 +192,11 @@ pub fn how_many(layout: &[u32], counts: &[i64], e: Entry) -> Count
 
 // ---- one scalar or Pad
 
-pub fn is_single(e: Entry) -> bool
-    ensures { λ r. ⌜ r ≡ single e ⌝ }
-{
-    if e.occurs != 4294967295 {
-        return false;
-    }
-    e.depending == 4294967295
-}
-
 // How many elements an entry has: one where it is no table.
 pub fn element_count(layout: &[u32], counts: &[i64], e: Entry) -> Count
-    ensures { λ r. ⌜ Counted (cond (single e) (times 1) (howMany (λ name run. heldIn (now (layout .entry)) name run) e (now (counts .entry)))) r ⌝ }
+    ensures { λ r. ⌜ Counted (cond (unrepeated e) (times 1) (howMany (λ name run. heldIn (now (layout .entry)) name run) e (now (counts .entry)))) r ⌝ }
 {
-    if is_single(e) {
+    if unrepeated(e) {
         return Count { refused: 0, n: 1 };
     }
     how_many(layout, counts, e)
@@ -275,23 +224,12 @@ pub fn took_none(once: bool, taken: u64) -> bool
 
 // The words of a table's own item: a single entry and a table of Pads have none.
 pub fn head_words(once: bool, pads: bool) -> usize
-    ensures { λ r. ⌜ r ≡ cond (once || pads) 0 4 ⌝ }
+    ensures { λ r. ⌜ r ≡ cond (once || pads) 0 itemWords ⌝ }
 {
     if once {
         return 0;
     }
-    if pads { 0 } else { 4 }
-}
-
-// The item of a List or Struct at the front, around the members behind it.
-pub fn put_header(items: &mut [u64], name: u64, tag: u64, members: u64, span: u64)
-    requires { ⌜ 4 ≤ length (now items) ⌝ }
-    ensures { λ _. ⌜ now (items .exit) ≡ name ∷ tag ∷ members ∷ span ∷ drop 4 (now (items .entry)) ⌝ }
-{
-    items[0] = name;
-    items[1] = tag;
-    items[2] = members;
-    items[3] = span;
+    if pads { 0 } else { ITEM_WORDS }
 }
 
 // A table's own item around its elements, which stand behind it and end at `used`; what has no own item stays as it is.
@@ -318,7 +256,7 @@ pub fn listed(
             told,
         };
     }
-    put_header(items, e.name as u64, 6, members, (used / 4) as u64);
+    put_header(items, e.name as u64, 6, members, item_count(used) as u64);
     Out {
         refused: 0,
         used,
@@ -330,11 +268,11 @@ pub fn listed(
 
 // What one item of a field of this width comes to.
 fn one_item(width: u32, told: usize) -> Out
-    ensures { λ r. ⌜ r ≡ out 4 1 width told ⌝ }
+    ensures { λ r. ⌜ r ≡ out itemWords 1 width told ⌝ }
 {
     Out {
         refused: 0,
-        used: 4,
+        used: ITEM_WORDS,
         members: 1,
         taken: width as u64,
         told,
@@ -344,18 +282,21 @@ fn one_item(width: u32, told: usize) -> Out
 // The item of a scalar at the front; a text starts behind the texts so far.
 fn place(items: &mut [u64], name: u64, width: u32, told: usize, v: Scalar) -> Out
     requires { ⌜ toldIn told v < 9223372036854775808 ⌝ }
-    ensures { λ r. ⌜ Placed (λ st. placed name true width (length (now (items .entry))) (leafIn (movedIn told v) st)) (toldIn told v) width (now (items .entry)) r (now (items .exit)) ⌝ }
+    ensures { λ r. ⌜ Placed (λ st. placed name true width (length (now (items .entry))) (leaf (movedIn told v) st)) (toldIn told v) width (now (items .entry)) r (now (items .exit)) ⌝ }
 {
-    if items.len() < 4 {
+    if items.len() < ITEM_WORDS {
         return refusal(16);
     }
-    let w = value::words_of(v);
-    if w.tag == 1 {
-        put_header(items, name, 1, told as u64, w.b);
-        return one_item(width, told + w.b as usize);
+    match v {
+        Scalar::Text(_, count) => {
+            put(items, item_of(name, Scalar::Text(told as u64, count)));
+            one_item(width, told + count as usize)
+        }
+        _ => {
+            put(items, item_of(name, v));
+            one_item(width, told)
+        }
     }
-    put_header(items, name, w.tag, w.a, w.b);
-    one_item(width, told)
 }
 
 // The item of a single scalar at the front, and the count that it sets.
@@ -369,22 +310,22 @@ fn place_lone(
     v: Scalar,
 ) -> Out
     requires { ⌜ toldIn told v < 9223372036854775808 ⌝ }
-    ensures { λ r. ⌜ Placed (λ st. placed (e .name) true (e .width) (length (now (items .entry))) (leafIn (movedIn told v) st))
+    ensures { λ r. ⌜ Placed (λ st. placed (e .name) true (e .width) (length (now (items .entry))) (leaf (movedIn told v) st))
         (toldIn told v) (e .width) (now (items .entry)) r (now (items .exit)) ⌝ }
-    ensures { λ r. ⌜ now (counts .exit) ≡ cond (eqb (r .refused) 0) (noteIn (now (layout .entry)) deps e true v (now (counts .entry))) (now (counts .entry)) ⌝ }
+    ensures { λ r. ⌜ now (counts .exit) ≡ cond (eqb (r .refused) 0) (noteIn (now (layout .entry)) deps e v (now (counts .entry))) (now (counts .entry)) ⌝ }
 {
     let o = place(items, e.name as u64, e.width, told, v);
     if o.refused != 0 {
         return o;
     }
-    note(layout, counts, deps, e, true, v);
+    note(layout, counts, deps, e, v);
     o
 }
 
 // The item of a table's element at the front.
 fn place_element(items: &mut [u64], e: Entry, told: usize, v: Scalar) -> Out
     requires { ⌜ toldIn told v < 9223372036854775808 ⌝ }
-    ensures { λ r. ⌜ Placed (λ st. placed 65536 false (e .width) (length (now (items .entry))) (leafIn (movedIn told v) st)) (toldIn told v) (e .width) (now (items .entry)) r (now (items .exit)) ⌝ }
+    ensures { λ r. ⌜ Placed (λ st. placed 65536 false (e .width) (length (now (items .entry))) (leaf (movedIn told v) st)) (toldIn told v) (e .width) (now (items .entry)) r (now (items .exit)) ⌝ }
 {
     if e.width == 0 {
         return refusal(10);
@@ -473,7 +414,7 @@ pub fn decode_lone(
         (state (now (counts .entry)) told (now (text .entry)))) (now (items .entry)) (now (counts .entry)) r (now (items .exit)) (now (text .exit)) (now (counts .exit)) ⌝ }
     ensures { λ _. ⌜ now (text .exit) ≡ textBehind page (now («record» .entry)) e at told (now (text .entry)) ⌝ }
 {
-    if !inside_record(record.len(), at, e.width) {
+    if !inside(record.len() as u64, at, e.width as u64) {
         return refusal(7);
     }
     if e.kind == 6 {
@@ -492,6 +433,7 @@ fn element_value(
     at: u64,
     told: usize,
 ) -> Out
+    requires { ⌜ unrepeated e ≡ false ⌝ }
     requires { ⌜ at + e .width ≤ length (now «record») ⌝ }
     requires { ⌜ told ≤ length (now text) ⌝ }
     ensures { λ r. ⌜ Element (λ l deps. scalar (kept l page (length (now (text .entry))) deps) (now («record» .entry)) e 65536 false at (length (now (items .entry))))
@@ -514,12 +456,13 @@ pub fn decode_element(
     at: u64,
     told: usize,
 ) -> Out
+    requires { ⌜ unrepeated e ≡ false ⌝ }
     requires { ⌜ told ≤ length (now text) ⌝ }
     ensures { λ r. ⌜ Element (λ l deps. leafAt (kept l page (length (now (text .entry))) deps) (now («record» .entry)) e 65536 false at (length (now (items .entry))))
         told (now (text .entry)) (now (items .entry)) r (now (items .exit)) (now (text .exit)) ⌝ }
     ensures { λ _. ⌜ now (text .exit) ≡ textBehind page (now («record» .entry)) e at told (now (text .entry)) ⌝ }
 {
-    if !inside_record(record.len(), at, e.width) {
+    if !inside(record.len() as u64, at, e.width as u64) {
         return refusal(7);
     }
     if e.kind == 6 {
@@ -529,37 +472,6 @@ pub fn decode_element(
 }
 
 // ---- zeros
-
-// Zeros from a place on.
-pub fn clear_items(items: &mut [u64], from: usize)
-    ensures { λ _. ⌜ now (items .exit) ≡ take from (now (items .entry)) ++ replicate (length (now (items .entry)) - from) 0 ⌝ }
-{
-    let mut i = from;
-    while i < items.len() {
-        items[i] = 0;
-        i += 1;
-    }
-}
-
-pub fn clear_text(text: &mut [u8], from: usize)
-    ensures { λ _. ⌜ now (text .exit) ≡ take from (now (text .entry)) ++ replicate (length (now (text .entry)) - from) 0 ⌝ }
-{
-    let mut i = from;
-    while i < text.len() {
-        text[i] = 0;
-        i += 1;
-    }
-}
-
-pub fn clear_counts(counts: &mut [i64])
-    ensures { λ _. ⌜ now (counts .exit) ≡ replicate (length (now (counts .entry))) (pos 0) ⌝ }
-{
-    let mut i = 0;
-    while i < counts.len() {
-        counts[i] = 0;
-        i += 1;
-    }
-}
 
 // Zeros for the counts of a walk, where some table depends on one; else they stay as they were.
 pub fn start_counts(counts: &mut [i64], deps: bool)

@@ -8,11 +8,11 @@ use native.Mathlib.Nat.{zero-mul, suc-mul, add-comm}
 use lib.Dec.{leb}
 use lib.ListN.{length}
 use Rattle.layout.specs.declared.Entry.{Entry}
-use Rattle.layout.specs.Layout.{isGroup, reservedWidth}
+use Rattle.layout.specs.Layout.{isGroup, reservedWidth, unrepeated}
 use Rattle.spans.specs.Tree.{Tree, none, node}
 use Rattle.items.specs.Items.{headOf, lookup}
-use Rattle.walks.specs.Walk.{single, Coded, unfit, bytes, Codec}
-use Rattle.walks.specs.Writing.{Put, Wrote, refused, wrote, Writer, next, behind, follow, coded, one, elements, tableLength, table, field, seq}
+use Rattle.walks.specs.Walk.{Coded, unfit, bytes, Codec}
+use Rattle.walks.specs.Writing.{Put, Wrote, refused, wrote, Writer, bind, thenElement, thenEntry, coded, one, elements, tableLength, table, field, seq}
 
 abbrev putsOf : Wrote → List Put
 putsOf (refused n) = []
@@ -64,10 +64,10 @@ module _ (f : ℕ → Wrote) (join : List Put → ℕ → Wrote → Wrote) (rest
     (join-puts : (ps qs : List Put) (s u : ℕ) → putsOf (join ps s (wrote qs u)) ≡ ps ++ qs)
     (f-even : (s : ℕ) → f at ≡ wrote [] s → f at′ ≡ wrote [] s)
     (rest-even : (s u : ℕ) → rest at s ≡ wrote [] u → rest at′ s ≡ wrote [] u) where
-  joined-even : next (f at) (λ ps s. join ps s (rest at s)) ≡ wrote [] t → next (f at′) (λ ps s. join ps s (rest at′ s)) ≡ wrote [] t
+  joined-even : bind (f at) (λ ps s. join ps s (rest at s)) ≡ wrote [] t → bind (f at′) (λ ps s. join ps s (rest at′ s)) ≡ wrote [] t
   joined-even q = go (f at) refl q
     where
-      more : (ps : List Put) (s : ℕ) (o : Wrote) → f at ≡ wrote ps s → rest at s ≡ o → join ps s o ≡ wrote [] t → next (f at′) (λ qs s′. join qs s′ (rest at′ s′)) ≡ wrote [] t
+      more : (ps : List Put) (s : ℕ) (o : Wrote) → f at ≡ wrote ps s → rest at s ≡ o → join ps s o ≡ wrote [] t → bind (f at′) (λ qs s′. join qs s′ (rest at′ s′)) ≡ wrote [] t
       more ps s (refused m) e g r = absurd (false≢true (ap fine (sym (join-refused ps s m) ∙ r)))
       more ps s (wrote qs u) e g r =
           let both : ps ++ qs ≡ [] = sym (join-puts ps qs s u) ∙ ap putsOf r in
@@ -77,7 +77,7 @@ module _ (f : ℕ → Wrote) (join : List Put → ℕ → Wrote → Wrote) (rest
           let second : rest at′ s ≡ wrote [] u = rest-even s u (g ∙ ap (λ x. wrote x u) qs-none) in
           rw (first, second) (ap₂ (λ x y. join x s (wrote y u)) (sym ps-none) (sym qs-none) ∙ r)
 
-      go : (o : Wrote) → f at ≡ o → next o (λ ps s. join ps s (rest at s)) ≡ wrote [] t → next (f at′) (λ ps s. join ps s (rest at′ s)) ≡ wrote [] t
+      go : (o : Wrote) → f at ≡ o → bind o (λ ps s. join ps s (rest at s)) ≡ wrote [] t → bind (f at′) (λ ps s. join ps s (rest at′ s)) ≡ wrote [] t
       go (refused m) e r = absurd (false≢true (ap fine r))
       go (wrote ps s) e r = more ps s (rest at s) e refl r
 
@@ -85,7 +85,7 @@ elements-even : (f : Writer) → Even f → (n : ℕ) → Even (elements f n)
 unfolding elements
 elements-even f h zero at at′ t q = q
 elements-even f h (suc n) at at′ t q =
-    joined-even (f none) behind (λ a s. elements f n none (a + s)) at at′ t (λ ps s m. refl) (λ ps qs s u. refl) (λ s. h at at′ s)
+    joined-even (f none) thenElement (λ a s. elements f n none (a + s)) at at′ t (λ ps s m. refl) (λ ps qs s u. refl) (λ s. h at at′ s)
     (λ s u. elements-even f h n (at + s) (at′ + s) u) q
 
 table-even : (e : Entry) (f : Writer) → Even f → Even (table e f)
@@ -94,7 +94,7 @@ table-even e f h at at′ t q = elements-even f h (tableLength e none) at at′ 
 
 field-even : {S : Type 0} (k : Codec S) (room : ℕ) (e : Entry) (f : Writer) → Even f → Even (field k room e f)
 unfolding field
-field-even k room e f h at at′ t = by (single e)
+field-even k room e f h at at′ t = by (unrepeated e)
   where
     by : (b : Bool) → cond b (one k room e f none at) (table e (one k room e f) none at) ≡ wrote [] t → cond b (one k room e f none at′) (table e (one k room e f) none at′) ≡ wrote [] t
     by true q = one-even k room e f h at at′ t q
@@ -104,7 +104,7 @@ pub seq-even : {S : Type 0} (k : Codec S) (room : ℕ) (tree : Tree Entry) (base
 unfolding seq lookup
 seq-even k room none base base′ shift t q = q
 seq-even k room (node e members rest) base base′ shift t q =
-    joined-even (λ b. field k room e (λ vs a. seq k room members vs a 0) none (b + (e .offset + shift))) (λ ps s o. follow ps (e .offset + shift + s) o)
+    joined-even (λ b. field k room e (λ vs a. seq k room members vs a 0) none (b + (e .offset + shift))) (λ ps s o. thenEntry ps (e .offset + shift + s) o)
     (λ b s. seq k room rest none b (shift + (s - reservedWidth e))) base base′ t (λ ps s m. refl) (λ ps qs s u. refl)
     (λ s. field-even k room e (λ vs a. seq k room members vs a 0) (λ a a′ u. seq-even k room members a a′ 0 u) (base + (e .offset + shift)) (base′ + (e .offset + shift)) s)
     (λ s u. seq-even k room rest base base′ (shift + (s - reservedWidth e)) u) q

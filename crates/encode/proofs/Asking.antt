@@ -11,13 +11,12 @@ use borrow.Author.Tests.{ne-eqb, eq-eqb, lt-leb, le-leb, lt-ltb, le-ltb}
 use Rattle.spans.specs.Tree.{none, node, endOf}
 use Rattle.spans.proofs.Tree.{tree-none, tree-at}
 use Rattle.layout.specs.declared.Entry.{Entry}
-use Rattle.layout.specs.Layout.{entryAt, spanOf, part, entries, layoutAsks, recordLength}
+use Rattle.layout.specs.Layout.{entryAt, spanOf, part, entries, layoutAsks, recordLength, isPad}
 use Rattle.items.specs.Items as Items
 use Rattle.items.specs.Items.{Values, values, headOf, restOf, lookup, wellFormed}
 use Rattle.items.proofs.Items.{values-none, values-node, rest-is}
-use Rattle.walks.specs.Walk.{isPad}
 use Rattle.walks.specs.Records.{found, supplied, most, listAsks}
-use Rattle.encode.specs.Asked.{askedOf, sought, passed}
+use Rattle.encode.specs.Asked.{askedOf, sought}
 use Rattle.encode.specs.Order.{heads}
 use Rattle.encode.proofs.Order.{lookup-heads}
 
@@ -64,7 +63,7 @@ heads-in name none h = absurd (false≢true h)
 heads-in name (node it members rest) h = (refl, ap found (lookup-heads name (node it members rest) h))
 
 module _ (e : Entry) (vs all : Values) (w : Within vs all) where
-  pub within-next : Within (passed e (sought e vs all)) all
+  pub within-next : Within (valuesAfter e (sought e vs all)) all
   within-next = go (isPad e) (heads (e .name) vs)
     where
       go : (x y : Bool) → Within (cond x (cond x vs (cond y vs (lookup (e .name) all))) (restOf (cond x vs (cond y vs (lookup (e .name) all))))) all
@@ -94,8 +93,8 @@ module _ (l v : List ℕ) (i hi next to : ℕ) (w : Within (values v next to) (v
   unfolding supplied
   supplied-go f en r = rw (tree-at (entryAt l) spanOf i hi e en h p r, has true f) refl
 
-  pub within-behind : (j′ : ℕ) → values v j′ to ≡ passed e (values v j to) → Within (values v j′ to) (values v 0 to)
-  within-behind j′ r name k = within-next e (values v next to) (values v 0 to) w name (ap (λ vs. found (lookup name vs)) (sym (r ∙ ap (passed e) q)) ∙ k)
+  pub within-behind : (j′ : ℕ) → values v j′ to ≡ valuesAfter e (values v j to) → Within (values v j′ to) (values v 0 to)
+  within-behind j′ r name k = within-next e (values v next to) (values v 0 to) w name (ap (λ vs. found (lookup name vs)) (sym (r ∙ ap (valuesAfter e) q)) ∙ k)
 
 -- ---- where an item is seen
 
@@ -113,11 +112,11 @@ module _ (v : List ℕ) (e : Entry) (next to : ℕ) where
     unfolding isPad
     sought-there f r g = rw (ne-eqb (e .kind) 6 k, sym y ∙ f) (sym g)
 
-pub passed-pad : (v : List ℕ) (e : Entry) (j to : ℕ) → e .kind ≡ 6 → values v j to ≡ passed e (values v j to)
+pub passed-pad : (v : List ℕ) (e : Entry) (j to : ℕ) → e .kind ≡ 6 → values v j to ≡ valuesAfter e (values v j to)
 unfolding isPad
 passed-pad v e j to k = rw (eq-eqb (e .kind) 6 k) refl
 
-pub passed-item : (v : List ℕ) (e : Entry) (j to : ℕ) → (e .kind ≡ 6 → ⊥) → (r : ℕ) → r ≡ endOf (Items.spanOf (headOf (values v j to))) j to → values v r to ≡ passed e (values v j to)
+pub passed-item : (v : List ℕ) (e : Entry) (j to : ℕ) → (e .kind ≡ 6 → ⊥) → (r : ℕ) → r ≡ endOf (Items.spanOf (headOf (values v j to))) j to → values v r to ≡ valuesAfter e (values v j to)
 unfolding isPad
 passed-item v e j to k r q = rw (ne-eqb (e .kind) 6 k) (sym (rest-is v j to (headOf (values v j to)) (Items.spanOf (headOf (values v j to))) r refl refl q))
 

@@ -8,7 +8,7 @@ use lib.Dec.{eqb, leb, ltb}
 use lib.ListN.{length}
 use borrow.Author.Tests.{leb-true, eqb-true, ltb-true}
 use Rattle.spans.specs.Tree.{none, node, endOf, treeIn, tree}
-use Rattle.spans.proofs.Tree.{and-right}
+use Rattle.lists.proofs.Logic.{and-right}
 use Rattle.layout.specs.declared.Entry.{Entry}
 use Rattle.layout.specs.Layout.{entryAt, entryCount, spanOf, part, plainOk, boolOk, kindOk, entryOk, checkedOf}
 use Rattle.layout.proofs.Lawful.{entry-lawful, kind-lawful, width-lawful, reserved-lawful}

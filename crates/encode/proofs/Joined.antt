@@ -11,14 +11,15 @@ use lib.Dec.{eqb, leb}
 use lib.ListN.{length, take, drop, take-append-drop}
 use borrow.Author.Tests.{lt-leb, eqb-true}
 use Rattle.layout.specs.declared.Entry.{Entry}
-use Rattle.layout.specs.Layout.{isGroup, reservedWidth}
+use Rattle.layout.specs.Layout.{isGroup, reservedWidth, unrepeated}
 use Rattle.spans.specs.Tree.{Tree, none, node}
 use Rattle.items.specs.Items.{Values, headOf, membersOf, restOf, lookup}
-use Rattle.walks.specs.Walk.{single, Coded, unfit, bytes, Codec}
+use Rattle.walks.specs.Walk.{Coded, unfit, bytes, Codec}
 use Rattle.walks.specs.Writing as W
 use Rattle.walks.specs.Writing.{Put, reach, lay, apply, Wrote, wrote, Writer, tableLength}
 use Rattle.encode_leaf.specs.Laying as L
-use Rattle.encode_leaf.specs.Laying.{sat, Laid, laid, Layer, settled}
+use Rattle.encode_leaf.specs.Laying.{Laid, laid, Layer, settled}
+use Rattle.positions.specs.Positions.{sat}
 use Rattle.encode.proofs.Spread.{Fair, AllFair, Lies, In, Keeps, one-in, seq-in}
 use Rattle.encode.proofs.Alike.{Even, one-even, seq-even, repeated, bare, still}
 
@@ -170,8 +171,8 @@ module _ (room : ℕ) (small : room ≤ 65536) where
 
   -- a List or Struct, or Null
   inside-does : (tag : ℕ) (f : Values → Laid) (g : Values → Wrote) (vs : Values) (b : List ℕ) → ((ms : Values) → f ms ≡ done b (g ms))
-      → L.inside tag f vs ≡ done b (cond (eqb (headOf vs .tag) tag) (g (membersOf vs)) (cond (eqb (headOf vs .tag) 0) (g none) (W.refused 13)))
-  unfolding L.inside
+      → L.container tag f vs ≡ done b (cond (eqb (headOf vs .tag) tag) (g (membersOf vs)) (cond (eqb (headOf vs .tag) 0) (g none) (W.refused 13)))
+  unfolding L.container
   inside-does tag f g vs b h =
       rw (h (membersOf vs), h none)
       (ap (λ o. cond (eqb (headOf vs .tag) tag) (done b (g (membersOf vs))) o) (done-cond b (eqb (headOf vs .tag) 0) (g none) (W.refused 13))
@@ -192,7 +193,7 @@ module _ (room : ℕ) (small : room ≤ 65536) where
           → L.elements f n vs at taken past b ≡ did (λ t. sat (taken′ + t)) past b (W.elements g n vs at′)
 
       abbrev Whole : Values → List Put → ℕ → Laid
-      Whole vs ps t = did (λ s. sat (taken′ + s)) past b (W.behind ps t (W.elements g n vs (at′ + t)))
+      Whole vs ps t = did (λ s. sat (taken′ + s)) past b (W.thenElement ps t (W.elements g n vs (at′ + t)))
 
       goes : (vs : Values) (ps : List Put) (t : ℕ) → Rest vs → L.elements f n vs (sat (at + sat t)) (sat (taken + sat t)) (max past (stretch ps)) (apply ps b) ≡ Whole vs ps t
       goes vs ps t ih =
@@ -200,7 +201,7 @@ module _ (room : ℕ) (small : room ≤ 65536) where
           (ap (λ x. sat (x + sat t)) q ∙ sat-sum taken′ t)
           ∙ fold (W.elements g n vs (at′ + t))
         where
-          fold : (o : Wrote) → did (λ s. sat (taken′ + t + s)) (max past (stretch ps)) (apply ps b) o ≡ did (λ s. sat (taken′ + s)) past b (W.behind ps t o)
+          fold : (o : Wrote) → did (λ s. sat (taken′ + t + s)) (max past (stretch ps)) (apply ps b) o ≡ did (λ s. sat (taken′ + s)) past b (W.thenElement ps t o)
           fold (W.refused m) = refl
           fold (wrote qs u) = let z : sat (taken′ + t + u) ≡ sat (taken′ + (t + u)) = omega arith in joined ps qs past b _ _ z
 
@@ -208,7 +209,7 @@ module _ (room : ℕ) (small : room ≤ 65536) where
       settled-bare : (t : ℕ) → g none at′ ≡ wrote [] t → laid b (max past 0) (sat (taken + sat (suc n * sat t))) ≡ Whole none [] t
       settled-bare t o =
           ap (laid b (max past 0)) (all-taken n t taken taken′ q)
-          ∙ ap (λ x. did (λ s. sat (taken′ + s)) past b (W.behind [] t x)) (sym (bare g even at′ t o n (at′ + t)))
+          ∙ ap (λ x. did (λ s. sat (taken′ + s)) past b (W.thenElement [] t x)) (sym (bare g even at′ t o n (at′ + t)))
 
       -- an element that took nothing, and all behind it
       settled-still : (ps : List Put) → g none at′ ≡ wrote ps 0 → In room at′ (wrote ps 0)
@@ -220,7 +221,7 @@ module _ (room : ℕ) (small : room ≤ 65536) where
           ap₂ (laid (apply ps b)) (ap (max past) (sym (stretch-repeated n ps))) x
           ∙ ap (λ c. laid c (max past (stretch (ps ++ repeated n ps))) (sat (taken′ + (0 + 0))))
           (sym (apply-append ps (repeated n ps) b ∙ empty-repeated room at′ n ps (apply ps b) lies))
-          ∙ ap (λ w. did (λ s. sat (taken′ + s)) past b (W.behind ps 0 w)) (sym (ap (W.elements g n none) z ∙ still g at′ ps o n))
+          ∙ ap (λ w. did (λ s. sat (taken′ + s)) past b (W.thenElement ps 0 w)) (sym (ap (W.elements g n none) z ∙ still g at′ ps o n))
 
       zero-of : (t : ℕ) → eqb (sat t) 0 ≡ true → t ≡ 0
       zero-of t h = omega (arith, eqb-true (sat t) 0 h)
@@ -241,8 +242,8 @@ module _ (room : ℕ) (small : room ≤ 65536) where
           go false false u v = goes none ps t ih
 
       element : (vs : Values) (o : Wrote) → g vs at′ ≡ o → In room at′ o → Rest (restOf vs)
-          → L.next (done b o) (λ b′ past′ t. cond (settled vs past′ t) (laid b′ (max past past′) (sat (taken + sat (suc n * t)))) (L.elements f n (restOf vs) (sat (at + t)) (sat (taken + t)) (max past past′) b′))
-          ≡ did (λ t. sat (taken′ + t)) past b (W.next o (λ ps t. W.behind ps t (W.elements g n (restOf vs) (at′ + t))))
+          → L.bind (done b o) (λ b′ past′ t. cond (settled vs past′ t) (laid b′ (max past past′) (sat (taken + sat (suc n * t)))) (L.elements f n (restOf vs) (sat (at + t)) (sat (taken + t)) (max past past′) b′))
+          ≡ did (λ t. sat (taken′ + t)) past b (W.bind o (λ ps t. W.thenElement ps t (W.elements g n (restOf vs) (at′ + t))))
       element vs (W.refused m) e lies ih = refl
       element none (wrote ps t) e lies ih = settles ps t e lies ih
       element (node it members rest) (wrote ps t) e lies ih = goes rest ps t ih
@@ -266,9 +267,9 @@ module _ (room : ℕ) (small : room ≤ 65536) where
   field-does : {S : Type 0} (k : Codec S) (e : Entry) (f : Layer) (g : Writer) → Fair k e → Does f g → Even g → Keeps room g → Does (L.field k room e f) (W.field k room e g)
   unfolding L.field W.field
   field-does k e f g fair does even keeps vs at at′ b p =
-      ap₂ (cond (single e)) (one-does k e f g (fair .width) does vs at at′ b p)
+      ap₂ (cond (unrepeated e)) (one-does k e f g (fair .width) does vs at at′ b p)
       (table-does (L.one k room e f) (W.one k room e g) (one-does k e f g (fair .width) does) (one-even k room e g even) (one-in k room e g fair keeps) e vs at at′ b p)
-      ∙ done-cond b (single e) (W.one k room e g vs at′) (W.table e (W.one k room e g) vs at′)
+      ∙ done-cond b (unrepeated e) (W.one k room e g vs at′) (W.table e (W.one k room e g) vs at′)
 
 -- ---- the entries of a sequence
 
@@ -322,15 +323,15 @@ module _ (off s s′ t res far′ : ℕ) (r : res ≤ 4294836225) where
 module _ {S : Type 0} (k : Codec S) (room : ℕ) (small : room ≤ 65536) where
   entry : (e : Entry) (rest : Tree Entry) (all : Values) (base base′ s s′ taken taken′ past : ℕ) (b : List ℕ) (o : Wrote) → Fair k e → Pos base base′ → taken ≡ sat taken′ → Shifts s s′ taken′
       → ((s s′ taken taken′ past : ℕ) (b : List ℕ) → taken ≡ sat taken′ → Shifts s s′ taken′ → L.seq k room rest all base s taken past b ≡ did (λ t. sat (max taken′ t)) past b (W.seq k room rest all base′ s′))
-      → L.next (done b o) (λ b′ past′ t. L.seq k room rest all base (sat (s + (t - reservedWidth e))) (max taken (sat (sat (e .offset + s) + t))) (max past past′) b′)
-      ≡ did (λ t. sat (max taken′ t)) past b (W.next o (λ ps t. W.follow ps (e .offset + s′ + t) (W.seq k room rest all base′ (s′ + (t - reservedWidth e)))))
+      → L.bind (done b o) (λ b′ past′ t. L.seq k room rest all base (sat (s + (t - reservedWidth e))) (max taken (sat (sat (e .offset + s) + t))) (max past past′) b′)
+      ≡ did (λ t. sat (max taken′ t)) past b (W.bind o (λ ps t. W.thenEntry ps (e .offset + s′ + t) (W.seq k room rest all base′ (s′ + (t - reservedWidth e)))))
   entry e rest all base base′ s s′ taken taken′ past b (W.refused n) fair p q r ih = refl
   entry e rest all base base′ s s′ taken taken′ past b (wrote ps t) fair p q r ih =
       ih (sat (s + (sat t - reservedWidth e))) (s′ + (t - reservedWidth e)) (max taken (sat (sat (e .offset + s) + sat t))) (max taken′ (e .offset + s′ + t)) (max past (stretch ps)) (apply ps b)
       (taken-next (e .offset) s s′ t taken taken′ q r) (shift-next (e .offset) s s′ t (reservedWidth e) taken′ (fair .reserved) r)
       ∙ fold (W.seq k room rest all base′ (s′ + (t - reservedWidth e)))
     where
-      fold : (o : Wrote) → did (λ u. sat (max (max taken′ (e .offset + s′ + t)) u)) (max past (stretch ps)) (apply ps b) o ≡ did (λ u. sat (max taken′ u)) past b (W.follow ps (e .offset + s′ + t) o)
+      fold : (o : Wrote) → did (λ u. sat (max (max taken′ (e .offset + s′ + t)) u)) (max past (stretch ps)) (apply ps b) o ≡ did (λ u. sat (max taken′ u)) past b (W.thenEntry ps (e .offset + s′ + t) o)
       fold (W.refused n) = refl
       fold (wrote qs u) =
           let z : max (max taken′ (e .offset + s′ + t)) u ≡ max taken′ (max (e .offset + s′ + t) u) = omega arith in

@@ -12,7 +12,7 @@ use Rattle.items.specs.declared.Item.{Item}
 use Rattle.items.specs.Items as Items
 use Rattle.items.specs.Items.{Values, values, headOf, restOf, lookup}
 use Rattle.items.proofs.Items.{values-none, values-node, rest-is}
-use Rattle.walks.specs.Walk.{single, isPad}
+use Rattle.layout.specs.Layout.{unrepeated, isPad}
 use Rattle.encode.specs.Order.{heads, valueOf, Ahead}
 
 -- ---- the first item
@@ -37,7 +37,7 @@ heads-over name other (node it members rest) h k = rw (ne-eqb (it .name) other (
 
 -- ---- an entry's own
 
-module _ (v : List ℕ) (e : Entry) (to : ℕ) (all : Values) (z : Bool) (y : z ≡ (isPad e && single e)) where
+module _ (v : List ℕ) (e : Entry) (to : ℕ) (all : Values) (z : Bool) (y : z ≡ (isPad e && unrepeated e)) where
   pub place-pad : z ≡ true → valueOf e all ≡ values v to to
   unfolding valueOf
   place-pad f = rw (sym y ∙ f) (sym (values-none v to to (omega arith)))

@@ -8,12 +8,12 @@ use lib.Dec.{eqb, leb}
 use lib.ListN.{length}
 use borrow.Author.Tests.{leb-true}
 use Rattle.layout.specs.declared.Entry.{Entry}
-use Rattle.layout.specs.Layout.{isGroup, reservedWidth}
+use Rattle.layout.specs.Layout.{isGroup, reservedWidth, unrepeated}
 use Rattle.spans.specs.Tree.{Tree, none, node}
 use Rattle.items.specs.declared.Item.{Item}
 use Rattle.items.specs.Items.{Values, headOf, membersOf, restOf, lookup}
-use Rattle.walks.specs.Walk.{single, Coded, unfit, bytes, Codec}
-use Rattle.walks.specs.Writing.{Put, reach, Wrote, refused, wrote, Writer, next, behind, follow, coded, one, elements, tableLength, table, field, seq}
+use Rattle.walks.specs.Walk.{Coded, unfit, bytes, Codec}
+use Rattle.walks.specs.Writing.{Put, reach, Wrote, refused, wrote, Writer, bind, thenElement, thenEntry, coded, one, elements, tableLength, table, field, seq}
 
 -- what the laws of the walk take of an entry
 pub record Fair {S : Type 0} (k : Codec S) (e : Entry) : Type 0 where
@@ -60,13 +60,13 @@ coded-in room w at (bytes bs) h = by (leb (at + length bs) room) refl
     by true e = ((omega arith, (omega (arith, h bs refl), leb-true (at + length bs) room e)), tt)
     by false e = tt
 
-behind-in : (room at t : ℕ) (ps : List Put) (o : Wrote) → Lies room at (at + t) ps → In room (at + t) o → In room at (behind ps t o)
+behind-in : (room at t : ℕ) (ps : List Put) (o : Wrote) → Lies room at (at + t) ps → In room (at + t) o → In room at (thenElement ps t o)
 behind-in room at t ps (refused n) h k = tt
 behind-in room at t ps (wrote qs t′) h k =
     lies-append room at (at + (t + t′)) ps qs (lies-more room at (at + t) at (at + (t + t′)) ps (omega arith) (omega arith) h)
     (lies-more room (at + t) (at + t + t′) at (at + (t + t′)) qs (omega arith) (omega arith) k)
 
-follow-in : (room base off t : ℕ) (ps : List Put) (o : Wrote) → Lies room (base + off) (base + off + t) ps → In room base o → In room base (follow ps (off + t) o)
+follow-in : (room base off t : ℕ) (ps : List Put) (o : Wrote) → Lies room (base + off) (base + off + t) ps → In room base o → In room base (thenEntry ps (off + t) o)
 follow-in room base off t ps (refused n) h k = tt
 follow-in room base off t ps (wrote qs far) h k =
     lies-append room base (base + max (off + t) far) ps qs (lies-more room (base + off) (base + off + t) base (base + max (off + t) far) ps (omega arith) (omega arith) h)
@@ -84,7 +84,7 @@ unfolding elements
 elements-in room f h zero vs at = tt
 elements-in room f h (suc n) vs at = go (f vs at) (h vs at) (λ t. elements-in room f h n (restOf vs) (at + t))
   where
-    go : (o : Wrote) → In room at o → ((t : ℕ) → In room (at + t) (elements f n (restOf vs) (at + t))) → In room at (next o (λ ps t. behind ps t (elements f n (restOf vs) (at + t))))
+    go : (o : Wrote) → In room at o → ((t : ℕ) → In room (at + t) (elements f n (restOf vs) (at + t))) → In room at (bind o (λ ps t. thenElement ps t (elements f n (restOf vs) (at + t))))
     go (refused m) k ih = tt
     go (wrote ps t) k ih = behind-in room at t ps (elements f n (restOf vs) (at + t)) k (ih t)
 
@@ -97,7 +97,7 @@ table-in room e f h vs at =
 pub field-in : {S : Type 0} (k : Codec S) (room : ℕ) (e : Entry) (f : Writer) → Fair k e → Keeps room f → Keeps room (field k room e f)
 unfolding field
 field-in k room e f fair h vs at =
-    in-cond room at (single e) (one k room e f vs at) (table e (one k room e f) vs at) (one-in k room e f fair h vs at) (table-in room e (one k room e f) (one-in k room e f fair h) vs at)
+    in-cond room at (unrepeated e) (one k room e f vs at) (table e (one k room e f) vs at) (one-in k room e f fair h vs at) (table-in room e (one k room e f) (one-in k room e f fair h) vs at)
 
 pub seq-in : {S : Type 0} (k : Codec S) (room : ℕ) (t : Tree Entry) → AllFair k t → (all : Values) (base shift : ℕ) → In room base (seq k room t all base shift)
 unfolding seq
@@ -108,6 +108,6 @@ seq-in k room (node e members rest) fair all base shift =
     (λ s. seq-in k room rest (fair .1 .1) all base s)
   where
     go : (o : Wrote) → In room (base + (e .offset + shift)) o → ((s : ℕ) → In room base (seq k room rest all base s))
-        → In room base (next o (λ ps t. follow ps (e .offset + shift + t) (seq k room rest all base (shift + (t - reservedWidth e)))))
+        → In room base (bind o (λ ps t. thenEntry ps (e .offset + shift + t) (seq k room rest all base (shift + (t - reservedWidth e)))))
     go (refused n) h ih = tt
     go (wrote ps t) h ih = follow-in room base (e .offset + shift) t ps (seq k room rest all base (shift + (t - reservedWidth e))) h (ih (shift + (t - reservedWidth e)))

@@ -10,13 +10,14 @@ use borrow.Author.Tests.{eq-eqb, ne-eqb, eqb-true, leb-true}
 use Rattle.spans.specs.Tree.{Tree, none, node, endOf}
 use Rattle.spans.proofs.Tree.{tree-none, tree-at}
 use Rattle.layout.specs.declared.Entry.{Entry}
-use Rattle.layout.specs.Layout.{entryAt, spanOf, isGroup, part, reservedWidth}
+use Rattle.layout.specs.Layout.{entryAt, spanOf, isGroup, part, reservedWidth, unrepeated, isPad}
 use Rattle.items.specs.declared.Item.{Item}
 use Rattle.items.specs.Items.{Values, headOf, membersOf, lookup}
-use Rattle.walks.specs.Walk.{single, isPad, Coded, unfit, bytes, Codec}
+use Rattle.walks.specs.Walk.{Coded, unfit, bytes, Codec}
 use Rattle.walks.specs.Writing.{lay}
 use Rattle.walks.proofs.Single.{single-reserves}
-use Rattle.encode_leaf.specs.Laying.{sat, Laid, refused, laid, Layer, next, coded, leaf, inside, one, settled, elements, table, field, seq, start}
+use Rattle.encode_leaf.specs.Laying.{Laid, refused, laid, Layer, bind, coded, leaf, container, one, settled, elements, table, field, seq, start}
+use Rattle.positions.specs.Positions.{sat}
 use Rattle.encode_leaf.specs.Machine.{codec}
 use Rattle.encode_leaf.proofs.Inside.{spread}
 use Rattle.encode_leaf.proofs.Leaves.{leaf-pad}
@@ -29,7 +30,7 @@ module _ (e : Entry) where
   unfolding lone
   lone-group h = rw (eq-eqb (e .kind) 9 h) refl
 
-  pub lone-table : (z : Bool) → z ≡ single e → z ≡ false → false ≡ lone e
+  pub lone-table : (z : Bool) → z ≡ unrepeated e → z ≡ false → false ≡ lone e
   unfolding lone
   lone-table z y f = rw (sym y ∙ f) (go (isGroup e))
     where
@@ -37,22 +38,22 @@ module _ (e : Entry) where
       go true = refl
       go false = refl
 
-  pub lone-span : (e .kind ≡ 9 → ⊥) → (z : Bool) → z ≡ single e → z ≡ true → leb (e .span) 1 ≡ lone e
+  pub lone-span : (e .kind ≡ 9 → ⊥) → (z : Bool) → z ≡ unrepeated e → z ≡ true → leb (e .span) 1 ≡ lone e
   unfolding lone
   lone-span h z y f = rw (ne-eqb (e .kind) 9 h, sym y ∙ f) refl
 
-  pub pad-kind : e .kind ≡ 6 → (z : Bool) → z ≡ single e → z ≡ (isPad e && single e)
+  pub pad-kind : e .kind ≡ 6 → (z : Bool) → z ≡ unrepeated e → z ≡ (isPad e && unrepeated e)
   unfolding isPad
-  pad-kind h z y = y ∙ ap (λ x. x && single e) (sym (eq-eqb (e .kind) 6 h))
+  pad-kind h z y = y ∙ ap (λ x. x && unrepeated e) (sym (eq-eqb (e .kind) 6 h))
 
-  pub pad-not : (e .kind ≡ 6 → ⊥) → false ≡ (isPad e && single e)
+  pub pad-not : (e .kind ≡ 6 → ⊥) → false ≡ (isPad e && unrepeated e)
   unfolding isPad
   pad-not h = rw (ne-eqb (e .kind) 6 h) refl
 
 -- ---- an entry that is written at once
 
 module _ {S : Type 0} (k : Codec S) (room : ℕ) (e : Entry) (inner : Layer) (vs : Values) (at : ℕ) (b : List ℕ) where
-  field-leaf : isGroup e ≡ false → single e ≡ true → (it : Item) → it ≡ headOf vs → field k room e inner vs at b ≡ leaf k room e it at b
+  field-leaf : isGroup e ≡ false → unrepeated e ≡ true → (it : Item) → it ≡ headOf vs → field k room e inner vs at b ≡ leaf k room e it at b
   unfolding field one
   field-leaf g s it p = rw (s, g) (ap (λ x. leaf k room e x at b) (sym p))
 
@@ -73,9 +74,9 @@ taken-is room w at b (bytes bs) b′ past t h = go (leb (at + length bs) room) h
     go false f = sym (ap takenOf f)
 
 module _ (e : Entry) (z : Bool) (y : z ≡ lone e) (f : z ≡ true) where
-  parts : (isGroup e ≡ false) × ((single e ≡ true) × (leb (e .span) 1 ≡ true))
+  parts : (isGroup e ≡ false) × ((unrepeated e ≡ true) × (leb (e .span) 1 ≡ true))
   unfolding lone
-  parts = go (isGroup e) (single e) (leb (e .span) 1) (sym y ∙ f)
+  parts = go (isGroup e) (unrepeated e) (leb (e .span) 1) (sym y ∙ f)
     where
       go : (g s l : Bool) → (not g && (s && l)) ≡ true → (g ≡ false) × ((s ≡ true) × (l ≡ true))
       go true s l h = absurd (false≢true h)
@@ -100,9 +101,9 @@ module _ (e : Entry) (z : Bool) (y : z ≡ lone e) (f : z ≡ true) where
 pub field-value : (masks text : List ℕ) (page room : ℕ) (e : Entry) (inner : Layer) (all : Values) (at : ℕ) (b : List ℕ)
     → field (codec masks page text) room e inner (valueOf e all) at b ≡ field (codec masks page text) room e inner (lookup (e .name) all) at b
 unfolding valueOf isPad
-field-value masks text page room e inner all at b = go (eqb (e .kind) 6) (single e) refl refl
+field-value masks text page room e inner all at b = go (eqb (e .kind) 6) (unrepeated e) refl refl
   where
-    go : (x y : Bool) → eqb (e .kind) 6 ≡ x → single e ≡ y
+    go : (x y : Bool) → eqb (e .kind) 6 ≡ x → unrepeated e ≡ y
         → field (codec masks page text) room e inner (cond (x && y) none (lookup (e .name) all)) at b ≡ field (codec masks page text) room e inner (lookup (e .name) all) at b
     go true true p q =
         let k : e .kind ≡ 6 = eqb-true (e .kind) 6 p in
@@ -123,7 +124,7 @@ cond-stops : (x : Bool) (o p : Laid) → Stops o → Stops p → Stops (cond x o
 cond-stops true o p h k = h
 cond-stops false o p h k = k
 
-next-stops : (o : Laid) (f : List ℕ → ℕ → ℕ → Laid) → ((b : List ℕ) (past t : ℕ) → Stops (f b past t)) → Stops (next o f)
+next-stops : (o : Laid) (f : List ℕ → ℕ → ℕ → Laid) → ((b : List ℕ) (past t : ℕ) → Stops (f b past t)) → Stops (bind o f)
 next-stops (refused n) f h = tt
 next-stops (laid b past t) f h = h b past t
 
@@ -142,7 +143,7 @@ seq-stops k room (node e members rest) vs base shift taken past b h =
 
 module _ {S : Type 0} (k : Codec S) (room : ℕ) (e : Entry) (members : Tree Entry) (small : e .width ≤ 9223372036854775808) where
   one-stops : (vs : Values) (at : ℕ) (b : List ℕ) → Stops (one k room e (start k room members) vs at b)
-  unfolding one inside leaf
+  unfolding one container leaf
   one-stops vs at b =
       cond-stops (isGroup e) _ _
       (cond-stops (eqb (headOf vs .tag) 7) _ _ (seq-stops k room members (membersOf vs) at 0 0 0 b (omega arith))
@@ -155,7 +156,7 @@ module _ {S : Type 0} (k : Codec S) (room : ℕ) (e : Entry) (members : Tree Ent
   once vs at b = go (one k room e (start k room members) vs at b) (one-stops vs at b)
     where
       go : (o : Laid) → Stops o
-          → o ≡ next o (λ b′ past′ t. cond (settled vs past′ t) (laid b′ (max 0 past′) (sat (0 + sat (1 * t)))) (laid b′ (max 0 past′) (sat (0 + t))))
+          → o ≡ bind o (λ b′ past′ t. cond (settled vs past′ t) (laid b′ (max 0 past′) (sat (0 + sat (1 * t)))) (laid b′ (max 0 past′) (sat (0 + t))))
       go (refused n) h = refl
       go (laid b′ past′ t) h = by (settled vs past′ t)
         where
@@ -166,7 +167,7 @@ module _ {S : Type 0} (k : Codec S) (room : ℕ) (e : Entry) (members : Tree Ent
   pub field-spread : (vs : Values) (at : ℕ) (b : List ℕ)
       → field k room e (start k room members) vs at b ≡ spread e (λ n ms. elements (one k room e (start k room members)) n ms at 0 0 b) vs
   unfolding field table spread
-  field-spread vs at b = ap (λ o. cond (single e) o (table e (one k room e (start k room members)) vs at b)) (once vs at b)
+  field-spread vs at b = ap (λ o. cond (unrepeated e) o (table e (one k room e (start k room members)) vs at b)) (once vs at b)
 
 -- ---- the entries of a sequence
 

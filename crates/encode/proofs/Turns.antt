@@ -14,7 +14,8 @@ use Rattle.items.proofs.Items.{values-none}
 use Rattle.walks.specs.Records.{most}
 use Rattle.encode_leaf.specs.declared.Out.{Out}
 use Rattle.encode_leaf.specs.declared.Run.{Run}
-use Rattle.encode_leaf.specs.Laying.{sat, Laid, refused, laid, Layer, group, leaves, one, elements, field, seq, start}
+use Rattle.encode_leaf.specs.Laying.{Laid, refused, laid, Layer, group, leaves, one, elements, field, seq, start}
+use Rattle.positions.specs.Positions.{sat}
 use Rattle.encode_leaf.specs.Machine.{codec, roomIn, elementsIn}
 use Rattle.encode_leaf.proofs.Inside.{spread, Spreads, spreads}
 use Rattle.encode.specs.declared.Place.{Place}

@@ -5,9 +5,8 @@ use Prim.Native.Nat.{ℕ, _/_, min}
 use lib.Dec.{eqb, leb}
 use lib.ListN.{length}
 use Rattle.layout.specs.declared.Entry.{Entry}
-use Rattle.layout.specs.Layout.{layoutAsks}
+use Rattle.layout.specs.Layout.{layoutAsks, isPad}
 use Rattle.items.specs.Items.{Values, values, restOf, lookup, wellFormed}
-use Rattle.walks.specs.Walk.{isPad}
 use Rattle.walks.specs.Records.{listAsks}
 use Rattle.encode.specs.Order.{heads}
 
@@ -18,7 +17,3 @@ askedOf l masks page items text room work =
 -- the items from an entry's own on: these, if the first has its name, or else those of the whole list from the first of the name on; a Pad has none
 abbrev pub sought : Entry → Values → Values → Values
 sought e vs all = cond (isPad e) vs (cond (heads (e .name) vs) vs (lookup (e .name) all))
-
--- the items behind an entry's own
-abbrev pub passed : Entry → Values → Values
-passed e vs = cond (isPad e) vs (restOf vs)

@@ -5,17 +5,16 @@ use Prim.Native.Nat.{ℕ, _≤_}
 use lib.Dec.{eqb, leb}
 use Rattle.spans.specs.Tree.{none, node}
 use Rattle.layout.specs.declared.Entry.{Entry}
-use Rattle.layout.specs.Layout.{isGroup}
+use Rattle.layout.specs.Layout.{isGroup, unrepeated, isPad}
 use Rattle.items.specs.Items.{Values, lookup}
-use Rattle.walks.specs.Walk.{single, isPad}
 
 -- an entry that is no group and no table, and has no members
 unfoldable pub lone : Entry → Bool
-lone e = not (isGroup e) && (single e && leb (e .span) 1)
+lone e = not (isGroup e) && (unrepeated e && leb (e .span) 1)
 
 -- the items from an entry's own on: the first of its name; a Pad that is no table has none
 unfoldable pub valueOf : Entry → Values → Values
-valueOf e all = cond (isPad e && single e) none (lookup (e .name) all)
+valueOf e all = cond (isPad e && unrepeated e) none (lookup (e .name) all)
 
 -- whether the first of these items has the name
 abbrev pub heads : ℕ → Values → Bool

@@ -4,26 +4,28 @@ use encode_leaf::clear;
 use encode_leaf::elements_of;
 use encode_leaf::encode_leaf;
 use encode_leaf::encode_table;
-use encode_leaf::is_single;
-use encode_leaf::larger;
-use encode_leaf::less;
 use encode_leaf::refusal;
 use encode_leaf::room_of;
-use encode_leaf::sat_add;
-use encode_leaf::sat_mul;
 use encode_leaf::settles;
 use encode_leaf::takes;
+use encode_leaf::values_after;
 use items::after;
 use items::check_items;
 use items::fetch;
 use items::find;
+use items::item_count;
 use items::item_end;
 use layout::Entry;
 use layout::ask_layout;
 use layout::load;
 use layout::record_length;
 use layout::reserved_width;
+use layout::unrepeated;
 use lists::fill;
+use positions::larger;
+use positions::less;
+use positions::sat_add;
+use positions::sat_mul;
 use spans::end_of;
 ghost use mathlib.Core.Path.{_≡_};
 ghost use Prim.Native.Nat.{ℕ, _/_};
@@ -31,9 +33,8 @@ ghost use mathlib.Core.Bool.{_&&_, _||_};
 ghost use lib.Dec.{eqb, ltb};
 ghost use lib.IntN.{pos};
 ghost use lib.ListN.{length, replicate};
-ghost use Rattle.layout.specs.Layout.{part, entries, recordLength};
-ghost use Rattle.items.specs.Items.{values};
-ghost use Rattle.walks.specs.Walk.{single, isPad};
+ghost use Rattle.layout.specs.Layout.{part, entries, recordLength, unrepeated, isPad};
+ghost use Rattle.items.specs.Items.{itemCount, values};
 ghost use Rattle.walks.specs.Records.{listAsks, writtenInto, RecordWritten, supplied};
 ghost use Rattle.encode_leaf.specs.Laying.{group, field, start};
 ghost use Rattle.encode_leaf.specs.Machine.{Met, codec, roomIn};
@@ -69,10 +70,10 @@ struct Place {
 
 // Whether an entry is a Pad that is no table.
 fn is_lone_pad(e: Entry) -> bool
-    ensures { λ r. ⌜ r ≡ (isPad e && single e) ⌝ }
+    ensures { λ r. ⌜ r ≡ (isPad e && unrepeated e) ⌝ }
 {
     if e.kind == 6 {
-        return is_single(e);
+        return unrepeated(e);
     }
     false
 }
@@ -113,7 +114,7 @@ fn is_lone_leaf(e: Entry) -> bool
     if e.kind == 9 {
         return false;
     }
-    if !is_single(e) {
+    if !unrepeated(e) {
         return false;
     }
     e.span <= 1
@@ -298,22 +299,12 @@ fn seek(items: &[u64], e: Entry, next: usize, to: usize) -> usize
     find(items, e.name as u64, 0, to)
 }
 
-// The place behind the item of an entry, which is at j; a Pad has none.
-fn behind(items: &[u64], e: Entry, j: usize, to: usize) -> usize
-    ensures { λ r. ⌜ values (now (items .entry)) r to ≡ passed e (values (now (items .entry)) j to) ⌝ }
-{
-    if e.kind == 6 {
-        return j;
-    }
-    item_end(items, j, to)
-}
-
 // Whether every top-level name but those of Pads is in the list.
 fn supplies(layout: &[u32], items: &[u64]) -> bool
-    ensures { λ r. ⌜ r ≡ supplied (entries (now (layout .entry))) (values (now (items .entry)) 0 (length (now (items .entry)) / 4)) ⌝ }
+    ensures { λ r. ⌜ r ≡ supplied (entries (now (layout .entry))) (values (now (items .entry)) 0 (itemCount (now (items .entry)))) ⌝ }
 {
     let n = layout.len() / 12;
-    let to = items.len() / 4;
+    let to = item_count(items.len());
     let mut i = 0;
     let mut next = 0;
     while i < n {
@@ -322,7 +313,7 @@ fn supplies(layout: &[u32], items: &[u64]) -> bool
         if !has_value(e, j, to) {
             return false;
         }
-        next = behind(items, e, j, to);
+        next = values_after(items, e, j, to);
         i = end_of(e.span as u64, i, n);
     }
     true
@@ -405,7 +396,7 @@ pub fn encode_record(
         0,
         layout.len() / 12,
         0,
-        items.len() / 4,
+        item_count(items.len()),
         0,
     );
     if o.refused != 0 {

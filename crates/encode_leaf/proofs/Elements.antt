@@ -10,13 +10,14 @@ use lib.ListN.{length}
 use borrow.Author.Tests.{lt-leb, le-leb}
 use Rattle.spans.specs.Tree.{endOf}
 use Rattle.items.specs.Items as Items
-use Rattle.items.specs.Items.{Values, values, headOf, restOf}
+use Rattle.items.specs.Items.{Values, values, headOf, restOf, missing}
 use Rattle.items.proofs.Items.{values-none, values-node, rest-is}
 use Rattle.encode_leaf.specs.declared.Out.{Out}
 use Rattle.layout.specs.declared.Entry.{Entry}
 use Rattle.items.specs.declared.Item.{Item}
 use Rattle.walks.specs.Records.{most}
-use Rattle.encode_leaf.specs.Laying.{sat, Laid, refused, laid, Layer, leaf, leaves, missing, settled, elements}
+use Rattle.encode_leaf.specs.Laying.{Laid, refused, laid, Layer, leaf, leaves, settled, elements}
+use Rattle.positions.specs.Positions.{sat}
 use Rattle.encode_leaf.specs.Machine.{bufferBehind, codec, roomIn}
 
 missing-by : (v : List ℕ) (j to : ℕ) → missing (values v j to) ≡ leb to j

@@ -12,17 +12,17 @@ use Rattle.items.specs.declared.Item.{Item}
 use Rattle.items.specs.Items as Items
 use Rattle.items.specs.Items.{Values, values, headOf, membersOf}
 use Rattle.items.proofs.Items.{members-is, members-null}
-use Rattle.walks.specs.Walk.{single}
+use Rattle.layout.specs.Layout.{unrepeated}
 use Rattle.walks.specs.Writing.{tableLength}
 use Rattle.encode_leaf.specs.declared.Run.{Run}
-use Rattle.encode_leaf.specs.Laying.{Laid, refused, inside}
+use Rattle.encode_leaf.specs.Laying.{Laid, refused, container}
 use Rattle.encode_leaf.specs.Machine.{taking, endIn, run, membersIn, elementsIn}
 
 -- ---- the members of a value
 
 module _ (tag : ℕ) (f : Values → Laid) (v : List ℕ) (i to : ℕ) (it : Item) (p : it ≡ headOf (values v i to)) where
-  pub inside-not : taking (it .tag) tag ≡ false → inside tag f (values v i to) ≡ refused 13
-  unfolding inside
+  pub inside-not : taking (it .tag) tag ≡ false → container tag f (values v i to) ≡ refused 13
+  unfolding container
   inside-not h = rw (← p) (go (eqb (it .tag) tag) (eqb (it .tag) 0) h)
     where
       go : (x y : Bool) → (x || y) ≡ false → cond x (f (membersOf (values v i to))) (cond y (f none) (refused 13)) ≡ refused 13
@@ -30,8 +30,8 @@ module _ (tag : ℕ) (f : Values → Laid) (v : List ℕ) (i to : ℕ) (it : Ite
       go false true h = absurd (false≢true (sym h))
       go false false h = refl
 
-  pub inside-is : (en m : ℕ) → taking (it .tag) tag ≡ true → en ≡ endOf (Items.spanOf (headOf (values v i to))) i to → m ≡ min en (i + 1) → inside tag f (values v i to) ≡ f (values v m en)
-  unfolding inside
+  pub inside-is : (en m : ℕ) → taking (it .tag) tag ≡ true → en ≡ endOf (Items.spanOf (headOf (values v i to))) i to → m ≡ min en (i + 1) → container tag f (values v i to) ≡ f (values v m en)
+  unfolding container
   inside-is en m h q r = rw (← p) (go (eqb (it .tag) tag) (eqb (it .tag) 0) refl h)
     where
       go : (x y : Bool) → eqb (it .tag) 0 ≡ y → (x || y) ≡ true → cond x (f (membersOf (values v i to))) (cond y (f none) (refused 13)) ≡ f (values v m en)
@@ -43,7 +43,7 @@ module _ (tag : ℕ) (f : Values → Laid) (v : List ℕ) (i to : ℕ) (it : Ite
 
 -- f of how many elements an entry has and of what they are: one, the value itself, or the members of a List
 unfoldable pub spread : Entry → (ℕ → Values → Laid) → Values → Laid
-spread e f vs = cond (single e) (f 1 vs) (inside 6 (λ ms. f (tableLength e ms) ms) vs)
+spread e f vs = cond (unrepeated e) (f 1 vs) (container 6 (λ ms. f (tableLength e ms) ms) vs)
 
 pub record Spreads (v : List ℕ) (e : Entry) (vs : Values) (r : Run) : Type 0 where
   pub fine : r .refused ≡ 0 → (f : ℕ → Values → Laid) → spread e f vs ≡ f (r .n) (values v (r .from) (r .end))
@@ -52,12 +52,12 @@ pub record Spreads (v : List ℕ) (e : Entry) (vs : Values) (r : Run) : Type 0 w
 module _ (e : Entry) (v : List ℕ) (i to : ℕ) where
   pub spreads : (r : Run) → r ≡ elementsIn v e i to → Spreads v e (values v i to) r
   unfolding elementsIn spread
-  spreads r q = rw q (go (single e) refl (taking (headOf (values v i to) .tag) 6) refl)
+  spreads r q = rw q (go (unrepeated e) refl (taking (headOf (values v i to) .tag) 6) refl)
     where
-      table : single e ≡ false → (f : ℕ → Values → Laid) → spread e f (values v i to) ≡ inside 6 (λ ms. f (tableLength e ms) ms) (values v i to)
+      table : unrepeated e ≡ false → (f : ℕ → Values → Laid) → spread e f (values v i to) ≡ container 6 (λ ms. f (tableLength e ms) ms) (values v i to)
       table a f = rw a refl
 
-      go : (x : Bool) → single e ≡ x → (t : Bool) → taking (headOf (values v i to) .tag) 6 ≡ t → Spreads v e (values v i to) (elementsIn v e i to)
+      go : (x : Bool) → unrepeated e ≡ x → (t : Bool) → taking (headOf (values v i to) .tag) 6 ≡ t → Spreads v e (values v i to) (elementsIn v e i to)
       go true a t b = rw a (record { fine = λ _ f. rw a refl; refuses = λ n. absurd (n refl) })
       go false a true b = rw (a, b) (record {
         fine = λ _ f. table a f ∙ inside-is 6 (λ ms. f (tableLength e ms) ms) v i to (headOf (values v i to)) refl (endIn v i to) (min (endIn v i to) (i + 1)) b refl refl;
@@ -68,7 +68,7 @@ module _ (e : Entry) (v : List ℕ) (i to : ℕ) where
         refuses = λ _ f. table a f ∙ inside-not 6 (λ ms. f (tableLength e ms) ms) v i to (headOf (values v i to)) refl b;
       })
 
-  module _ (z : Bool) (y : z ≡ single e) where
+  module _ (z : Bool) (y : z ≡ unrepeated e) where
     pub run-one : z ≡ true → run 0 1 i to ≡ elementsIn v e i to
     unfolding elementsIn
     run-one h = rw (sym y ∙ h) refl

@@ -17,27 +17,15 @@ use Rattle.items.specs.declared.Item.{Item}
 use Rattle.value.specs.declared.Scalar.{Scalar}
 use Rattle.encode_scalar.specs.Encode.{judgedOf, bytesOf, numberJudged, numberBytes, partAfter}
 use Rattle.encode_scalar.proofs.Parts.{whole}
-use Rattle.walks.specs.Walk.{single, unfit, bytes}
+use Rattle.walks.specs.Walk.{unfit, bytes}
+use Rattle.layout.specs.Layout.{unrepeated}
 use Rattle.walks.specs.Writing.{lay}
-use Rattle.walks.specs.Kinds.{maskOf, textOf, scalarIn, enc}
-use Rattle.encode_leaf.specs.Laying.{sat, refused, laid, coded, leaf}
+use Rattle.walks.specs.Kinds.{maskOf, enc}
+use Rattle.items.specs.Items.{textOf, scalarIn}
+use Rattle.encode_leaf.specs.Laying.{refused, laid, coded, leaf}
+use Rattle.positions.specs.Positions.{sat}
 use Rattle.encode_leaf.specs.Machine.{codec, putting, putWidth, masking, maskFor, judged, outside, bytesIn}
 use Rattle.encode_leaf.proofs.Widths.{by-kind, wide}
-
--- ---- products that stop
-
-pub product-fits : (a b : ℕ) → (b ≡ 0 → ⊥) → a ≤ 9223372036854775808 / b → a * b ≤ 9223372036854775808
-product-fits a b h k = le-div-iff-mul-le {k = b} {x = a} {y = 9223372036854775808} (omega arith) .0 k
-
-pub product-stops : (a b : ℕ) → (b ≡ 0 → ⊥) → 9223372036854775808 / b < a → 9223372036854775808 ≡ sat (a * b)
-product-stops a b h k = go (decLt 9223372036854775808 (a * b))
-  where
-    go : Dec (9223372036854775808 < a * b) → 9223372036854775808 ≡ sat (a * b)
-    go (yes l) = omega arith
-    go (no l) =
-        let m : a * b ≤ 9223372036854775808 = omega arith in
-        let n : a ≤ 9223372036854775808 / b = le-div-iff-mul-le {k = b} {x = a} {y = 9223372036854775808} (omega arith) .1 m in
-        absurd (omega (arith, n, k))
 
 -- ---- a part of a list, its ends kept inside
 
@@ -207,20 +195,3 @@ pub leaf-pad : (masks text : List ℕ) (page room : ℕ) (e : Entry) (it other :
     → leaf (codec masks page text) room e it at b ≡ leaf (codec masks page text) room e other at b
 unfolding leaf enc judgedOf bytesOf
 leaf-pad masks text page room e it other at b h = rw h refl
-
--- ---- tests
-
-pub leb-shift : (room at width : ℕ) → at ≤ room → leb width (room - at) ≡ leb (at + width) room
-leb-shift room at width h = go (decLt room (at + width))
-  where
-    go : Dec (room < at + width) → leb width (room - at) ≡ leb (at + width) room
-    go (yes k) = lt-leb width (room - at) (omega arith) ∙ sym (lt-leb (at + width) room k)
-    go (no k) = le-leb width (room - at) (omega arith) ∙ sym (le-leb (at + width) room (omega arith))
-
-pub single-by : (e : Entry) → e .occurs ≡ 4294967295 → eqb (e .depending) 4294967295 ≡ single e
-unfolding single
-single-by e h = rw (eq-eqb (e .occurs) 4294967295 h) (twice (eqb (e .depending) 4294967295))
-  where
-    twice : (b : Bool) → b ≡ not (not b)
-    twice true = refl
-    twice false = refl

@@ -1,6 +1,5 @@
 pub mod Widths
 pub mod Meets
 pub mod Leaves
-pub mod Zeros
 pub mod Inside
 pub mod Elements

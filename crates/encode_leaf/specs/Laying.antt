@@ -6,15 +6,12 @@ use Prim.Native.Nat.{ℕ, zero, suc, _+_, _-_, _*_, min, max}
 use lib.Dec.{eqb, leb}
 use lib.ListN.{length}
 use Rattle.layout.specs.declared.Entry.{Entry}
-use Rattle.layout.specs.Layout.{isGroup, reservedWidth}
+use Rattle.layout.specs.Layout.{isGroup, reservedWidth, unrepeated}
 use Rattle.spans.specs.Tree.{Tree, none, node}
 use Rattle.items.specs.declared.Item.{Item}
 use Rattle.items.specs.Items.{Values, headOf, membersOf, restOf, lookup}
-use Rattle.walks.specs.Walk.{single, Coded, unfit, bytes, Codec}
+use Rattle.walks.specs.Walk.{Coded, unfit, bytes, Codec}
 use Rattle.walks.specs.Writing.{lay, tableLength}
-
-abbrev pub sat : ℕ → ℕ
-sat n = min 9223372036854775808 n
 
 -- A refusal; or the buffer, one more than the furthest end of what was put (0 where nothing was), and the bytes taken.
 pub data Laid : Type 0 where
@@ -25,9 +22,9 @@ pub data Laid : Type 0 where
 abbrev pub Layer : Type 0
 Layer = Values → ℕ → List ℕ → Laid
 
-abbrev pub next : Laid → (List ℕ → ℕ → ℕ → Laid) → Laid
-next (refused n) f = refused n
-next (laid b past t) f = f b past t
+abbrev pub bind : Laid → (List ℕ → ℕ → ℕ → Laid) → Laid
+bind (refused n) f = refused n
+bind (laid b past t) f = f b past t
 
 abbrev pub coded : ℕ → ℕ → ℕ → List ℕ → Coded → Laid
 coded room width at b (unfit n) = refused n
@@ -38,22 +35,18 @@ unfoldable pub leaf : {S : Type 0} → Codec S → ℕ → Entry → Item → �
 leaf k room e it at b = coded room (e .width) at b (k .enc e it)
 
 -- a List (tag 6) or Struct (tag 7) by its members, Null as one of none
-unfoldable pub inside : ℕ → (Values → Laid) → Values → Laid
-inside tag f vs = cond (eqb (headOf vs .tag) tag) (f (membersOf vs)) (cond (eqb (headOf vs .tag) 0) (f none) (refused 13))
+unfoldable pub container : ℕ → (Values → Laid) → Values → Laid
+container tag f vs = cond (eqb (headOf vs .tag) tag) (f (membersOf vs)) (cond (eqb (headOf vs .tag) 0) (f none) (refused 13))
 
 -- an element: of a group, and of any other entry
 abbrev pub group : Layer → Layer
-group inner vs at b = inside 7 (λ ms. inner ms at b) vs
+group inner vs at b = container 7 (λ ms. inner ms at b) vs
 
 abbrev pub leaves : {S : Type 0} → Codec S → ℕ → Entry → Layer
 leaves k room e vs at b = leaf k room e (headOf vs) at b
 
 unfoldable pub one : {S : Type 0} → Codec S → ℕ → Entry → Layer → Layer
 one k room e inner vs at b = cond (isGroup e) (group inner vs at b) (leaves k room e vs at b)
-
-abbrev pub missing : Values → Bool
-missing none = true
-missing (node it members rest) = false
 
 -- an element that is missing and took or put nothing: all behind it are missing, and go alike
 abbrev pub settled : Values → ℕ → ℕ → Bool
@@ -63,21 +56,21 @@ settled vs past t = missing vs && (eqb t 0 || eqb past 0)
 unfoldable pub elements : Layer → ℕ → Values → ℕ → ℕ → ℕ → List ℕ → Laid
 elements f zero vs at taken past b = laid b past taken
 elements f (suc n) vs at taken past b =
-    next (f vs at b)
+    bind (f vs at b)
     (λ b′ past′ t. cond (settled vs past′ t) (laid b′ (max past past′) (sat (taken + sat (suc n * t))))
     (elements f n (restOf vs) (sat (at + t)) (sat (taken + t)) (max past past′) b′))
 
 unfoldable pub table : Entry → Layer → Layer
-table e f vs at b = inside 6 (λ ms. elements f (tableLength e ms) ms at 0 0 b) vs
+table e f vs at b = container 6 (λ ms. elements f (tableLength e ms) ms at 0 0 b) vs
 
 unfoldable pub field : {S : Type 0} → Codec S → ℕ → Entry → Layer → Layer
-field k room e inner vs at b = cond (single e) (one k room e inner vs at b) (table e (one k room e inner) vs at b)
+field k room e inner vs at b = cond (unrepeated e) (one k room e inner vs at b) (table e (one k room e inner) vs at b)
 
 -- the entries that are left, behind those that took so many bytes
 unfoldable pub seq : {S : Type 0} → Codec S → ℕ → Tree Entry → Values → ℕ → ℕ → ℕ → ℕ → List ℕ → Laid
 seq k room none all base shift taken past b = laid b past taken
 seq k room (node e members rest) all base shift taken past b =
-    next (field k room e (λ vs base′ b′. seq k room members vs base′ 0 0 0 b′) (lookup (e .name) all) (sat (base + sat (e .offset + shift))) b)
+    bind (field k room e (λ vs base′ b′. seq k room members vs base′ 0 0 0 b′) (lookup (e .name) all) (sat (base + sat (e .offset + shift))) b)
     (λ b′ past′ t. seq k room rest all base (sat (shift + (t - reservedWidth e))) (max taken (sat (sat (e .offset + shift) + t))) (max past past′) b′)
 
 abbrev pub start : {S : Type 0} → Codec S → ℕ → Tree Entry → Layer

@@ -9,14 +9,16 @@ use Rattle.layout.specs.declared.Entry.{Entry}
 use Rattle.items.specs.declared.Item.{Item}
 use Rattle.encode_scalar.specs.Encode.{judgedOf, bytesOf}
 use Rattle.spans.specs.Tree.{endOf}
-use Rattle.items.specs.Items.{Values, values, headOf, restOf, spanOf}
-use Rattle.walks.specs.Walk.{single, Codec}
+use Rattle.items.specs.Items.{Values, values, headOf, restOf, spanOf, textOf, scalarIn}
+use Rattle.walks.specs.Walk.{Codec}
+use Rattle.layout.specs.Layout.{unrepeated}
 use Rattle.walks.specs.Writing.{tableLength}
-use Rattle.walks.specs.Kinds.{State, kinds, maskOf, textOf, scalarIn}
+use Rattle.walks.specs.Kinds.{State, kinds, maskOf}
 use Rattle.walks.specs.Records.{most}
 use Rattle.encode_leaf.specs.declared.Out.{Out}
 use Rattle.encode_leaf.specs.declared.Run.{Run}
-use Rattle.encode_leaf.specs.Laying.{sat, Laid, refused, laid, Layer, settled}
+use Rattle.encode_leaf.specs.Laying.{Laid, refused, laid, Layer, settled}
+use Rattle.positions.specs.Positions.{sat}
 
 -- an answer that refuses: zeros behind its number
 abbrev pub refusing : ℕ → Out
@@ -53,7 +55,7 @@ membersIn v e from end = run 0 (tableLength e (values v from end)) from end
 -- the elements of an entry by the first of the items i up to `to`: that value alone, or those of a table, the members of a List or Null
 unfoldable pub elementsIn : List ℕ → Entry → ℕ → ℕ → Run
 elementsIn v e i to =
-    cond (single e) (run 0 1 i to)
+    cond (unrepeated e) (run 0 1 i to)
     (cond (taking (headOf (values v i to) .tag) 6) (membersIn v e (min (endIn v i to) (i + 1)) (endIn v i to)) (run 13 0 0 0))
 
 -- the writer's codec, and the bytes that the record may have in a buffer

@@ -1,11 +1,17 @@
-// The parts of the record writer: sums that stop, and one scalar or Pad put into the record.
+// The parts of the record writer: the elements of an entry, and one scalar or Pad put into the record.
 use items::Item;
 use items::after;
 use items::fetch;
 use items::item_end;
 use items::members;
 use layout::Entry;
+use layout::unrepeated;
 use lists::fill;
+use positions::inside;
+use positions::larger;
+use positions::sat_add;
+use positions::sat_mul;
+use zeros::clear_counts;
 ghost use mathlib.Core.Path.{_≡_};
 ghost use mathlib.Core.Bool.{Bool, true, false, _||_, _&&_, cond};
 ghost use mathlib.Core.List.{List};
@@ -13,11 +19,11 @@ ghost use Prim.Native.Nat.{ℕ, _+_, _-_, _*_, _≤_, min, max};
 ghost use lib.IntN.{pos};
 ghost use lib.Dec.{eqb, leb};
 ghost use lib.ListN.{length, replicate};
-ghost use Rattle.items.specs.Items.{values};
-ghost use Rattle.walks.specs.Walk.{single};
+ghost use Rattle.items.specs.Items.{values, textOf};
+ghost use Rattle.layout.specs.Layout.{unrepeated};
+ghost use Rattle.walks.specs.Walk.{valuesAfter};
 ghost use Rattle.walks.specs.Writing.{lay, tableLength};
-ghost use Rattle.walks.specs.Kinds.{textOf};
-ghost use Rattle.encode_leaf.specs.Laying.{sat, leaf, leaves, elements};
+ghost use Rattle.encode_leaf.specs.Laying.{leaf, leaves, elements};
 ghost use Rattle.encode_leaf.specs.Machine.{Met, refusing, bufferBehind, elementsIn, codec, roomIn, putWidth, maskFor, judged, outside, bytesIn, taking};
 
 // What a part of the walk came to: the number that refuses it, or 0 with one more than the furthest end of what was put, 0 where
@@ -38,58 +44,7 @@ pub fn refusal(n: u32) -> Out
     }
 }
 
-// ---- positions
-
-// A sum that stops at 2^63.
-pub fn sat_add(a: u64, b: u64) -> u64
-    ensures { λ r. ⌜ r ≡ sat (a + b) ⌝ }
-{
-    if a < 9223372036854775808 {
-        if b < 9223372036854775808 - a {
-            a + b
-        } else {
-            9223372036854775808
-        }
-    } else {
-        9223372036854775808
-    }
-}
-
-// A product that stops at 2^63.
-pub fn sat_mul(a: u64, b: u64) -> u64
-    ensures { λ r. ⌜ r ≡ sat (a * b) ⌝ }
-{
-    if b == 0 {
-        return 0;
-    }
-    if a <= 9223372036854775808 / b {
-        return a * b;
-    }
-    9223372036854775808
-}
-
-pub fn less(a: u64, b: u64) -> u64
-    ensures { λ r. ⌜ r ≡ a - b ⌝ }
-{
-    if b <= a { a - b } else { 0 }
-}
-
-pub fn larger(a: u64, b: u64) -> u64
-    ensures { λ r. ⌜ r ≡ max a b ⌝ }
-{
-    if a <= b { b } else { a }
-}
-
 // ---- tables
-
-pub fn is_single(e: Entry) -> bool
-    ensures { λ r. ⌜ r ≡ single e ⌝ }
-{
-    if e.occurs != 4294967295 {
-        return false;
-    }
-    e.depending == 4294967295
-}
 
 // Whether a value of this tag is of the wanted one, or Null.
 pub fn takes(tag: u64, wanted: u64) -> bool
@@ -123,7 +78,7 @@ pub struct Run {
 pub fn elements_of(items: &[u64], e: Entry, i: usize, to: usize) -> Run
     ensures { λ r. ⌜ r ≡ elementsIn (now (items .entry)) e i to ⌝ }
 {
-    if is_single(e) {
+    if unrepeated(e) {
         return Run {
             refused: 0,
             n: 1,
@@ -149,6 +104,16 @@ pub fn elements_of(items: &[u64], e: Entry, i: usize, to: usize) -> Run
         from,
         end,
     }
+}
+
+// The place behind the item of an entry, which is at j; a Pad has none.
+pub fn values_after(items: &[u64], e: Entry, j: usize, to: usize) -> usize
+    ensures { λ r. ⌜ values (now (items .entry)) r to ≡ valuesAfter e (values (now (items .entry)) j to) ⌝ }
+{
+    if e.kind == 6 {
+        return j;
+    }
+    item_end(items, j, to)
 }
 
 // Whether the element j of the items up to `end` is missing and took or put nothing, so that all behind it go alike.
@@ -199,16 +164,6 @@ fn put_width(e: Entry) -> u64
         return e.width as u64;
     }
     0
-}
-
-// Whether so many bytes at this position are inside the room.
-fn inside_room(room: u64, at: u64, width: u64) -> bool
-    ensures { λ r. ⌜ r ≡ leb (at + width) room ⌝ }
-{
-    if room < at {
-        return false;
-    }
-    width <= room - at
 }
 
 // The mask of an Edited, no bytes for any other entry.
@@ -303,7 +258,7 @@ pub fn encode_leaf(
     ensures { λ r. ⌜ ((r .refused ≡ 0 → ⊥) → now («record» .exit) ≡ now («record» .entry)) ⌝ }
 {
     let width = put_width(e);
-    if !inside_room(room_of(record.len()), at, width) {
+    if !inside(room_of(record.len()), at, width) {
         return refusal(no_room(masks, text, e, width, it));
     }
     let from = at as usize;
@@ -371,16 +326,6 @@ pub fn encode_table(
 }
 
 // ---- zeros
-
-fn clear_counts(counts: &mut [i64])
-    ensures { λ _. ⌜ now (counts .exit) ≡ replicate (length (now (counts .entry))) (pos 0) ⌝ }
-{
-    let mut i = 0;
-    while i < counts.len() {
-        counts[i] = 0;
-        i += 1;
-    }
-}
 
 // The record and the work space as zeros.
 pub fn clear(record: &mut [u8], counts: &mut [i64])

@@ -12,18 +12,19 @@ use Rattle.spans.specs.Tree.{endOf, size}
 use Rattle.layout.specs.declared.Entry.{Entry}
 use Rattle.items.specs.declared.Item.{Item}
 use Rattle.items.specs.Items as Items
-use Rattle.items.specs.Items.{values, headOf, count, scalarOk}
+use Rattle.items.specs.Items.{values, headOf, count, scalarOk, textOf, scalarIn, missing}
 use Rattle.items.proofs.Items.{values-none, values-node, members-is, rest-is, size-values}
 use Rattle.value.specs.declared.Scalar.{Scalar}
 use Rattle.fits.specs.Decide.{fitsOf}
 use Rattle.encode_leaf.proofs.Leaves.{clipped, text-clipped}
-use Rattle.walks.specs.Walk.{isPad, howMany}
-use Rattle.walks.specs.Kinds.{maskOf, textOf, scalarIn}
-use Rattle.walks.specs.Decide.{alone, holds, goodOf}
+use Rattle.walks.specs.Walk.{howMany, valuesAfter}
+use Rattle.layout.specs.Layout.{isPad}
+use Rattle.walks.specs.Kinds.{maskOf}
+use Rattle.walks.specs.Decide.{holds, goodOf}
 use Rattle.decode_leaf.specs.declared.Count.{Count}
 use Rattle.decode_leaf.specs.Machine.{Counted}
 use Rattle.decode_leaf.specs.Counts.{heldIn}
-use Rattle.fitting.specs.Steps.{headed, behind, tabled, good}
+use Rattle.fitting.specs.Steps.{headed, tabled, good}
 
 -- ---- a List or Struct
 
@@ -86,7 +87,7 @@ module _ (masks text : List ℕ) (e : Entry) (it : Item) where
   module _ (name : ℕ) (v : List ℕ) (j to told : ℕ) where
     module _ (h : j < to) (p : it ≡ headOf (values v j to)) (w : it .a < 2 ^ 64) (en : ℕ) (q : en ≡ endOf (Items.spanOf (headOf (values v j to))) j to) where
       good-is : good masks text e name (values v j to) told
-          ≡ (eqb (it .name) name && (alone (values v (j + 1) en) && (scalarOk (length text) it && (fitsIn && packedAt told))))
+          ≡ (eqb (it .name) name && (missing (values v (j + 1) en) && (scalarOk (length text) it && (fitsIn && packedAt told))))
       unfolding goodOf
       good-is =
           ap (λ vs. good masks text e name vs told) (values-node v j to it (Items.spanOf it) en p refl (q ∙ ap (λ x. endOf (Items.spanOf x) j to) (sym p)) h)
@@ -147,10 +148,10 @@ module _ (l : List ℕ) (e : Entry) (v : List ℕ) (j to : ℕ) (run : List ℤ)
 -- ---- the items behind
 
 module _ (e : Entry) (v : List ℕ) (j to : ℕ) where
-  pub behind-pad : e .kind ≡ 6 → values v j to ≡ behind e (values v j to)
+  pub behind-pad : e .kind ≡ 6 → values v j to ≡ valuesAfter e (values v j to)
   unfolding isPad
   behind-pad h = rw (eq-eqb (e .kind) 6 h) refl
 
-  pub behind-item : (e .kind ≡ 6 → ⊥) → (en : ℕ) → en ≡ endOf (Items.spanOf (headOf (values v j to))) j to → values v en to ≡ behind e (values v j to)
+  pub behind-item : (e .kind ≡ 6 → ⊥) → (en : ℕ) → en ≡ endOf (Items.spanOf (headOf (values v j to))) j to → values v en to ≡ valuesAfter e (values v j to)
   unfolding isPad
   behind-item h en q = rw (ne-eqb (e .kind) 6 h) (sym (rest-is v j to (headOf (values v j to)) (Items.spanOf (headOf (values v j to))) en refl refl q))

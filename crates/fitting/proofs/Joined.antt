@@ -11,27 +11,27 @@ use lib.ListN.{length, take, drop, replicate, length-replicate, take-append-drop
 use lib.Seq.{length-take-le, take-append-add}
 use borrow.Author.Tests.{eq-eqb, ne-eqb, eqb-true, eqb-false, lt-ltb, ltb-true, leb-false, le-leb, lt-leb}
 use Rattle.spans.specs.Tree.{Tree, none, node, endOf, treeIn, tree}
-use Rattle.spans.proofs.Tree.{and-left, and-right}
+use Rattle.lists.proofs.Logic.{and-left, and-right}
 use Rattle.layout.specs.declared.Entry.{Entry}
-use Rattle.layout.specs.Layout.{workFor, present, entryAt, entryCount, spanOf, isGroup, part, entries}
+use Rattle.layout.specs.Layout.{workFor, present, entryAt, entryCount, spanOf, isGroup, part, entries, unrepeated, isPad}
 use Rattle.items.specs.declared.Item.{Item}
-use Rattle.items.specs.Items.{Values, values, count, headOf, membersOf, restOf, scalarOk, wellFormed}
+use Rattle.items.specs.Items.{Values, values, count, headOf, membersOf, restOf, scalarOk, wellFormed, textOf, scalarIn, missing}
 use Rattle.value.specs.declared.Scalar.{Scalar}
 use Rattle.value.specs.declared.Scalar.the-variants.{Null, Text, Int, Decimal, Float as FloatV, FloatBits, Bool as BoolV}
 use Rattle.value.specs.Scalar.{scalarOf, floatOf}
 use Rattle.value.specs.Word.{minusIn, sizeIn}
 use Rattle.decode_scalar.specs.Decode.{value}
 use Rattle.fits.specs.Decide.{fitsOf}
-use Rattle.walks.specs.Walk.{single, isPad, times, atMost, howMany}
-use Rattle.walks.specs.Kinds.{Count, State, start, held, maskOf, textOf, scalarIn, noted}
+use Rattle.walks.specs.Walk.{times, atMost, howMany}
+use Rattle.walks.specs.Kinds.{Count, State, start, held, maskOf, noted}
 use Rattle.walks.specs.Fitting.{after}
 use Rattle.walks.specs.Decide as W
-use Rattle.walks.specs.Decide.{alone, numbers, holds, goodOf, eachFits, first, fitted, same, textIs, fitting}
+use Rattle.walks.specs.Decide.{numbers, holds, goodOf, eachFits, first, fitted, same, textIs, fitting}
 use Rattle.decode_leaf.specs.Counts as Counts
 use Rattle.decode_leaf.specs.Counts.{noteIn, heldIn}
-use Rattle.decode_walk.proofs.Stands.{Stands, stands-none, first-some}
-use Rattle.decode_walk.proofs.Joined.{Ranged, noted-stands}
-use Rattle.fitting.specs.Steps.{Fit, misfit, fit, so, only, Fitter, saying, nameOf, toldAfter, tabled, leaf, one, each, field, seq}
+use Rattle.decode_leaf.proofs.Stands.{Stands, stands-none, first-some}
+use Rattle.decode_leaf.proofs.Joined.{Ranged, noted-stands}
+use Rattle.fitting.specs.Steps.{Fit, misfit, fit, bind, guard, Fitter, saying, nameOf, toldAfter, tabled, leaf, one, each, field, seq}
 use Rattle.fitting.proofs.Asks.{text-within}
 
 -- ---- an Int's number that is not negative is below 2^63
@@ -68,16 +68,16 @@ module _ (l masks source : List ℕ) where
     misfits : Alike W.misfit misfit
     fits : {s : State} {run : List ℤ} {told : ℕ} → Rel s run told → Alike (W.fit s) (fit run told)
 
-  so-alike : {x : W.Fit} {y : Fit} (f : State → W.Fit) (g : List ℤ → ℕ → Fit) → Alike x y → ((s : State) (run : List ℤ) (told : ℕ) → Rel s run told → Alike (f s) (g run told)) → Alike (W.so x f) (so y g)
+  so-alike : {x : W.Fit} {y : Fit} (f : State → W.Fit) (g : List ℤ → ℕ → Fit) → Alike x y → ((s : State) (run : List ℤ) (told : ℕ) → Rel s run told → Alike (f s) (g run told)) → Alike (W.bind x f) (bind y g)
   so-alike f g misfits h = misfits
   so-alike f g (fits {s} {run} {told} r) h = h s run told r
 
-  only-both : (a : Bool) (x : W.Fit) (y : Fit) → (a ≡ true → Alike x y) → Alike (W.only a x) (only a y)
+  only-both : (a : Bool) (x : W.Fit) (y : Fit) → (a ≡ true → Alike x y) → Alike (W.guard a x) (guard a y)
   only-both true x y h = h refl
   only-both false x y h = misfits
 
-  only-alike : (a b : Bool) (x : W.Fit) (y : Fit) → a ≡ b → (a ≡ true → Alike x y) → Alike (W.only a x) (only b y)
-  only-alike a b x y p h = subst (λ c. Alike (W.only a x) (only c y)) p (only-both a x y h)
+  only-alike : (a b : Bool) (x : W.Fit) (y : Fit) → a ≡ b → (a ≡ true → Alike x y) → Alike (W.guard a x) (guard b y)
+  only-alike a b x y p h = subst (λ c. Alike (W.guard a x) (guard c y)) p (only-both a x y h)
 
   cond-alike : (b : Bool) (x u : W.Fit) (y v : Fit) → Alike x y → Alike u v → Alike (cond b x u) (cond b y v)
   cond-alike true x u y v p q = p
@@ -99,7 +99,7 @@ module _ (l masks source : List ℕ) where
 
   -- every entry but a Pad
   abbrev loopField : Entry → Fitter → Fitter
-  loopField e loop vs run told = cond (single e) (one l masks source e loop true vs run told) (only (tabled l e vs run) (each l masks source e loop (membersOf vs) run told))
+  loopField e loop vs run told = cond (unrepeated e) (one l masks source e loop true vs run told) (guard (tabled l e vs run) (each l masks source e loop (membersOf vs) run told))
 
   module _ (e : Entry) (found : Counts.first l (e .name) < entryCount l) where
     text-stands : (once : Bool) (tag a b : ℕ) {cs : List Count} {run : List ℤ} → tag ≡ 1 → Stands l cs run → Stands l cs (noteIn l true e once (scalarOf tag a b) run)
@@ -136,8 +136,8 @@ module _ (l masks source : List ℕ) where
           p = not (eqb (it .tag) 1) || eqb (it .a) (length (s .text))
 
           b : (scalarOk (length source) it && (ltb (it .a) (2 ^ 64) && (f && p))) ≡ true
-          b = and-right (alone ns) (scalarOk (length source) it && (ltb (it .a) (2 ^ 64) && (f && p)))
-              (and-right (eqb (it .name) name) (alone ns && (scalarOk (length source) it && (ltb (it .a) (2 ^ 64) && (f && p)))) h)
+          b = and-right (missing ns) (scalarOk (length source) it && (ltb (it .a) (2 ^ 64) && (f && p)))
+              (and-right (eqb (it .name) name) (missing ns && (scalarOk (length source) it && (ltb (it .a) (2 ^ 64) && (f && p)))) h)
 
           c : (ltb (it .a) (2 ^ 64) && (f && p)) ≡ true
           c = and-right (scalarOk (length source) it) (ltb (it .a) (2 ^ 64) && (f && p)) b
@@ -155,15 +155,15 @@ module _ (l masks source : List ℕ) where
     -- one element of the deciding walk
     abbrev oneW : (Values → State → W.Fit) → Bool → Item → Values → State → W.Fit
     oneW inner once it ns s =
-        cond (isGroup e) (W.only (holds (nameOf e once) 7 it ns) (inner ns s)) (W.only (goodOf masks source e (nameOf e once) it ns s) (W.fit (after source e once it s)))
+        cond (isGroup e) (W.guard (holds (nameOf e once) 7 it ns) (inner ns s)) (W.guard (goodOf masks source e (nameOf e once) it ns s) (W.fit (after source e once it s)))
 
-    behind-one : (g h k : Bool) (x : W.Fit) (s : State) (f : State → W.Fit) → cond g (W.only h (W.so x f)) (W.only k (f s)) ≡ W.so (cond g (W.only h x) (W.only k (W.fit s))) f
+    behind-one : (g h k : Bool) (x : W.Fit) (s : State) (f : State → W.Fit) → cond g (W.guard h (W.bind x f)) (W.guard k (f s)) ≡ W.bind (cond g (W.guard h x) (W.guard k (W.fit s))) f
     behind-one true true k x s f = refl
     behind-one true false k x s f = refl
     behind-one false h true x s f = refl
     behind-one false h false x s f = refl
 
-    behind-table : (b : Bool) (x : W.Fit) (f : State → W.Fit) → W.only b (W.so x f) ≡ W.so (W.only b x) f
+    behind-table : (b : Bool) (x : W.Fit) (f : State → W.Fit) → W.guard b (W.bind x f) ≡ W.bind (W.guard b x) f
     behind-table true x f = refl
     behind-table false x f = refl
 
@@ -182,7 +182,7 @@ module _ (l masks source : List ℕ) where
       unfolding eachFits each
       each-alike none s run told r = fits r
       each-alike (node it ns vs) s run told r =
-          subst⁻¹ (λ x. Alike x (so (one l masks source e loop false (node it ns vs) run told) (λ q n. each l masks source e loop vs q n)))
+          subst⁻¹ (λ x. Alike x (bind (one l masks source e loop false (node it ns vs) run told) (λ q n. each l masks source e loop vs q n)))
           (behind-one (isGroup e) (holds 65536 7 it ns) (goodOf masks source e 65536 it ns s) (inner ns s) (after source e false it s) (λ s₁. eachFits masks source e inner vs s₁))
           (so-alike (λ s₁. eachFits masks source e inner vs s₁) (λ q n. each l masks source e loop vs q n) (one-alike false it ns vs s run told r) (λ s₁ q n. each-alike vs s₁ q n))
 
@@ -194,7 +194,7 @@ module _ (l masks source : List ℕ) where
           go true = ap (atMost (e .occurs)) (sym (r .stands .same (e .depending)))
           go false = refl
 
-      no-item : (b g : Bool) (next : List ℤ → ℕ → Fit) (x y z : Fit) → Alike W.misfit (so (cond b (cond g (only false x) (only false y)) (only false z)) next)
+      no-item : (b g : Bool) (next : List ℤ → ℕ → Fit) (x y z : Fit) → Alike W.misfit (bind (cond b (cond g (guard false x) (guard false y)) (guard false z)) next)
       no-item true true next x y z = misfits
       no-item true false next x y z = misfits
       no-item false g next x y z = misfits
@@ -202,11 +202,11 @@ module _ (l masks source : List ℕ) where
       module _ (next : Values → State → W.Fit) (more : Fitter)
           (ih′ : (vs : Values) (s : State) (run : List ℤ) (told : ℕ) → Rel s run told → Alike (next vs s) (more vs run told)) where
         table-alike : (it : Item) (ns vs : Values) (s : State) (run : List ℤ) (told : ℕ) → Rel s run told
-            → Alike (W.only (holds (e .name) 6 it ns && numbers (howMany held e s) (count ns)) (W.so (eachFits masks source e inner ns s) (next vs)))
-            (so (only (tabled l e (node it ns vs) run) (each l masks source e loop ns run told)) (λ q n. more vs q n))
+            → Alike (W.guard (holds (e .name) 6 it ns && numbers (howMany held e s) (count ns)) (W.bind (eachFits masks source e inner ns s) (next vs)))
+            (bind (guard (tabled l e (node it ns vs) run) (each l masks source e loop ns run told)) (λ q n. more vs q n))
         unfolding tabled
         table-alike it ns vs s run told r =
-            subst⁻¹ (λ x. Alike x (so (only (holds (e .name) 6 it ns && numbers (howMany (λ name q. heldIn l name q) e run) (count ns)) (each l masks source e loop ns run told)) (λ q n. more vs q n)))
+            subst⁻¹ (λ x. Alike x (bind (guard (holds (e .name) 6 it ns && numbers (howMany (λ name q. heldIn l name q) e run) (count ns)) (each l masks source e loop ns run told)) (λ q n. more vs q n)))
             (behind-table (holds (e .name) 6 it ns && numbers (howMany held e s) (count ns)) (eachFits masks source e inner ns s) (next vs))
             (so-alike (next vs) (λ q n. more vs q n)
             (only-alike (holds (e .name) 6 it ns && numbers (howMany held e s) (count ns)) (holds (e .name) 6 it ns && numbers (howMany (λ name q. heldIn l name q) e run) (count ns))
@@ -215,20 +215,20 @@ module _ (l masks source : List ℕ) where
             (λ s₁ q n. ih′ vs s₁ q n))
 
         first-alike : (vs : Values) (s : State) (run : List ℤ) (told : ℕ) → Rel s run told
-            → Alike (first masks source e inner vs s next) (so (loopField e loop vs run told) (λ q n. more (restOf vs) q n))
+            → Alike (first masks source e inner vs s next) (bind (loopField e loop vs run told) (λ q n. more (restOf vs) q n))
         unfolding first one leaf tabled
-        first-alike none s run told r = no-item (single e) (isGroup e) (λ q n. more none q n) (loop none run told) (fit (noteIn l true e true (scalarIn (headOf none)) run) (toldAfter (headOf none) told)) (each l masks source e loop none run told)
-        first-alike (node it ns vs) s run told r = go (single e) (one-alike true it ns vs s run told r) (table-alike it ns vs s run told r)
+        first-alike none s run told r = no-item (unrepeated e) (isGroup e) (λ q n. more none q n) (loop none run told) (fit (noteIn l true e true (scalarIn (headOf none)) run) (toldAfter (headOf none) told)) (each l masks source e loop none run told)
+        first-alike (node it ns vs) s run told r = go (unrepeated e) (one-alike true it ns vs s run told r) (table-alike it ns vs s run told r)
           where
             go : (b : Bool) → Alike (oneW inner true it ns s) (one l masks source e loop true (node it ns vs) run told)
-                → Alike (W.only (holds (e .name) 6 it ns && numbers (howMany held e s) (count ns)) (W.so (eachFits masks source e inner ns s) (next vs)))
-                (so (only (tabled l e (node it ns vs) run) (each l masks source e loop ns run told)) (λ q n. more vs q n))
+                → Alike (W.guard (holds (e .name) 6 it ns && numbers (howMany held e s) (count ns)) (W.bind (eachFits masks source e inner ns s) (next vs)))
+                (bind (guard (tabled l e (node it ns vs) run) (each l masks source e loop ns run told)) (λ q n. more vs q n))
                 → Alike
-                (cond b (cond (isGroup e) (W.only (holds (e .name) 7 it ns) (W.so (inner ns s) (next vs))) (W.only (goodOf masks source e (e .name) it ns s) (next vs (after source e true it s))))
-                (W.only (holds (e .name) 6 it ns && numbers (howMany held e s) (count ns)) (W.so (eachFits masks source e inner ns s) (next vs))))
-                (so (cond b (one l masks source e loop true (node it ns vs) run told) (only (tabled l e (node it ns vs) run) (each l masks source e loop ns run told))) (λ q n. more vs q n))
+                (cond b (cond (isGroup e) (W.guard (holds (e .name) 7 it ns) (W.bind (inner ns s) (next vs))) (W.guard (goodOf masks source e (e .name) it ns s) (next vs (after source e true it s))))
+                (W.guard (holds (e .name) 6 it ns && numbers (howMany held e s) (count ns)) (W.bind (eachFits masks source e inner ns s) (next vs))))
+                (bind (cond b (one l masks source e loop true (node it ns vs) run told) (guard (tabled l e (node it ns vs) run) (each l masks source e loop ns run told))) (λ q n. more vs q n))
             go true a t =
-                subst⁻¹ (λ x. Alike x (so (one l masks source e loop true (node it ns vs) run told) (λ q n. more vs q n)))
+                subst⁻¹ (λ x. Alike x (bind (one l masks source e loop true (node it ns vs) run told) (λ q n. more vs q n)))
                 (behind-one (isGroup e) (holds (e .name) 7 it ns) (goodOf masks source e (e .name) it ns s) (inner ns s) (after source e true it s) (next vs))
                 (so-alike (next vs) (λ q n. more vs q n) a (λ s₁ q n. ih′ vs s₁ q n))
             go false a t = t
@@ -249,9 +249,9 @@ module _ (l masks source : List ℕ) where
     where
       go : (b : Bool) → ((us : Values) (s₁ : State) (q : List ℤ) (k : ℕ) → Rel s₁ q k → Alike (fitted masks source rest us s₁) (seq l masks source rest us q k))
           → Alike (first masks source e (λ us s₁. fitted masks source ms us s₁) vs s (λ us s₁. fitted masks source rest us s₁))
-          (so (loopField e (λ us q k. seq l masks source ms us q k) vs run told) (λ q k. seq l masks source rest (restOf vs) q k))
+          (bind (loopField e (λ us q k. seq l masks source ms us q k) vs run told) (λ q k. seq l masks source rest (restOf vs) q k))
           → Alike (cond b (fitted masks source rest vs s) (first masks source e (λ us s₁. fitted masks source ms us s₁) vs s (λ us s₁. fitted masks source rest us s₁)))
-          (so (cond b (fit run told) (loopField e (λ us q k. seq l masks source ms us q k) vs run told))
+          (bind (cond b (fit run told) (loopField e (λ us q k. seq l masks source ms us q k) vs run told))
           (λ q k. seq l masks source rest (cond b vs (restOf vs)) q k))
       go true a f = a vs s run told r
       go false a f = f

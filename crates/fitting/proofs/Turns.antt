@@ -9,21 +9,22 @@ use lib.IntN.{ℤ}
 use lib.ListN.{length, replicate, length-replicate}
 use borrow.Author.Tests.{eq-eqb, ne-eqb, eqb-true}
 use Rattle.spans.specs.Tree.{none, node, endOf}
-use Rattle.spans.proofs.Tree.{tree-none, tree-at, and-left, and-right}
+use Rattle.spans.proofs.Tree.{tree-none, tree-at}
+use Rattle.lists.proofs.Logic.{and-left, and-right}
 use Rattle.layout.specs.declared.Entry.{Entry}
-use Rattle.layout.specs.Layout.{entryAt, spanOf, part}
+use Rattle.layout.specs.Layout.{entryAt, spanOf, part, unrepeated, isPad}
 use Rattle.items.specs.declared.Item.{Item}
 use Rattle.items.specs.Items as Items
-use Rattle.items.specs.Items.{Values, values, headOf, membersOf, scalarOk}
+use Rattle.items.specs.Items.{Values, values, headOf, membersOf, scalarOk, scalarIn, textOf, missing}
 use Rattle.items.proofs.Items.{values-none, values-node, members-is}
 use Rattle.value.specs.declared.Scalar.{Scalar}
 use Rattle.fits.specs.Decide.{fitsOf}
-use Rattle.walks.specs.Walk.{single, isPad}
-use Rattle.walks.specs.Kinds.{scalarIn, maskOf, textOf}
-use Rattle.walks.specs.Decide.{alone, goodOf}
+use Rattle.walks.specs.Kinds.{maskOf}
+use Rattle.walks.specs.Decide.{goodOf}
 use Rattle.decode_leaf.specs.Counts.{noteIn}
 use Rattle.fitting.specs.declared.Out.{Out}
-use Rattle.fitting.specs.Steps.{Fit, misfit, fit, so, only, Fitter, headed, nameOf, toldAfter, behind, tabled, good, leaf, one, each, field, seq}
+use Rattle.fitting.specs.Steps.{Fit, misfit, fit, bind, guard, Fitter, headed, nameOf, toldAfter, tabled, good, leaf, one, each, field, seq}
+use Rattle.walks.specs.Walk.{valuesAfter}
 use Rattle.fitting.specs.Machine.{Met}
 use Rattle.fitting.proofs.Asks.{text-within}
 
@@ -52,11 +53,11 @@ good-within masks text e name (node it ns vs) told h = go (eqb (it .tag) 1) refl
     l : Bool
     l = not (eqb (it .tag) 1) || eqb (it .a) (length {A = ℕ} (replicate told 0))
 
-    a : (alone ns && (scalarOk (length text) it && (ltb (it .a) (2 ^ 64) && (f && l)))) ≡ true
-    a = and-right (eqb (it .name) name) (alone ns && (scalarOk (length text) it && (ltb (it .a) (2 ^ 64) && (f && l)))) h
+    a : (missing ns && (scalarOk (length text) it && (ltb (it .a) (2 ^ 64) && (f && l)))) ≡ true
+    a = and-right (eqb (it .name) name) (missing ns && (scalarOk (length text) it && (ltb (it .a) (2 ^ 64) && (f && l)))) h
 
     b : (scalarOk (length text) it && (ltb (it .a) (2 ^ 64) && (f && l))) ≡ true
-    b = and-right (alone ns) (scalarOk (length text) it && (ltb (it .a) (2 ^ 64) && (f && l))) a
+    b = and-right (missing ns) (scalarOk (length text) it && (ltb (it .a) (2 ^ 64) && (f && l))) a
 
     d : (f && l) ≡ true
     d = and-right (ltb (it .a) (2 ^ 64)) (f && l) (and-right (scalarOk (length text) it) (ltb (it .a) (2 ^ 64) && (f && l)) b)
@@ -74,7 +75,7 @@ module _ (l masks text : List ℕ) (e : Entry) (once : Bool) (vs : Values) (run 
 
   pub leaf-not : b ≡ false → leaf l masks text e once vs run told ≡ misfit
   unfolding leaf
-  leaf-not h = ap (λ x. only x (fit (noteIn l true e once (scalarIn (headOf vs)) run) (toldAfter (headOf vs) told))) (sym good-named ∙ h)
+  leaf-not h = ap (λ x. guard x (fit (noteIn l true e once (scalarIn (headOf vs)) run) (toldAfter (headOf vs) told))) (sym good-named ∙ h)
 
   module _ (h : b ≡ true) (it : Item) (q : it ≡ headOf vs) (z : ℕ) (s : z ≡ cond (eqb (it .tag) 1) (it .b) 0) where
     told-is : toldAfter (headOf vs) told ≡ told + z
@@ -86,7 +87,7 @@ module _ (l masks text : List ℕ) (e : Entry) (once : Bool) (vs : Values) (run 
     pub leaf-is : (x : Scalar) → x ≡ scalarIn it → (run′ : List ℤ) → run′ ≡ noteIn l true e once x run → leaf l masks text e once vs run told ≡ fit run′ (told + z)
     unfolding leaf
     leaf-is x u run′ w =
-        ap (λ y. only y (fit (noteIn l true e once (scalarIn (headOf vs)) run) (toldAfter (headOf vs) told))) (sym good-named ∙ h)
+        ap (λ y. guard y (fit (noteIn l true e once (scalarIn (headOf vs)) run) (toldAfter (headOf vs) told))) (sym good-named ∙ h)
         ∙ ap₂ fit (sym (w ∙ ap (λ y. noteIn l true e once y run) (u ∙ ap scalarIn q))) told-is
 
 -- ---- one element, and where a field begins
@@ -98,24 +99,24 @@ module _ (l masks text : List ℕ) (e : Entry) (inner : Fitter) (v : List ℕ) (
     one-leaf h = rw (ne-eqb (e .kind) 9 h) refl
 
     module _ (h : e .kind ≡ 9) (name : ℕ) (n : name ≡ nameOf e once) (b : Bool) (p : b ≡ headed name 7 (values v j to)) where
-      one-headed : one l masks text e inner once (values v j to) run told ≡ only b (inner (membersOf (values v j to)) run told)
+      one-headed : one l masks text e inner once (values v j to) run told ≡ guard b (inner (membersOf (values v j to)) run told)
       unfolding one
-      one-headed = rw (eq-eqb (e .kind) 9 h) (ap (λ x. only x (inner (membersOf (values v j to)) run told)) (sym (p ∙ ap (λ k. headed k 7 (values v j to)) n)))
+      one-headed = rw (eq-eqb (e .kind) 9 h) (ap (λ x. guard x (inner (membersOf (values v j to)) run told)) (sym (p ∙ ap (λ k. headed k 7 (values v j to)) n)))
 
       pub one-not : b ≡ false → one l masks text e inner once (values v j to) run told ≡ misfit
-      one-not f = one-headed ∙ ap (λ x. only x (inner (membersOf (values v j to)) run told)) f
+      one-not f = one-headed ∙ ap (λ x. guard x (inner (membersOf (values v j to)) run told)) f
 
       pub one-group : b ≡ true → (en m : ℕ) → en ≡ endOf (Items.spanOf (headOf (values v j to))) j to → m ≡ min en (j + 1)
           → one l masks text e inner once (values v j to) run told ≡ inner (values v m en) run told
       one-group f en m q s =
-          one-headed ∙ ap (λ x. only x (inner (membersOf (values v j to)) run told)) f
+          one-headed ∙ ap (λ x. guard x (inner (membersOf (values v j to)) run told)) f
           ∙ ap (λ ns. inner ns run told) (members-is v j to (headOf (values v j to)) (Items.spanOf (headOf (values v j to))) en refl refl q m s)
 
   pub field-pad : e .kind ≡ 6 → field l masks text e inner (values v j to) run told ≡ fit run told
   unfolding field isPad
   field-pad h = rw (eq-eqb (e .kind) 6 h) refl
 
-  module _ (h : e .kind ≡ 6 → ⊥) (z : Bool) (y : z ≡ single e) where
+  module _ (h : e .kind ≡ 6 → ⊥) (z : Bool) (y : z ≡ unrepeated e) where
     pub field-one : z ≡ true → field l masks text e inner (values v j to) run told ≡ one l masks text e inner true (values v j to) run told
     unfolding field isPad
     field-one f = rw (ne-eqb (e .kind) 6 h, sym y ∙ f) refl
@@ -158,25 +159,25 @@ module _ {o : Fit} {l masks text v : List ℕ} {run₀ : List ℤ} {e : Entry} {
   field-done h = inv .whole ∙ ap (λ vs. eachIn l masks text e lo hi vs run soFar) (values-none v k end h)
 
   module _ (h : k < end) (k′ : ℕ) (q : k′ ≡ endOf (Items.spanOf (headOf (values v k end))) k end) where
-    turn : o ≡ so (oneIn l masks text e lo hi false (values v k end) run soFar) (λ r n. eachIn l masks text e lo hi (values v k′ end) r n)
+    turn : o ≡ bind (oneIn l masks text e lo hi false (values v k end) run soFar) (λ r n. eachIn l masks text e lo hi (values v k′ end) r n)
     unfolding each
     turn =
         let w : values v k end ≡ node (headOf (values v k end)) (values v (k + 1) k′) (values v k′ end)
         = values-node v k end (headOf (values v k end)) (Items.spanOf (headOf (values v k end))) k′ refl refl q h in
         inv .whole ∙ ap (λ vs. eachIn l masks text e lo hi vs run soFar) w
-        ∙ ap (λ vs. so (oneIn l masks text e lo hi false vs run soFar) (λ r n. eachIn l masks text e lo hi (values v k′ end) r n)) (sym w)
+        ∙ ap (λ vs. bind (oneIn l masks text e lo hi false vs run soFar) (λ r n. eachIn l masks text e lo hi (values v k′ end) r n)) (sym w)
 
     pub field-goes : (run′ : List ℤ) (n : ℕ) → oneIn l masks text e lo hi false (values v k end) run soFar ≡ fit run′ n → length run′ ≡ length run
         → FieldInv o l masks text v run₀ e lo hi end run′ k′ n
     field-goes run′ n f same = record {
-      whole = turn ∙ ap (λ x. so x (λ r m. eachIn l masks text e lo hi (values v k′ end) r m)) f;
+      whole = turn ∙ ap (λ x. bind x (λ r m. eachIn l masks text e lo hi (values v k′ end) r m)) f;
       same = same ∙ inv .same;
     }
 
   pub field-stops : k < end → oneIn l masks text e lo hi false (values v k end) run soFar ≡ misfit → o ≡ misfit
   field-stops h f =
       turn h (endOf (Items.spanOf (headOf (values v k end))) k end) refl
-      ∙ ap (λ x. so x (λ r m. eachIn l masks text e lo hi (values v (endOf (Items.spanOf (headOf (values v k end))) k end) end) r m)) f
+      ∙ ap (λ x. bind x (λ r m. eachIn l masks text e lo hi (values v (endOf (Items.spanOf (headOf (values v k end))) k end) end) r m)) f
 
 -- ---- a sequence
 
@@ -206,17 +207,17 @@ module _ {l masks text v : List ℕ} {run₀ : List ℤ} {lo hi from to told : �
       ) refl
 
   module _ (e : Entry) (en : ℕ) (h : i < hi) (p : e ≡ entryAt l i) (q : en ≡ endOf (e .span) i hi) where
-    seq-turn : Whole ≡ so (fieldIn l masks text e (i + 1) en (values v j to) run soFar) (λ r n. seqIn l masks text en hi (behind e (values v j to)) r n)
+    seq-turn : Whole ≡ bind (fieldIn l masks text e (i + 1) en (values v j to) run soFar) (λ r n. seqIn l masks text en hi (valuesAfter e (values v j to)) r n)
     unfolding seq
     seq-turn = inv .whole ∙ ap (λ t. seq l masks text t (values v j to) run soFar) (tree-at (entryAt l) spanOf i hi e en h p q)
 
     pub seq-stops : fieldIn l masks text e (i + 1) en (values v j to) run soFar ≡ misfit → Whole ≡ misfit
-    seq-stops f = seq-turn ∙ ap (λ x. so x (λ r n. seqIn l masks text en hi (behind e (values v j to)) r n)) f
+    seq-stops f = seq-turn ∙ ap (λ x. bind x (λ r n. seqIn l masks text en hi (valuesAfter e (values v j to)) r n)) f
 
     pub seq-goes : (run′ : List ℤ) (n j′ : ℕ) → fieldIn l masks text e (i + 1) en (values v j to) run soFar ≡ fit run′ n → length run′ ≡ length run
-        → values v j′ to ≡ behind e (values v j to) → SeqInv l masks text v run₀ lo hi from to told run′ en j′ n
+        → values v j′ to ≡ valuesAfter e (values v j to) → SeqInv l masks text v run₀ lo hi from to told run′ en j′ n
     seq-goes run′ n j′ f same w = record {
-      whole = seq-turn ∙ ap (λ x. so x (λ r m. seqIn l masks text en hi (behind e (values v j to)) r m)) f ∙ ap (λ vs. seqIn l masks text en hi vs run′ n) (sym w);
+      whole = seq-turn ∙ ap (λ x. bind x (λ r m. seqIn l masks text en hi (valuesAfter e (values v j to)) r m)) f ∙ ap (λ vs. seqIn l masks text en hi vs run′ n) (sym w);
       same = same ∙ inv .same;
       past-lo = omega (arith, inv .past-lo);
     }

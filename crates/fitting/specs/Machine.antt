@@ -4,8 +4,9 @@ use mathlib.Core.Bool.{true, false}
 use mathlib.Core.List.{List}
 use lib.IntN.{ℤ}
 use Rattle.fitting.specs.declared.Out.{Out}
-use Rattle.fitting.specs.Steps.{Fit, misfit, fit}
+use Rattle.fitting.specs.Steps.{Progress, fits}
+use Rattle.walks.specs.Decide.{Fit, misfit}
 
-pub record Met (o : Fit) (r : Out) (run : List ℤ) : Type 0 where
-  pub fine : r .ok ≡ true → o ≡ fit run (r .told)
+pub record Met (o : Fit Progress) (r : Out) (run : List ℤ) : Type 0 where
+  pub fine : r .ok ≡ true → o ≡ fits run (r .told)
   pub refuses : r .ok ≡ false → o ≡ misfit

@@ -6,30 +6,25 @@ use lib.Dec.{eqb}
 use lib.IntN.{ℤ}
 use lib.ListN.{replicate}
 use Rattle.layout.specs.declared.Entry.{Entry}
-use Rattle.layout.specs.Layout.{isGroup}
+use Rattle.layout.specs.Layout.{isGroup, unrepeated, isPad}
 use Rattle.spans.specs.Tree.{Tree, none, node}
 use Rattle.items.specs.declared.Item.{Item}
-use Rattle.items.specs.Items.{Values, count, headOf, membersOf, restOf}
-use Rattle.walks.specs.Walk.{single, isPad, howMany}
-use Rattle.walks.specs.Kinds.{State, scalarIn}
-use Rattle.walks.specs.Decide.{holds, goodOf, numbers}
+use Rattle.items.specs.Items.{Values, count, headOf, membersOf, restOf, scalarIn}
+use Rattle.walks.specs.Walk.{valuesAfter, howMany}
+use Rattle.walks.specs.Kinds.{State}
+use Rattle.walks.specs.Decide.{Fit, misfit, fit, bind, guard, holds, goodOf, numbers}
 use Rattle.decode_leaf.specs.Counts.{noteIn, heldIn}
 
--- no fit; or the run of counts behind what fits, and the text bytes so far
-pub data Fit : Type 0 where
-  misfit : Fit
-  fit : List ℤ → ℕ → Fit
+-- the run of counts, and the number of text bytes so far
+pub record Progress : Type 0 where
+  pub run : List ℤ
+  pub told : ℕ
 
-abbrev pub so : Fit → (List ℤ → ℕ → Fit) → Fit
-so misfit f = misfit
-so (fit run told) f = f run told
-
-abbrev pub only : Bool → Fit → Fit
-only true x = x
-only false x = misfit
+abbrev pub fits : List ℤ → ℕ → Fit Progress
+fits run told = fit (record { run = run; told = told })
 
 abbrev pub Fitter : Type 0
-Fitter = Values → List ℤ → ℕ → Fit
+Fitter = Values → List ℤ → ℕ → Fit Progress
 
 -- the first item is a List or Struct of its members, under this name
 abbrev pub headed : ℕ → ℕ → Values → Bool
@@ -46,10 +41,6 @@ nameOf e once = cond once (e .name) 65536
 abbrev pub toldAfter : Item → ℕ → ℕ
 toldAfter it told = told + cond (eqb (it .tag) 1) (it .b) 0
 
--- the items behind an entry's own
-abbrev pub behind : Entry → Values → Values
-behind e vs = cond (isPad e) vs (restOf vs)
-
 -- the first item is a List of as many elements as a table has
 unfoldable pub tabled : List ℕ → Entry → Values → List ℤ → Bool
 tabled l e vs run = headed (e .name) 6 vs && numbers (howMany (λ name r. heldIn l name r) e run) (count (membersOf vs))
@@ -62,22 +53,22 @@ good masks source e name (node it ns vs) told = goodOf masks source e name it ns
 module _ (l masks source : List ℕ) where
   unfoldable pub leaf : Entry → Bool → Fitter
   leaf e once vs run told =
-      only (good masks source e (nameOf e once) vs told) (fit (noteIn l true e once (scalarIn (headOf vs)) run) (toldAfter (headOf vs) told))
+      guard (good masks source e (nameOf e once) vs told) (fits (noteIn l true e (scalarIn (headOf vs)) run) (toldAfter (headOf vs) told))
 
   unfoldable pub one : Entry → Fitter → Bool → Fitter
-  one e inner once vs run told = cond (isGroup e) (only (headed (nameOf e once) 7 vs) (inner (membersOf vs) run told)) (leaf e once vs run told)
+  one e inner once vs run told = cond (isGroup e) (guard (headed (nameOf e once) 7 vs) (inner (membersOf vs) run told)) (leaf e once vs run told)
 
   unfoldable pub each : Entry → Fitter → Fitter
-  each e inner none run told = fit run told
-  each e inner (node it ns vs) run told = so (one e inner false (node it ns vs) run told) (λ r n. each e inner vs r n)
+  each e inner none run told = fits run told
+  each e inner (node it ns vs) run told = bind (one e inner false (node it ns vs) run told) (λ s. each e inner vs (s .run) (s .told))
 
   unfoldable pub field : Entry → Fitter → Fitter
   field e inner vs run told =
-      cond (isPad e) (fit run told)
-      (cond (single e) (one e inner true vs run told)
-      (only (tabled l e vs run) (each e inner (membersOf vs) run told)))
+      cond (isPad e) (fits run told)
+      (cond (unrepeated e) (one e inner true vs run told)
+      (guard (tabled l e vs run) (each e inner (membersOf vs) run told)))
 
   unfoldable pub seq : Tree Entry → Fitter
-  seq none none run told = fit run told
+  seq none none run told = fits run told
   seq none (node it ns vs) run told = misfit
-  seq (node e ms rest) vs run told = so (field e (λ ns r n. seq ms ns r n) vs run told) (λ r n. seq rest (behind e vs) r n)
+  seq (node e ms rest) vs run told = bind (field e (λ ns r n. seq ms ns r n) vs run told) (λ s. seq rest (valuesAfter e vs) (s .run) (s .told))

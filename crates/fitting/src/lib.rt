@@ -1,34 +1,37 @@
 // Whether a value list with its texts fits a layout: a sequence goes by fields, a field by elements, a group element by a sequence.
-use decode_leaf::clear_counts;
 use decode_leaf::element_name;
 use decode_leaf::how_many;
-use decode_leaf::is_single;
 use decode_leaf::note;
 use encode_leaf::clip;
 use encode_leaf::text_size;
+use encode_leaf::values_after;
 use fits::fits_scalar;
 use items::Item;
 use items::after;
 use items::check_items;
 use items::fetch;
+use items::item_count;
 use items::item_end;
 use items::members;
+use items::scalar_in;
 use items::scalar_ok;
 use layout::Entry;
 use layout::load;
+use layout::unrepeated;
 use spans::end_of;
-use value::item_scalar;
+use zeros::clear_counts;
 ghost use mathlib.Core.Path.{_≡_};
 ghost use mathlib.Core.Bool.{true, false, _&&_, _||_, not};
 ghost use lib.Dec.{eqb, leb};
 ghost use lib.IntN.{pos};
 ghost use lib.ListN.{length, replicate};
 ghost use Rattle.layout.specs.Layout.{workFor, part};
-ghost use Rattle.items.specs.Items.{values};
+ghost use Rattle.items.specs.Items.{values, textOf, scalarIn};
 ghost use Rattle.fits.specs.Decide.{fitsOf};
-ghost use Rattle.walks.specs.Kinds.{maskOf, textOf, scalarIn};
+ghost use Rattle.walks.specs.Kinds.{maskOf};
 ghost use Rattle.walks.specs.Decide.{fitting};
-ghost use Rattle.fitting.specs.Steps.{headed, good, tabled, leaf, one, field, seq, behind};
+ghost use Rattle.fitting.specs.Steps.{headed, good, tabled, leaf, one, field, seq};
+ghost use Rattle.walks.specs.Walk.{valuesAfter};
 ghost use Rattle.fitting.specs.Machine.{Met};
 
 // What a part of the walk came to: whether its items fit, and the text bytes so far.
@@ -82,7 +85,7 @@ fn fits_item(masks: &[u8], text: &[u8], e: Entry, it: Item) -> bool
         e.s,
         &masks[m..m + n],
         e.width as usize,
-        item_scalar(it.tag, it.a, it.b),
+        scalar_in(it),
         &text[a..a + b],
     )
 }
@@ -149,8 +152,8 @@ fn fit_leaf(
         return misfit();
     }
     let it = fetch(items, j, to);
-    let v = item_scalar(it.tag, it.a, it.b);
-    note(layout, counts, true, e, once, v);
+    let v = scalar_in(it);
+    note(layout, counts, true, e, v);
     Out {
         ok: true,
         told: told + text_size(it) as usize,
@@ -170,16 +173,6 @@ fn is_table(layout: &[u32], items: &[u64], counts: &[i64], e: Entry, j: usize, t
     }
     let end = item_end(items, j, to);
     c.n == members(items, after(j, end), end)
-}
-
-// Where the items behind an entry's own begin: a Pad has none.
-fn next_item(items: &[u64], e: Entry, j: usize, to: usize) -> usize
-    ensures { λ r. ⌜ values (now (items .entry)) r to ≡ behind e (values (now (items .entry)) j to) ⌝ }
-{
-    if e.kind == 6 {
-        return j;
-    }
-    item_end(items, j, to)
 }
 
 // ---- the walk
@@ -210,7 +203,7 @@ fn fit_seq(
             return misfit();
         }
         at = o.told;
-        j = next_item(items, e, j, to);
+        j = values_after(items, e, j, to);
         i = end;
     }
     if j < to {
@@ -238,7 +231,7 @@ fn fit_field(
     if e.kind == 6 {
         return Out { ok: true, told };
     }
-    if is_single(e) {
+    if unrepeated(e) {
         return fit_one(
             layout,
             masks,
@@ -339,7 +332,7 @@ pub fn is_fitting(
         0,
         layout.len() / 12,
         0,
-        items.len() / 4,
+        item_count(items.len()),
         0,
     );
     clear_counts(counts);

@@ -9,24 +9,13 @@ use lib.ListN.{length}
 use borrow.Author.Tests.{eqb-true}
 use Rattle.items.specs.declared.Item.{Item}
 use Rattle.spans.specs.Tree.{none, node, endOf, size}
-use Rattle.items.specs.Items.{holds, spanOf, Values, values, scalarOk, nameOk, holderOk, itemOk, count, listOk, depth, wellFormed, headOf, membersOf, restOf, lookup}
+use Rattle.lists.proofs.Logic.{and-left, and-right, or-else}
+use Rattle.items.specs.Items.{itemWords, itemCount, holds, spanOf, Values, values, scalarOk, nameOk, holderOk, itemOk, count, listOk, depth, wellFormed, headOf, membersOf, restOf, lookup}
 use Rattle.items.proofs.Lawful.{ok-deep, ok-turn}
-
-and-left : (a b : Bool) → (a && b) ≡ true → a ≡ true
-and-left true b h = refl
-and-left false b h = absurd (false≢true h)
-
-and-right : (a b : Bool) → (a && b) ≡ true → b ≡ true
-and-right true b h = h
-and-right false b h = absurd (false≢true h)
 
 or-left : (a b : Bool) → b ≡ false → (a || b) ≡ true → a ≡ true
 or-left true b e h = refl
 or-left false b e h = absurd (false≢true (sym e ∙ h))
-
-or-right : (a b : Bool) → a ≡ false → (a || b) ≡ true → b ≡ true
-or-right true b e h = absurd (false≢true (sym e))
-or-right false b e h = h
 
 -- a List or Struct is no scalar
 pub no-scalar : (text : ℕ) (it : Item) → holds (it .tag) ≡ true → scalarOk text it ≡ false
@@ -35,7 +24,7 @@ no-scalar text it h = go (eqb (it .tag) 6) refl
   where
     go : (t : Bool) → eqb (it .tag) 6 ≡ t → scalarOk text it ≡ false
     go true e = rw (eqb-true (it .tag) 6 e)
-    go false e = rw (eqb-true (it .tag) 7 (or-right (eqb (it .tag) 6) (eqb (it .tag) 7) e h))
+    go false e = rw (eqb-true (it .tag) 7 (or-else (eqb (it .tag) 6) (eqb (it .tag) 7) e h))
 
 module _ (text : ℕ) (inList : Bool) (it : Item) (members below : ℕ) (k : itemOk text inList it members below ≡ true) where
   parts : (nameOk inList (it .name) && (scalarOk text it || holderOk it members below)) ≡ true
@@ -58,7 +47,7 @@ module _ (text : ℕ) (inList : Bool) (it : Item) (members below : ℕ) (k : ite
   module _ (h : holds (it .tag) ≡ true) where
     holder : (holds (it .tag) && eqb (it .a) members && eqb (it .b) (suc below)) ≡ true
     unfolding holderOk
-    holder = or-right (scalarOk text it) (holderOk it members below) (no-scalar text it h) kind
+    holder = or-else (scalarOk text it) (holderOk it members below) (no-scalar text it h) kind
 
     pub count-right : it .a ≡ members
     count-right = eqb-true (it .a) members (and-right (holds (it .tag)) (eqb (it .a) members) (and-left (holds (it .tag) && eqb (it .a) members) (eqb (it .b) (suc below)) holder))
@@ -154,12 +143,12 @@ module _ (v : List ℕ) (i hi : ℕ) (h : i < hi) (it : Item) (p : it ≡ headOf
 
 -- the whole list
 module _ (items : List ℕ) (text : ℕ) (k : wellFormed items text ≡ true) where
-  whole : (eqb (length items % 4) 0 && listOk text false depth (values items 0 (length items / 4))) ≡ true
+  whole : (eqb (length items % itemWords) 0 && listOk text false depth (values items 0 (itemCount items))) ≡ true
   unfolding wellFormed
   whole = k
 
-  pub whole-count : length items % 4 ≡ 0
-  whole-count = eqb-true (length items % 4) 0 (and-left (eqb (length items % 4) 0) (listOk text false depth (values items 0 (length items / 4))) whole)
+  pub whole-count : length items % itemWords ≡ 0
+  whole-count = eqb-true (length items % itemWords) 0 (and-left (eqb (length items % itemWords) 0) (listOk text false depth (values items 0 (itemCount items))) whole)
 
-  pub whole-ok : listOk text false depth (values items 0 (length items / 4)) ≡ true
-  whole-ok = and-right (eqb (length items % 4) 0) (listOk text false depth (values items 0 (length items / 4))) whole
+  pub whole-ok : listOk text false depth (values items 0 (itemCount items)) ≡ true
+  whole-ok = and-right (eqb (length items % itemWords) 0) (listOk text false depth (values items 0 (itemCount items))) whole

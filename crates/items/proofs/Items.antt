@@ -11,11 +11,11 @@ use borrow.Author.Tests.{eq-eqb, ne-eqb}
 use Rattle.items.specs.declared.Item.{Item}
 use Rattle.spans.specs.Tree.{none, node, endOf, tree, size}
 use Rattle.spans.proofs.Tree.{tree-none, tree-at, size-tree}
-use Rattle.items.specs.Items.{itemAt, holds, spanOf, values, headOf, membersOf, restOf, lookup, placeOf}
+use Rattle.items.specs.Items.{itemWords, itemAt, holds, spanOf, values, headOf, membersOf, restOf, lookup, placeOf}
 
-pub item-words : (v : List ℕ) (i n t a b : ℕ) → n ≡ getD v (i * 4 + 0) 0 → t ≡ getD v (i * 4 + 1) 0 → a ≡ getD v (i * 4 + 2) 0 → b ≡ getD v (i * 4 + 3) 0 → record { name = n; tag = t; a = a; b = b } ≡ itemAt v i
+pub item-words : (v : List ℕ) (i n t a b : ℕ) → n ≡ getD v (i * itemWords + 0) 0 → t ≡ getD v (i * itemWords + 1) 0 → a ≡ getD v (i * itemWords + 2) 0 → b ≡ getD v (i * itemWords + 3) 0 → record { name = n; tag = t; a = a; b = b } ≡ itemAt v i
 item-words v i n t a b p q r s =
-    let z : i * 4 + 0 ≡ i * 4 = omega arith in
+    let z : i * itemWords + 0 ≡ i * itemWords = omega arith in
     rw (p ∙ ap (λ k. getD v k 0) z, q, r, s)
 
 pub values-none : (v : List ℕ) (i to : ℕ) → to ≤ i → values v i to ≡ none

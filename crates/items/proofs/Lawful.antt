@@ -10,7 +10,7 @@ use lib.ListN.{length}
 use borrow.Author.Tests.{eq-eqb, ne-eqb, eqb-true, eqb-false, le-leb, lt-leb}
 use Rattle.items.specs.declared.Item.{Item}
 use Rattle.spans.specs.Tree.{none, node, endOf, size}
-use Rattle.items.specs.Items.{holds, spanOf, values, textOk, scalarOk, nameOk, holderOk, itemOk, count, listOk, depth, wellFormed, headOf}
+use Rattle.items.specs.Items.{itemWords, itemCount, holds, spanOf, values, textOk, scalarOk, nameOk, holderOk, itemOk, count, listOk, depth, wellFormed, headOf}
 use Rattle.items.proofs.Items.{values-none, values-node, size-values}
 
 pub text-in : (text a b : ℕ) → a ≤ text → leb b (text - a) ≡ textOk text a b
@@ -115,10 +115,10 @@ module _ (v : List ℕ) (i hi : ℕ) where
           pub ok-next : listOk text inside (levels - 1) (values v (i + 1) en) ≡ true → listOk text inList levels (values v i hi) ≡ listOk text inList levels (values v en hi)
           ok-next g = ok-turn ∙ rw (← l, f, g) refl
 
-pub part-item : (items : List ℕ) (text : ℕ) → (length items % 4 ≡ 0 → ⊥) → false ≡ wellFormed items text
+pub part-item : (items : List ℕ) (text : ℕ) → (length items % itemWords ≡ 0 → ⊥) → false ≡ wellFormed items text
 unfolding wellFormed
-part-item items text h = rw (ne-eqb (length items % 4) 0 h)
+part-item items text h = rw (ne-eqb (length items % itemWords) 0 h)
 
-pub whole-items : (items : List ℕ) (text : ℕ) → length items % 4 ≡ 0 → listOk text false depth (values items 0 (length items / 4)) ≡ wellFormed items text
+pub whole-items : (items : List ℕ) (text : ℕ) → length items % itemWords ≡ 0 → listOk text false depth (values items 0 (itemCount items)) ≡ wellFormed items text
 unfolding wellFormed
-whole-items items text h = rw (eq-eqb (length items % 4) 0 h)
+whole-items items text h = rw (eq-eqb (length items % itemWords) 0 h)

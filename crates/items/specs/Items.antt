@@ -1,17 +1,51 @@
 -- "Value list": "Items of four 64-bit words, depth first: name (65536 for list elements), tag, and two words".
 use mathlib.Core.Bool.{Bool, true, false, _&&_, _||_, cond}
-use mathlib.Core.List.{List}
+use mathlib.Core.List.{List, [], _∷_, _++_}
 use Prim.Native.Nat.{ℕ, zero, suc, _+_, _-_, _*_, _/_, _%_}
 use lib.Dec.{ltb, leb, eqb}
-use lib.ListN.{length, getD}
+use lib.ListN.{length, getD, take, drop}
 use Rattle.items.specs.declared.Item.{Item}
 use Rattle.spans.specs.Tree.{Tree, none, node, tree, size}
 use Rattle.value.specs.Digits.{limit}
 use Rattle.value.specs.Word.{sizeIn}
+use Rattle.value.specs.declared.Scalar.{Scalar}
+use Rattle.value.specs.declared.Scalar.the-variants.{Null}
+use Rattle.value.specs.Scalar.{tagOf, firstOf, secondOf, scalarOf}
+
+-- "Items of four 64-bit words": this file alone knows which they are
+abbrev pub itemWords : ℕ
+itemWords = 4
+
+abbrev pub wordsOf : Item → List ℕ
+wordsOf it = it .name ∷ it .tag ∷ it .a ∷ it .b ∷ []
 
 -- the i-th item; words past the end are 0
 abbrev pub itemAt : List ℕ → ℕ → Item
-itemAt v i = record { name = getD v (i * 4) 0; tag = getD v (i * 4 + 1) 0; a = getD v (i * 4 + 2) 0; b = getD v (i * 4 + 3) 0 }
+itemAt v i = record {
+  name = getD v (i * itemWords) 0;
+  tag = getD v (i * itemWords + 1) 0;
+  a = getD v (i * itemWords + 2) 0;
+  b = getD v (i * itemWords + 3) 0;
+}
+
+-- how many items so many words are
+abbrev pub itemCount : List ℕ → ℕ
+itemCount v = length v / itemWords
+
+-- the item of a scalar, and the scalar of an item
+abbrev pub itemOf : ℕ → Scalar → Item
+itemOf name v = record { name = name; tag = tagOf v; a = firstOf v; b = secondOf v }
+
+abbrev pub scalarIn : Item → Scalar
+scalarIn it = scalarOf (it .tag) (it .a) (it .b)
+
+-- the item of a List or Struct: "member count and span, itself counted"
+abbrev pub header : ℕ → ℕ → ℕ → ℕ → Item
+header name tag members span = record { name = name; tag = tag; a = members; b = span }
+
+-- the bytes of a Text item in its text buffer; no other item has any
+abbrev pub textOf : List ℕ → Item → List ℕ
+textOf source it = cond (eqb (it .tag) 1) (take (it .b) (drop (it .a) source)) []
 
 -- "6 is List, 7 Struct": these have members
 abbrev pub holds : ℕ → Bool
@@ -37,17 +71,13 @@ nullOk a b = eqb a 0 && eqb b 0
 abbrev pub textOk : ℕ → ℕ → ℕ → Bool
 textOk textBytes a b = leb (a + b) textBytes
 
--- "Int two's complement, 0"
-abbrev pub intOk : ℕ → Bool
-intOk b = eqb b 0
+-- "Int two's complement, 0", "Float bits, 0"
+abbrev pub wordOk : ℕ → Bool
+wordOk b = eqb b 0
 
 -- "Decimal unscaled (below 10^18 in size), scale 0..18"
 abbrev pub decimalOk : ℕ → ℕ → Bool
 decimalOk a b = ltb (sizeIn a) limit && leb b 18
-
--- "Float bits, 0"
-abbrev pub floatOk : ℕ → Bool
-floatOk b = eqb b 0
 
 -- "Bool 0/1, 0"
 abbrev pub boolOk : ℕ → ℕ → Bool
@@ -58,9 +88,9 @@ unfoldable pub scalarOk : ℕ → Item → Bool
 scalarOk textBytes it =
     cond (eqb (it .tag) 0) (nullOk (it .a) (it .b))
     (cond (eqb (it .tag) 1) (textOk textBytes (it .a) (it .b))
-    (cond (eqb (it .tag) 2) (intOk (it .b))
+    (cond (eqb (it .tag) 2) (wordOk (it .b))
     (cond (eqb (it .tag) 3) (decimalOk (it .a) (it .b))
-    (cond (eqb (it .tag) 4) (floatOk (it .b))
+    (cond (eqb (it .tag) 4) (wordOk (it .b))
     (cond (eqb (it .tag) 5) (boolOk (it .a) (it .b))
     false)))))
 
@@ -94,11 +124,11 @@ depth = 16
 
 -- Question 11: the words are whole items, and these are lawful; at the top they are no elements of a List.
 unfoldable pub wellFormed : List ℕ → ℕ → Bool
-wellFormed items textBytes = eqb (length items % 4) 0 && listOk textBytes false depth (values items 0 (length items / 4))
+wellFormed items textBytes = eqb (length items % itemWords) 0 && listOk textBytes false depth (values items 0 (itemCount items))
 
 -- A value is the suffix of its sequence that begins with it: its item, a Null where there is none,
 abbrev pub headOf : Values → Item
-headOf none = record { name = 0; tag = 0; a = 0; b = 0 }
+headOf none = itemOf 0 Null
 headOf (node it members rest) = it
 
 -- its members,
@@ -116,6 +146,16 @@ unfoldable pub lookup : ℕ → Values → Values
 lookup name none = none
 lookup name (node it members rest) = cond (eqb (it .name) name) (node it members rest) (lookup name rest)
 
+-- whether there is no value
+abbrev pub missing : Values → Bool
+missing none = true
+missing (node it members rest) = false
+
 -- where that suffix of the items lo up to hi starts; hi where no item has the name
 abbrev pub placeOf : List ℕ → ℕ → ℕ → ℕ → ℕ
 placeOf v name lo hi = hi - size (lookup name (values v lo hi))
+
+-- the words of a sequence of items, each before its members
+abbrev pub flat : Values → List ℕ
+flat none = []
+flat (node it members rest) = wordsOf it ++ (flat members ++ flat rest)

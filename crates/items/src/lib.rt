@@ -2,13 +2,17 @@
 
 ghost use mathlib.Core.Path.{_≡_};
 ghost use mathlib.Core.Bool.{Bool, false};
-ghost use Prim.Native.Nat.{ℕ, _+_, _*_, _≤_, min};
+ghost use mathlib.Core.List.{_++_};
+ghost use Prim.Native.Nat.{ℕ, _+_, _*_, _/_, _≤_, min};
 ghost use lib.Dec.{eqb};
-ghost use lib.ListN.{length, getD};
+ghost use lib.ListN.{length, getD, drop};
 ghost use Rattle.spans.specs.Tree.{endOf};
-ghost use Rattle.items.specs.Items.{itemAt, holds, spanOf, values, nullOk, textOk, decimalOk, boolOk, scalarOk, nameOk, holderOk, itemOk, count, listOk, wellFormed, headOf, lookup, placeOf};
+ghost use Rattle.items.specs.Items.{itemWords, wordsOf, itemOf, header, scalarIn, itemAt, holds, spanOf, values, nullOk, textOk, decimalOk, boolOk, scalarOk, nameOk, holderOk, itemOk, count, listOk, wellFormed, headOf, lookup, placeOf};
 use spans::end_of;
+use value::Scalar;
+use value::item_scalar;
 use value::size_of;
+use value::words_of;
 
 // An item of a value list: its name, its tag, and two words.
 pub struct Item {
@@ -18,17 +22,74 @@ pub struct Item {
     pub b: u64,
 }
 
+// The words of an item; this crate alone knows which they are.
+pub const ITEM_WORDS: usize = 4;
+
+// How many items so many words are.
+pub fn item_count(words: usize) -> usize
+    ensures { λ r. ⌜ r ≡ words / itemWords ⌝ }
+{
+    words / ITEM_WORDS
+}
+
+// The item of a scalar.
+pub fn item_of(name: u64, v: Scalar) -> Item
+    ensures { λ r. ⌜ r ≡ itemOf name v ⌝ }
+{
+    let w = words_of(v);
+    Item {
+        name,
+        tag: w.tag,
+        a: w.a,
+        b: w.b,
+    }
+}
+
+// The scalar of an item.
+pub fn scalar_in(it: Item) -> Scalar
+    ensures { λ r. ⌜ r ≡ scalarIn it ⌝ }
+{
+    item_scalar(it.tag, it.a, it.b)
+}
+
+// An item at the front of the words.
+pub fn put(items: &mut [u64], it: Item)
+    requires { ⌜ itemWords ≤ length (now items) ⌝ }
+    ensures { λ _. ⌜ now (items .exit) ≡ wordsOf it ++ drop itemWords (now (items .entry)) ⌝ }
+{
+    items[0] = it.name;
+    items[1] = it.tag;
+    items[2] = it.a;
+    items[3] = it.b;
+}
+
+// The item of a List or Struct at the front of the words.
+pub fn put_header(items: &mut [u64], name: u64, tag: u64, members: u64, span: u64)
+    requires { ⌜ itemWords ≤ length (now items) ⌝ }
+    ensures { λ _. ⌜ now (items .exit) ≡ wordsOf (header name tag members span) ++ drop itemWords (now (items .entry)) ⌝ }
+{
+    put(
+        items,
+        Item {
+            name,
+            tag,
+            a: members,
+            b: span,
+        },
+    );
+}
+
 // ---- items by place
 
 // The word k of the item i, and 0 past the end.
 fn word_at(items: &[u64], i: usize, k: usize) -> u64
-    ensures { λ r. ⌜ r ≡ getD (now (items .entry)) (i * 4 + k) 0 ⌝ }
+    ensures { λ r. ⌜ r ≡ getD (now (items .entry)) (i * itemWords + k) 0 ⌝ }
 {
     let n = items.len();
-    if i > n / 4 {
+    if i > n / ITEM_WORDS {
         return 0;
     }
-    let at = i * 4;
+    let at = i * ITEM_WORDS;
     if k < n - at {
         return items[at + k];
     }
@@ -39,8 +100,8 @@ fn word_at(items: &[u64], i: usize, k: usize) -> u64
 fn item_at(items: &[u64], i: usize) -> Item
     ensures { λ r. ⌜ r ≡ itemAt (now (items .entry)) i ⌝ }
 {
-    if i < items.len() / 4 {
-        let at = i * 4;
+    if i < items.len() / ITEM_WORDS {
+        let at = i * ITEM_WORDS;
         return Item {
             name: items[at],
             tag: items[at + 1],
@@ -270,8 +331,8 @@ fn checked(items: &[u64], text: usize, lo: usize, hi: usize, levels: usize, in_l
 pub fn check_items(items: &[u64], text: &[u8]) -> bool
     ensures { λ r. ⌜ r ≡ wellFormed (now (items .entry)) (length (now (text .entry))) ⌝ }
 {
-    if items.len() % 4 != 0 {
+    if items.len() % ITEM_WORDS != 0 {
         return false;
     }
-    checked(items, text.len(), 0, items.len() / 4, 16, false)
+    checked(items, text.len(), 0, items.len() / ITEM_WORDS, 16, false)
 }

@@ -10,7 +10,7 @@ use lib.ListN.{length}
 use borrow.Author.Tests.{eqb-true, leb-true}
 use Rattle.layout.specs.declared.Entry.{Entry}
 use Rattle.spans.specs.Tree.{nested}
-use Rattle.spans.proofs.Tree.{and-left, and-right}
+use Rattle.lists.proofs.Logic.{and-left, and-right}
 use Rattle.layout.specs.Layout.{entryAt, entryCount, spanOf, isGroup, entries, wordsOk, placeOk, optionOk, kindOk, entryOk, entriesOk, spansOk, checkedOf, absent, times, reservedWidth}
 use Rattle.layout.proofs.Laws.{all-at}
 

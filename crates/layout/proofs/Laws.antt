@@ -9,13 +9,10 @@ use native.Mathlib.Nat.{mul-le-mul-left, le-trans}
 use lib.Dec.{eqb, leb, ltb}
 use borrow.Author.Tests.{ltb-true, ltb-false, eq-eqb, ne-eqb, le-leb, lt-leb, eqb-true, eqb-false, leb-true}
 use Rattle.layout.specs.declared.Entry.{Entry}
+use Rattle.lists.proofs.Logic.{or-true}
 use Rattle.spans.specs.Tree.{endOf}
 use Rattle.spans.proofs.Tree.{tree-none, tree-at}
 use Rattle.layout.specs.Layout.{absent, entryAt, entryCount, spanOf, part, present, allBelow, someBelow, entryOk, entriesOk, checkedOf, workFor, layoutAsks, dependsIn, reservedWidth, furthest, recordLength}
-
-or-true : (a : Bool) → (a || true) ≡ true
-or-true true = refl
-or-true false = refl
 
 module _ (f : ℕ → Bool) where
   pub all-next : (n : ℕ) → allBelow f n ≡ true → f n ≡ true → allBelow f (n + 1) ≡ true

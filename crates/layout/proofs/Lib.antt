@@ -1,3 +1,4 @@
 pub mod Judged
 pub mod Laws
 pub mod Lawful
+pub mod Entries

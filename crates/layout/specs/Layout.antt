@@ -41,6 +41,22 @@ spanOf e = e .span
 abbrev pub isGroup : Entry → Bool
 isGroup e = eqb (e .kind) 9
 
+-- "Pads yield no item": kind 6 is Pad
+unfoldable pub isPad : Entry → Bool
+isPad e = eqb (e .kind) 6
+
+-- "unrepeated: occurs and depending absent"
+unfoldable pub unrepeated : Entry → Bool
+unrepeated e = not (present (e .occurs)) && not (present (e .depending))
+
+-- an unrepeated scalar or Pad
+abbrev pub unrepeatedLeaf : Entry → Bool
+unrepeatedLeaf e = unrepeated e && not (isGroup e)
+
+-- What controls a table: "An unrepeated Int or Binary sets the count for its name."
+unfoldable pub controls : Entry → Bool
+controls e = unrepeated e && (eqb (e .kind) 1 || eqb (e .kind) 2)
+
 -- the entries lo up to hi as a tree, and all of them
 abbrev pub part : List ℕ → ℕ → ℕ → Tree Entry
 part l lo hi = tree (entryAt l) spanOf lo hi

@@ -1,10 +1,11 @@
 // The layout's words: whether they are lawful, the record's length, and whether a table depends on a count.
+use positions::larger;
 use spans::end_of;
 ghost use mathlib.Core.Path.{_≡_};
-ghost use Prim.Native.Nat.{_+_, _*_, _≤_, max};
+ghost use Prim.Native.Nat.{_+_, _*_, _≤_};
 ghost use lib.ListN.{length, getD};
 ghost use Rattle.spans.specs.Tree.{spanOk, nested};
-ghost use Rattle.layout.specs.Layout.{entryAt, spanOf, isGroup, part, wordsOk, upTo, plainOk, floatOk, boolOk, editedOk, kindOk, optionOk, placeOk, entryOk, entriesOk, checkedOf, layoutAsks, reservedWidth, recordLength, dependsIn};
+ghost use Rattle.layout.specs.Layout.{entryAt, spanOf, isGroup, unrepeated, unrepeatedLeaf, controls, part, wordsOk, upTo, plainOk, floatOk, boolOk, editedOk, kindOk, optionOk, placeOk, entryOk, entriesOk, checkedOf, layoutAsks, reservedWidth, recordLength, dependsIn};
 
 // The twelve words of an entry.
 pub struct Entry {
@@ -327,6 +328,40 @@ pub fn ask_layout(layout: &[u32], masks: &[u8], page: u32, work: usize) -> u32
     0
 }
 
+// ---- one entry
+
+pub fn unrepeated(e: Entry) -> bool
+    ensures { λ r. ⌜ r ≡ unrepeated e ⌝ }
+{
+    if e.occurs != 4294967295 {
+        return false;
+    }
+    e.depending == 4294967295
+}
+
+// Whether an entry is one scalar or Pad, so no table and no group.
+pub fn unrepeated_leaf(e: Entry) -> bool
+    ensures { λ r. ⌜ r ≡ unrepeatedLeaf e ⌝ }
+{
+    if e.kind == 9 {
+        return false;
+    }
+    unrepeated(e)
+}
+
+// Whether an entry sets the count for its name: an unrepeated Int or Binary does.
+pub fn controls(e: Entry) -> bool
+    ensures { λ r. ⌜ r ≡ controls e ⌝ }
+{
+    if !unrepeated(e) {
+        return false;
+    }
+    if e.kind == 1 {
+        return true;
+    }
+    e.kind == 2
+}
+
 // The bytes that an entry reserves in the record.
 pub fn reserved_width(e: Entry) -> u64
     ensures { λ r. ⌜ r ≡ reservedWidth e ⌝ }
@@ -345,12 +380,6 @@ fn entry_end(e: Entry) -> u64
 {
     let n = reserved_width(e);
     e.offset as u64 + n
-}
-
-fn larger(a: u64, b: u64) -> u64
-    ensures { λ r. ⌜ r ≡ max a b ⌝ }
-{
-    if a < b { b } else { a }
 }
 
 // The greatest end of a top-level entry.

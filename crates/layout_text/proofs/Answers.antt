@@ -10,7 +10,8 @@ use lib.Seq.{take-append-seam}
 use Rattle.lists.proofs.Lists.{drop-replicate}
 use borrow.Author.Tests.{le-leb, eq-eqb, ne-eqb, leb-true, eqb-true}
 use Rattle.spans.specs.Tree.{nested}
-use Rattle.spans.proofs.Tree.{and-left, and-right, nested-as}
+use Rattle.spans.proofs.Tree.{nested-as}
+use Rattle.lists.proofs.Logic.{and-left, and-right}
 use Rattle.layout.specs.Layout.{entryAt, allBelow, spanOf, isGroup, wordsOk, entriesOk, spansOk, checkedOf}
 use Rattle.layout_text.specs.declared.Judged.{Judged}
 use Rattle.layout_text.specs.declared.LayoutRead.{LayoutRead}

@@ -13,7 +13,7 @@ use borrow.Author.Tests.{eq-eqb, eqb-true, eqb-false}
 use Rattle.layout.specs.Layout.{allBelow, entryOk}
 use Rattle.layout.proofs.Laws.{all-not}
 use Rattle.layout.proofs.Lawful.{width-lawful}
-use Rattle.spans.proofs.Tree.{and-left, and-right}
+use Rattle.lists.proofs.Logic.{and-left, and-right}
 use Rattle.layout_text.specs.declared.Said.{Said}
 use Rattle.layout_text.specs.declared.Number.{Number}
 use Rattle.layout_text.specs.declared.Judged.{Judged}

@@ -8,7 +8,7 @@ use lib.Dec.{eqb}
 use lib.ListN.{length, getD, take, drop, replicate, length-append, length-map, length-take, List·getD-eq-default}
 use lib.Seq.{getD-take, take-append-seam}
 use borrow.Author.Tests.{ne-eqb, eqb-true, eqb-false}
-use Rattle.spans.proofs.Tree.{and-left, and-right}
+use Rattle.lists.proofs.Logic.{and-left, and-right}
 use Rattle.layout.specs.Layout.{entryOk}
 use Rattle.layout.proofs.Laws.{all-at}
 use Rattle.layout.proofs.Lawful.{width-lawful}

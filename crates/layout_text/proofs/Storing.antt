@@ -10,7 +10,7 @@ use lib.Dec.{eqb}
 use lib.ListN.{length, getD, take, drop, length-append, length-drop, drop-of-length-le, take-append-drop}
 use lib.Seq.{drop-drop, take-append-seam, drop-append-add, length-take-le}
 use borrow.Author.Tests.{eqb-false}
-use Rattle.spans.proofs.Tree.{and-left}
+use Rattle.lists.proofs.Logic.{and-left}
 use Rattle.layout.specs.declared.Entry.{Entry}
 use Rattle.layout.specs.Layout.{absent, allBelow}
 use Rattle.layout.proofs.Laws.{all-at}

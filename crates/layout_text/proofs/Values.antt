@@ -12,7 +12,7 @@ use borrow.Author.Tests.{eq-eqb, ne-eqb, eqb-true, eqb-false, leb-true, ltb-true
 use Rattle.lists.specs.Scan.{everyBy}
 use Rattle.lists.proofs.Scan.{every-head}
 use Rattle.value.specs.Digits.{valueFrom, isDigit, digitIn}
-use Rattle.spans.proofs.Tree.{and-left, and-right}
+use Rattle.lists.proofs.Logic.{and-left, and-right}
 use Rattle.layout.specs.Layout.{absent}
 use Rattle.value.specs.Answer.{Answer, refused, given}
 use Rattle.lines.specs.Lines.{Place, place, valueAt, leads, bound, numberOf, inName, nameOk, maskOk}

@@ -1,4 +1,5 @@
 pub mod Table
+pub mod Logic
 pub mod Lists
 pub mod Scan
 pub mod Part

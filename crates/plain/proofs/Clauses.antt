@@ -10,11 +10,10 @@ use lib.Dec.{eqb, leb}
 use lib.ListN.{length, drop, getD, drop-of-length-le}
 use lib.Seq.{drop-cons}
 use Rattle.layout.specs.declared.Entry.{Entry}
-use Rattle.layout.specs.Layout.{absent, entryAt, spanOf, isGroup, present, part}
+use Rattle.layout.specs.Layout.{unrepeatedLeaf, absent, entryAt, spanOf, isGroup, present, part, unrepeated, isPad, controls}
 use Rattle.spans.specs.Tree.{none, endOf}
 use Rattle.spans.proofs.Tree.{tree-none, tree-at}
-use Rattle.walks.specs.Walk.{single, isPad}
-use Rattle.walks.specs.Plain.{isIn, padOk, widthOk, some, sure, groupOk, controls}
+use Rattle.walks.specs.Plain.{isIn, padOk, widthOk, some, sure, groupOk}
 
 and-true : (b : Bool) → b ≡ (b && true)
 and-true true = refl
@@ -56,30 +55,11 @@ module _ (e : Entry) where
         unfolding widthOk
         width-other n = rw (ne-eqb (e .kind) 9 g, le-leb 1 (e .width) w, ne-eqb (e .kind) 5 b, ne-eqb (e .kind) 2 n) refl
 
-  pub sure-group : e .kind ≡ 9 → false ≡ (single e && not (isGroup e))
-  sure-group k = rw (eq-eqb (e .kind) 9 k) (sym (and-false (single e)))
-
-  pub sure-field : (e .kind ≡ 9 → ⊥) → {b : Bool} → b ≡ single e → b ≡ (single e && not (isGroup e))
-  sure-field n p = rw (ne-eqb (e .kind) 9 n) (p ∙ and-true (single e))
-
   pub depends-none : (b : Bool) → e .depending ≡ absent → true ≡ (not (present (e .depending)) || b)
   depends-none b d = rw (eq-eqb (e .depending) absent d) refl
 
   pub depends-on : {b c : Bool} → (e .depending ≡ absent → ⊥) → b ≡ c → b ≡ (not (present (e .depending)) || c)
   depends-on d p = rw (ne-eqb (e .depending) absent d) p
-
-  pub controls-table : {b : Bool} → b ≡ single e → b ≡ false → false ≡ controls e
-  unfolding controls
-  controls-table p f = rw (sym p ∙ f) refl
-
-  module _ {b : Bool} (p : b ≡ single e) (t : b ≡ true) where
-    pub controls-int : e .kind ≡ 1 → true ≡ controls e
-    unfolding controls
-    controls-int k = rw (sym p ∙ t, eq-eqb (e .kind) 1 k) refl
-
-    pub controls-other : (e .kind ≡ 1 → ⊥) → eqb (e .kind) 2 ≡ controls e
-    unfolding controls
-    controls-other k = rw (sym p ∙ t, ne-eqb (e .kind) 1 k) refl
 
 -- ---- the entries lo up to hi
 
@@ -88,7 +68,7 @@ module _ (l : List ℕ) (lo hi : ℕ) where
   unfolding sure
   sure-end h = rw (tree-none (entryAt l) spanOf lo hi h) refl
 
-  module _ (e : Entry) (b : Bool) (h : lo < hi) (p : e ≡ entryAt l lo) (q : b ≡ (single e && not (isGroup e))) where
+  module _ (e : Entry) (b : Bool) (h : lo < hi) (p : e ≡ entryAt l lo) (q : b ≡ (unrepeatedLeaf e)) where
     pub sure-here : b ≡ true → sure (part l lo hi) ≡ true
     unfolding sure
     sure-here t = rw (tree-at (entryAt l) spanOf lo hi e (endOf (e .span) lo hi) h p refl, sym q ∙ t) refl
@@ -111,11 +91,11 @@ module _ (l : List ℕ) (lo hi : ℕ) where
         has-some : some (part l lo hi) ≡ true
         has-some = rw (tree-at (entryAt l) spanOf lo hi (entryAt l lo) (endOf (entryAt l lo .span) lo hi) h refl refl) refl
 
-        pub group-single : {b : Bool} → b ≡ single e → b ≡ true → true ≡ groupOk e (part l lo hi)
+        pub group-single : {b : Bool} → b ≡ unrepeated e → b ≡ true → true ≡ groupOk e (part l lo hi)
         unfolding groupOk
         group-single p t = rw (eq-eqb (e .kind) 9 k, has-some, sym p ∙ t) refl
 
-        pub group-sure : {b : Bool} → b ≡ single e → b ≡ false → {r : Bool} → r ≡ sure (part l lo hi) → r ≡ groupOk e (part l lo hi)
+        pub group-sure : {b : Bool} → b ≡ unrepeated e → b ≡ false → {r : Bool} → r ≡ sure (part l lo hi) → r ≡ groupOk e (part l lo hi)
         unfolding groupOk
         group-sure p f q = rw (eq-eqb (e .kind) 9 k, has-some, sym p ∙ f) q
 

@@ -9,11 +9,10 @@ use lib.Dec.{eqb, leb}
 use lib.ListN.{length, take, set}
 use lib.Seq.{take-suc-set, take-set-le, take-take}
 use Rattle.layout.specs.declared.Entry.{Entry}
-use Rattle.layout.specs.Layout.{entryAt, spanOf, present, reservedWidth, part}
+use Rattle.layout.specs.Layout.{entryAt, spanOf, present, reservedWidth, part, unrepeated, controls}
 use Rattle.spans.specs.Tree.{Tree, none, node, size, endOf}
 use Rattle.spans.proofs.Tree.{tree-none, tree-at, size-tree}
-use Rattle.walks.specs.Walk.{single}
-use Rattle.walks.specs.Plain.{isIn, padOk, widthOk, groupOk, eachOk, inOrder, controls, offers, controlled}
+use Rattle.walks.specs.Plain.{isIn, padOk, widthOk, groupOk, eachOk, inOrder, offers, controlled}
 use Rattle.plain.specs.Ways.{ownOk, treeOk, Grown, Walked}
 use Rattle.plain.specs.declared.Step.{Step}
 
@@ -109,29 +108,29 @@ around false false true = refl
 around false false false = refl
 
 module _ (e : Entry) (ms : Tree Entry) (top : ℕ) (known : List ℕ) (inner : ℕ) (known₁ : List ℕ) (g : Grown ms top known inner known₁) (held : ℕ)
-    (p : held ≡ cond (single e) inner top) where
+    (p : held ≡ cond (unrepeated e) inner top) where
   abbrev S : List ℕ
-  S = cond (single e) (offers ms) []
+  S = cond (unrepeated e) (offers ms) []
 
   abbrev N : List ℕ
   N = cond (controls e) (e .name ∷ []) []
 
   held-known : (x : ℕ) → isIn x (take held known₁) ≡ isIn x (S ++ take top known)
-  held-known x = ap (λ n. isIn x (take n known₁)) p ∙ go (single e)
+  held-known x = ap (λ n. isIn x (take n known₁)) p ∙ go (unrepeated e)
     where
       go : (b : Bool) → isIn x (take (cond b inner top) known₁) ≡ isIn x (cond b (offers ms) [] ++ take top known)
       go true = g .known x
       go false = ap (isIn x) (g .kept)
 
   held-above : top ≤ held
-  held-above = go (single e) p
+  held-above = go (unrepeated e) p
     where
       go : (b : Bool) → held ≡ cond b inner top → top ≤ held
       go true h = omega (arith, g .above)
       go false h = omega arith
 
   held-below : held ≤ top + size ms
-  held-below = go (single e) p
+  held-below = go (unrepeated e) p
     where
       go : (b : Bool) → held ≡ cond b inner top → held ≤ top + size ms
       go true h = omega (arith, g .below)
@@ -234,13 +233,13 @@ module _ (l : List ℕ) (lo hi top₀ : ℕ) (known₀ : List ℕ) (i from top :
         inner-fails f any known′ =
             fails refl (turn ∙ ap₂ (λ c d. c && d && treeOk (e .offset + reservedWidth e) (offers (node e ms none) ++ take top known) rest) (sym o ∙ t) (sym (w .answer) ∙ f)) any known′
 
-        pub room-left : s .fine ≡ true → length known₁ ≡ length known → (held : ℕ) → held ≡ cond (single e) (s .top) top → top₀ + (hi - lo) ≤ length known₀ → held < length known₁
+        pub room-left : s .fine ≡ true → length known₁ ≡ length known → (held : ℕ) → held ≡ cond (unrepeated e) (s .top) top → top₀ + (hi - lo) ≤ length known₀ → held < length known₁
         room-left f len held a enough =
             let n : size ms ≡ en - (i + 1) = size-tree (entryAt l) spanOf (i + 1) en in
             let y = held-below e ms top known (s .top) known₁ (w .grown f) held a in
             omega (arith, v .below, v .same)
 
-        module _ (f : s .fine ≡ true) (len : length known₁ ≡ length known) (held top′ : ℕ) (known₂ : List ℕ) (a : held ≡ cond (single e) (s .top) top)
+        module _ (f : s .fine ≡ true) (len : length known₁ ≡ length known) (held top′ : ℕ) (known₂ : List ℕ) (a : held ≡ cond (unrepeated e) (s .top) top)
             (c : top′ ≡ cond (controls e) (held + 1) held) (d : known₂ ≡ cond (controls e) (set known₁ held (e .name)) known₁) (len′ : length known₂ ≡ length known₁)
             (room : held < length known₁) (from′ : ℕ) (z : from′ ≡ e .offset + reservedWidth e) where
           g : Grown ms top known (s .top) known₁
@@ -266,7 +265,7 @@ module _ (l : List ℕ) (lo hi top₀ : ℕ) (known₀ : List ℕ) (i from top :
               ∙ sym (in-append x (offers rest) (take top′ known₂))
             where
               A : List ℕ
-              A = cond (controls e) (e .name ∷ []) [] ++ cond (single e) (offers ms) []
+              A = cond (controls e) (e .name ∷ []) [] ++ cond (unrepeated e) (offers ms) []
 
           front : take top₀ known₂ ≡ take top₀ known
           front = sym (take-take top₀ top known₂ (v .above)) ∙ ap (take top₀) (behind-kept e ms top known (s .top) known₁ g held a top′ known₂ c d room) ∙ take-take top₀ top known (v .above)

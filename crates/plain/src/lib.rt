@@ -1,18 +1,19 @@
 // Plain layouts decided: question by question, names by index, the other clauses in one walk of the tree.
-use decode_leaf::is_single;
 use layout::Entry;
 use layout::check_layout;
+use layout::controls;
 use layout::load;
 use layout::reserved_width;
+use layout::unrepeated;
+use layout::unrepeated_leaf;
 use spans::end_of;
 ghost use mathlib.Core.Path.{_≡_};
 ghost use mathlib.Core.Bool.{_&&_, _||_, not, cond};
 ghost use mathlib.Core.List.{List};
 ghost use Prim.Native.Nat.{ℕ, _+_, _-_, _≤_, _<_};
 ghost use lib.ListN.{length, take, set};
-ghost use Rattle.layout.specs.Layout.{entryCount, isGroup, present, part, entries};
-ghost use Rattle.walks.specs.Walk.{single};
-ghost use Rattle.walks.specs.Plain.{isIn, namesOf, distinct, padOk, widthOk, sure, groupOk, controls, plain};
+ghost use Rattle.layout.specs.Layout.{entryCount, isGroup, present, part, entries, unrepeated, controls};
+ghost use Rattle.walks.specs.Plain.{isIn, namesOf, distinct, padOk, widthOk, sure, groupOk, plain};
 ghost use Rattle.plain.specs.Ways.{namesFrom, ownOk, Walked};
 
 // ---- names
@@ -80,16 +81,6 @@ fn width_ok(e: Entry) -> bool
     true
 }
 
-// Whether an entry is unrepeated and no group.
-fn is_sure(e: Entry) -> bool
-    ensures { λ r. ⌜ r ≡ (single e && not (isGroup e)) ⌝ }
-{
-    if e.kind == 9 {
-        return false;
-    }
-    is_single(e)
-}
-
 // Whether one of the sequence of the entries lo up to hi is unrepeated and no group.
 fn has_sure(layout: &[u32], lo: usize, hi: usize) -> bool
     ensures { λ r. ⌜ r ≡ sure (part (now (layout .entry)) lo hi) ⌝ }
@@ -97,7 +88,7 @@ fn has_sure(layout: &[u32], lo: usize, hi: usize) -> bool
     let mut i = lo;
     while i < hi {
         let e = load(layout, i);
-        if is_sure(e) {
+        if unrepeated_leaf(e) {
             return true;
         }
         i = end_of(e.span as u64, i, hi);
@@ -115,7 +106,7 @@ fn group_ok(layout: &[u32], e: Entry, lo: usize, hi: usize) -> bool
     if hi <= lo {
         return false;
     }
-    if is_single(e) {
+    if unrepeated(e) {
         return true;
     }
     has_sure(layout, lo, hi)
@@ -166,24 +157,11 @@ fn own_ok(layout: &[u32], names: &[u32], e: Entry, lo: usize, hi: usize, from: u
 
 // ---- the stack of the controllers that are known
 
-// Whether an entry is an unrepeated Int or Binary.
-fn is_control(e: Entry) -> bool
-    ensures { λ r. ⌜ r ≡ controls e ⌝ }
-{
-    if !is_single(e) {
-        return false;
-    }
-    if e.kind == 1 {
-        return true;
-    }
-    e.kind == 2
-}
-
 // The height behind an entry: what the members of a repeated one put on the stack is dropped.
 fn held_top(e: Entry, top: usize, inner: usize) -> usize
-    ensures { λ r. ⌜ r ≡ cond (single e) inner top ⌝ }
+    ensures { λ r. ⌜ r ≡ cond (unrepeated e) inner top ⌝ }
 {
-    if is_single(e) {
+    if unrepeated(e) {
         return inner;
     }
     top
@@ -195,7 +173,7 @@ fn put_known(known: &mut [u32], top: usize, e: Entry) -> usize
     ensures { λ r. ⌜ r ≡ cond (controls e) (top + 1) top ⌝ }
     ensures { λ _. ⌜ now (known .exit) ≡ cond (controls e) (set (now (known .entry)) top (e .name)) (now (known .entry)) ⌝ }
 {
-    if is_control(e) {
+    if controls(e) {
         known[top] = e.name;
         return top + 1;
     }

@@ -6,6 +6,7 @@ use native.Mathlib.Omega.{arith}
 use native.Mathlib.Numerals.{add-one}
 use lib.Dec.{ltb, eqb}
 use borrow.Author.Tests.{lt-ltb, le-ltb, ltb-true, ltb-false, eqb-true}
+use Rattle.lists.proofs.Logic.{and-left, and-right}
 use Rattle.spans.specs.Tree.{none, node, endOf, treeIn, tree, size, spanOk, nested}
 
 module _ {A : Type 0} (at : ℕ → A) (span : A → ℕ) where
@@ -70,13 +71,6 @@ module _ {A : Type 0} (at : ℕ → A) (span : A → ℕ) where
 -- an entry of span 1 ends behind itself, and so does one of span 0
 pub end-single : (span lo hi : ℕ) → lo < hi → span ≤ 1 → lo + 1 ≡ endOf span lo hi
 end-single span lo hi h s = omega arith
-
--- each of two tests that hold together
-pub and-left : (a b : Bool) → (a && b) ≡ true → a ≡ true
-and-left a b h = and-eq-true-iff a b .0 h .0
-
-pub and-right : (a b : Bool) → (a && b) ≡ true → b ≡ true
-and-right a b h = and-eq-true-iff a b .0 h .1
 
 module _ {A : Type 0} (at : ℕ → A) (span : A → ℕ) (may : A → Bool) where
   pub nested-end : (lo hi levels : ℕ) → hi ≤ lo → nested span may levels (tree at span lo hi) ≡ true

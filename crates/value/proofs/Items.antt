@@ -1,4 +1,4 @@
--- Scalars become items and come back.
+-- A scalar's tag and words; a float's word comes back.
 use mathlib.Core.Path.{_≡_, refl, sym, _∙_, ap, subst}
 use mathlib.Core.List.{List, [], _∷_, _++_}
 use mathlib.Core.Bool.{Bool, true, false, not, cond, true≢false}
@@ -12,7 +12,7 @@ use lib.Ieee.Bits.{toBits-ofBits, nanBits-is}
 use lib.Ieee.Compare.{differs-from-itself}
 use Rattle.value.specs.declared.Scalar.{Scalar}
 use Rattle.value.specs.declared.Scalar.the-variants.{Float as FloatV, FloatBits}
-use Rattle.value.specs.Scalar.{tagOf, firstOf, secondOf, itemOf, putOf, floatOf, scalarOf}
+use Rattle.value.specs.Scalar.{tagOf, firstOf, secondOf, floatOf}
 use Rattle.value.proofs.Word.{word-back}
 
 nan-word : toBits binary64 nan ≡ 0x7FF8000000000000
@@ -35,24 +35,6 @@ is-nan x e =
 pub words-are : (s t : Scalar) (a : ℕ) → s ≡ t → a ≡ firstOf t → (tagOf t ≡ tagOf s) × ((a ≡ firstOf s) × (secondOf t ≡ secondOf s))
 words-are s t a e f = (sym (ap tagOf e), (f ∙ sym (ap firstOf e), sym (ap secondOf e)))
 
-pub put-none : (items : List ℕ) (name : ℕ) (s : Scalar) → length items < 4 → items ≡ putOf items name s
-unfolding putOf
-put-none items name s h = rw (lt-leb 4 (length items) h)
-
-pub put-some : (items : List ℕ) (name : ℕ) (s : Scalar) (a b c : ℕ) → 4 ≤ length items → a ≡ tagOf s → b ≡ firstOf s → c ≡ secondOf s
-    → set (set (set (set items 0 name) 1 a) 2 b) 3 c ≡ putOf items name s
-unfolding putOf
-put-some items name s a b c h ea eb ec = rw (le-leb 4 (length items) h, ea, eb, ec) (go items h)
-  where
-    go : (l : List ℕ) → 4 ≤ length l → set (set (set (set l 0 name) 1 (tagOf s)) 2 (firstOf s)) 3 (secondOf s) ≡ itemOf name s ++ drop 4 l
-    go [] k = absurd (omega arith)
-    go (x ∷ []) k = absurd (omega arith)
-    go (x ∷ y ∷ []) k = absurd (omega arith)
-    go (x ∷ y ∷ z ∷ []) k = absurd (omega arith)
-    go (x ∷ y ∷ z ∷ w ∷ l) k = refl
-
--- ---- an item's words, as a scalar and back
-
 pub float-tag : (w : ℕ) → tagOf (floatOf w) ≡ 4
 float-tag w = by (nanBits binary64 w)
   where
@@ -74,22 +56,3 @@ float-first w h = by (nanBits binary64 w) refl
     by : (b : Bool) → nanBits binary64 w ≡ b → firstOf (cond b (FloatBits w) (FloatV (ofBits binary64 w))) ≡ w
     by true e = refl
     by false e = toBits-ofBits binary64 w h (subst (λ (b : Bool). T (not b)) (sym (sym (nanBits-is binary64 w) ∙ e)) tt)
-
--- the words of an item that may stand in a value list
-pub data ItemWords : ℕ → ℕ → ℕ → Type 0 where
-  null : ItemWords 0 0 0
-  text : (start count : ℕ) → ItemWords 1 start count
-  int : (w : ℕ) → w < 2 ^ 64 → ItemWords 2 w 0
-  decimal : (w scale : ℕ) → w < 2 ^ 64 → ItemWords 3 w scale
-  float : (w : ℕ) → w < 2 ^ 64 → ItemWords 4 w 0
-  bool : (b : Bool) → ItemWords 5 (cond b 1 0) 0
-
-pub words-back : (name : ℕ) {tag a b : ℕ} → ItemWords tag a b → itemOf name (scalarOf tag a b) ≡ name ∷ tag ∷ a ∷ b ∷ []
-unfolding scalarOf
-words-back name null = refl
-words-back name (text start count) = refl
-words-back name (int w h) = rw (word-back w h)
-words-back name (decimal w scale h) = rw (word-back w h)
-words-back name (float w h) = rw (float-tag w, float-first w h, float-second w)
-words-back name (bool true) = refl
-words-back name (bool false) = refl

@@ -1,4 +1,4 @@
--- "a scalar is Null, Text, Int, Decimal, Float or Bool (tags 0 to 5)", and the item of four words that it becomes.
+-- "a scalar is Null, Text, Int, Decimal, Float or Bool (tags 0 to 5)", with its tag and its two words.
 use mathlib.Core.List.{List, [], _∷_, _++_}
 use mathlib.Core.Bool.{Bool, true, false, cond}
 use Prim.Native.Nat.{ℕ}
@@ -39,14 +39,6 @@ secondOf (Decimal negative size scale) = scale
 secondOf (FloatV x) = 0
 secondOf (FloatBits w) = 0
 secondOf (BoolV b) = 0
-
--- "name .., tag, and two words"
-abbrev pub itemOf : ℕ → Scalar → List ℕ
-itemOf name s = name ∷ tagOf s ∷ firstOf s ∷ secondOf s ∷ []
-
--- the item at the front of a buffer, where it has room
-unfoldable pub putOf : List ℕ → ℕ → Scalar → List ℕ
-putOf items name s = cond (leb 4 (length items)) (itemOf name s ++ drop 4 items) items
 
 -- the scalar of a float's word: a NaN is kept by its word, and every other number is an f64
 abbrev pub floatOf : ℕ → Scalar

@@ -11,7 +11,7 @@ ghost use Rattle.value.specs.Digits.{capped, limit, roomFor};
 ghost use Rattle.value.specs.Number.{some, readIn, amountOf, withSign, numberBy, readAs, amountAs};
 ghost use Rattle.value.specs.Rounding.{rescaled};
 ghost use Rattle.value.specs.Word.{wordOf, minusIn, sizeIn, powerTen};
-ghost use Rattle.value.specs.Scalar.{tagOf, firstOf, secondOf, putOf, floatOf, scalarOf};
+ghost use Rattle.value.specs.Scalar.{tagOf, firstOf, secondOf, floatOf, scalarOf};
 
 // What is answered for a number that is read, or for the integer that a value stands for: whether it is negative, and its size; 0 is never negative.
 // Bad: an unlawful byte, or no integer. Big: out of range.
@@ -314,21 +314,6 @@ pub fn words_of(s: Scalar) -> Words
             b: 0,
         },
     }
-}
-
-// The item of a scalar at the front of the words, where it has room.
-pub fn put_item(items: &mut [u64], name: u64, s: Scalar) -> bool
-    ensures { λ r. ⌜ (r ≡ leb 4 (length (now (items .entry)))) × (now (items .exit) ≡ putOf (now (items .entry)) name s) ⌝ }
-{
-    if items.len() < 4 {
-        return false;
-    }
-    let w = words_of(s);
-    items[0] = name;
-    items[1] = w.tag;
-    items[2] = w.a;
-    items[3] = w.b;
-    true
 }
 
 // The scalar of a float's bits.

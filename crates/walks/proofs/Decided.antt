@@ -7,42 +7,36 @@ use lib.Dec.{eqb, ltb}
 use lib.ListN.{length}
 use borrow.Author.Tests.{eq-eqb, eqb-true, lt-ltb, ltb-true}
 use Rattle.layout.specs.declared.Entry.{Entry}
-use Rattle.layout.specs.Layout.{isGroup, entries}
+use Rattle.layout.specs.Layout.{isGroup, entries, unrepeated, isPad}
 use Rattle.spans.specs.Tree.{Tree, none, node, size}
 use Rattle.items.specs.declared.Item.{Item}
-use Rattle.items.specs.Items.{Values, values, count, scalarOk, wellFormed}
+use Rattle.items.specs.Items.{itemCount, Values, values, count, scalarOk, wellFormed, textOf, scalarIn, missing}
 use Rattle.fits.specs.Decide.{fitsOf}
 use Rattle.fits.proofs.Sound.{fits-sound, fits-complete}
-use Rattle.walks.specs.Walk.{single, isPad, Many, never, times, howMany}
-use Rattle.walks.specs.Kinds.{State, start, held, maskOf, textOf, scalarIn}
+use Rattle.walks.specs.Walk.{Many, never, times, howMany}
+use Rattle.walks.specs.Kinds.{State, start, held, maskOf}
 use Rattle.walks.specs.Fitting.{after, Good, holder, Sort, sequence, elements, Fits, done, pads, scalar, group, table, last, scalars, groups, Fitting}
-use Rattle.walks.specs.Decide.{Fit, misfit, fit, so, only, alone, numbers, holds, goodOf, eachFits, first, fitted, same, textIs, fitting}
-
-both : (a b : Bool) → (a && b) ≡ true → (a ≡ true) × (b ≡ true)
-both true b h = (refl, h)
-both false b h = absurd (false≢true h)
-
-and : {a b : Bool} → a ≡ true → b ≡ true → (a && b) ≡ true
-and {a} {b} p q = rw (p, q) refl
+use Rattle.lists.proofs.Logic.{both, and}
+use Rattle.walks.specs.Decide.{Fit, misfit, fit, bind, guard, numbers, holds, goodOf, eachFits, first, fitted, same, textIs, fitting}
 
 misfit≢fit : {s : State} → misfit ≡ fit s → ⊥
 misfit≢fit {s} e = false≢true (ap isFit e)
   where
-    isFit : Fit → Bool
+    isFit : Fit State → Bool
     isFit misfit = false
     isFit (fit s) = true
 
-only-true : (b : Bool) (x : Fit) {s : State} → only b x ≡ fit s → (b ≡ true) × (x ≡ fit s)
-only-true true x e = (refl, e)
-only-true false x e = absurd (misfit≢fit e)
+guard-true : (b : Bool) (x : Fit State) {s : State} → guard b x ≡ fit s → (b ≡ true) × (x ≡ fit s)
+guard-true true x e = (refl, e)
+guard-true false x e = absurd (misfit≢fit e)
 
-so-fit : (x : Fit) (f : State → Fit) {s : State} → so x f ≡ fit s → (s₁ : State) × (x ≡ fit s₁) × (f s₁ ≡ fit s)
-so-fit misfit f e = absurd (misfit≢fit e)
-so-fit (fit s₁) f e = (s₁, refl, e)
+bind-fit : (x : Fit State) (f : State → Fit State) {s : State} → bind x f ≡ fit s → (s₁ : State) × (x ≡ fit s₁) × (f s₁ ≡ fit s)
+bind-fit misfit f e = absurd (misfit≢fit e)
+bind-fit (fit s₁) f e = (s₁, refl, e)
 
-alone-none : (vs : Values) → alone vs ≡ true → vs ≡ none
-alone-none none h = refl
-alone-none (node it ms rest) h = absurd (false≢true h)
+missing-none : (vs : Values) → missing vs ≡ true → vs ≡ none
+missing-none none h = refl
+missing-none (node it ms rest) h = absurd (false≢true h)
 
 many : (m : Many) (n : ℕ) → numbers m n ≡ true → m ≡ times n
 many (never k) n h = absurd (false≢true h)
@@ -75,14 +69,14 @@ module _ (masks source : List ℕ) where
   good-sound e name it ns s h =
       let f : Bool = fitsOf (e .p) (e .q) (e .r) (e .s) (maskOf masks e) (e .width) (e .kind) (scalarIn it) (textOf source it) in
       let p : Bool = not (eqb (it .tag) 1) || eqb (it .a) (length (s .text)) in
-      let a = both (eqb (it .name) name) (alone ns && (scalarOk (length source) it && (ltb (it .a) (2 ^ 64) && (f && p)))) h in
-      let b = both (alone ns) (scalarOk (length source) it && (ltb (it .a) (2 ^ 64) && (f && p))) (a .1) in
+      let a = both (eqb (it .name) name) (missing ns && (scalarOk (length source) it && (ltb (it .a) (2 ^ 64) && (f && p)))) h in
+      let b = both (missing ns) (scalarOk (length source) it && (ltb (it .a) (2 ^ 64) && (f && p))) (a .1) in
       let c = both (scalarOk (length source) it) (ltb (it .a) (2 ^ 64) && (f && p)) (b .1) in
       let d = both (ltb (it .a) (2 ^ 64)) (f && p) (c .1) in
       let g = both f p (d .1) in
       record {
         name-is = eqb-true (it .name) name (a .0);
-        single-is = alone-none ns (b .0);
+        single-is = missing-none ns (b .0);
         good = record { lawful = c .0; word = ltb-true (it .a) (2 ^ 64) (d .0); fits = fits-sound (g .0); packed = λ q. at (eqb (it .tag) 1) (eq-eqb (it .tag) 1 q) (g .1) };
       }
     where
@@ -101,7 +95,7 @@ module _ (masks source : List ℕ) where
 
   -- ---- yes only of what fits
 
-  module _ (e : Entry) (ms : Tree Entry) (inner : Values → State → Fit) (ih : (ns : Values) (s s′ : State) → inner ns s ≡ fit s′ → Fits masks source (sequence ms) ns s s′) where
+  module _ (e : Entry) (ms : Tree Entry) (inner : Values → State → Fit State) (ih : (ns : Values) (s s′ : State) → inner ns s ≡ fit s′ → Fits masks source (sequence ms) ns s s′) where
     each-sound : (vs : Values) (s s′ : State) → eachFits masks source e inner vs s ≡ fit s′ → Fits masks source (elements e ms) vs s s′
     unfolding eachFits
     each-sound none s s′ h = rw (← fit-is h) last
@@ -109,60 +103,60 @@ module _ (masks source : List ℕ) where
         fit-is : fit s ≡ fit s′ → s ≡ s′
         fit-is q = ap state q
           where
-            state : Fit → State
+            state : Fit State → State
             state misfit = s
             state (fit x) = x
     each-sound (node it ns vs) s s′ h = go (isGroup e) refl h (λ s₁ q. each-sound vs s₁ s′ q)
       where
         go : (b : Bool) → isGroup e ≡ b
-            → cond b (only (holds 65536 7 it ns) (so (inner ns s) (λ s₁. eachFits masks source e inner vs s₁))) (only (goodOf masks source e 65536 it ns s) (eachFits masks source e inner vs (after source e false it s))) ≡ fit s′
+            → cond b (guard (holds 65536 7 it ns) (bind (inner ns s) (λ s₁. eachFits masks source e inner vs s₁))) (guard (goodOf masks source e 65536 it ns s) (eachFits masks source e inner vs (after source e it s))) ≡ fit s′
             → ((s₁ : State) → eachFits masks source e inner vs s₁ ≡ fit s′ → Fits masks source (elements e ms) vs s₁ s′)
             → Fits masks source (elements e ms) (node it ns vs) s s′
         go true g h more =
-            let a = only-true (holds 65536 7 it ns) _ h in
-            let b = so-fit (inner ns s) (λ s₁. eachFits masks source e inner vs s₁) (a .1) in
+            let a = guard-true (holds 65536 7 it ns) _ h in
+            let b = bind-fit (inner ns s) (λ s₁. eachFits masks source e inner vs s₁) (a .1) in
             rw (holds-is 65536 7 it ns (a .0)) (groups g (ih ns s (b .0) (b .1)) (more (b .0) (b .2)))
         go false g h more =
-            let a = only-true (goodOf masks source e 65536 it ns s) _ h in
+            let a = guard-true (goodOf masks source e 65536 it ns s) _ h in
             let d = good-sound e 65536 it ns s (a .0) in
-            rw (d .single-is) (scalars g (d .name-is) (d .good) (more (after source e false it s) (a .1)))
+            rw (d .single-is) (scalars g (d .name-is) (d .good) (more (after source e it s) (a .1)))
 
-  module _ (e : Entry) (ms rest : Tree Entry) (inner : Values → State → Fit) (next : Values → State → Fit)
+  module _ (e : Entry) (ms rest : Tree Entry) (inner : Values → State → Fit State) (next : Values → State → Fit State)
       (ih : (ns : Values) (s s′ : State) → inner ns s ≡ fit s′ → Fits masks source (sequence ms) ns s s′)
       (more : (vs : Values) (s s′ : State) → next vs s ≡ fit s′ → Fits masks source (sequence rest) vs s s′) (p : isPad e ≡ false) where
     first-sound : (vs : Values) (s s′ : State) → first masks source e inner vs s next ≡ fit s′ → Fits masks source (sequence (node e ms rest)) vs s s′
     unfolding first
     first-sound none s s′ h = absurd (misfit≢fit h)
-    first-sound (node it ns vs) s s′ h = go (single e) refl h
+    first-sound (node it ns vs) s s′ h = go (unrepeated e) refl h
       where
-        once : (b : Bool) → single e ≡ true → isGroup e ≡ b
-            → cond b (only (holds (e .name) 7 it ns) (so (inner ns s) (next vs))) (only (goodOf masks source e (e .name) it ns s) (next vs (after source e true it s))) ≡ fit s′
+        once : (b : Bool) → unrepeated e ≡ true → isGroup e ≡ b
+            → cond b (guard (holds (e .name) 7 it ns) (bind (inner ns s) (next vs))) (guard (goodOf masks source e (e .name) it ns s) (next vs (after source e it s))) ≡ fit s′
             → Fits masks source (sequence (node e ms rest)) (node it ns vs) s s′
         once true o g h =
-            let a = only-true (holds (e .name) 7 it ns) _ h in
-            let b = so-fit (inner ns s) (next vs) (a .1) in
+            let a = guard-true (holds (e .name) 7 it ns) _ h in
+            let b = bind-fit (inner ns s) (next vs) (a .1) in
             rw (holds-is (e .name) 7 it ns (a .0)) (group p o g (ih ns s (b .0) (b .1)) (more vs (b .0) s′ (b .2)))
         once false o g h =
-            let a = only-true (goodOf masks source e (e .name) it ns s) _ h in
+            let a = guard-true (goodOf masks source e (e .name) it ns s) _ h in
             let d = good-sound e (e .name) it ns s (a .0) in
-            rw (d .single-is) (scalar p o g (d .name-is) (d .good) (more vs (after source e true it s) s′ (a .1)))
+            rw (d .single-is) (scalar p o g (d .name-is) (d .good) (more vs (after source e it s) s′ (a .1)))
 
-        go : (b : Bool) → single e ≡ b
-            → cond b (cond (isGroup e) (only (holds (e .name) 7 it ns) (so (inner ns s) (next vs))) (only (goodOf masks source e (e .name) it ns s) (next vs (after source e true it s))))
-            (only (holds (e .name) 6 it ns && numbers (howMany held e s) (count ns)) (so (eachFits masks source e inner ns s) (next vs))) ≡ fit s′
+        go : (b : Bool) → unrepeated e ≡ b
+            → cond b (cond (isGroup e) (guard (holds (e .name) 7 it ns) (bind (inner ns s) (next vs))) (guard (goodOf masks source e (e .name) it ns s) (next vs (after source e it s))))
+            (guard (holds (e .name) 6 it ns && numbers (howMany held e s) (count ns)) (bind (eachFits masks source e inner ns s) (next vs))) ≡ fit s′
             → Fits masks source (sequence (node e ms rest)) (node it ns vs) s s′
         go true o h = once (isGroup e) o refl h
         go false o h =
-            let a = only-true (holds (e .name) 6 it ns && numbers (howMany held e s) (count ns)) _ h in
+            let a = guard-true (holds (e .name) 6 it ns && numbers (howMany held e s) (count ns)) _ h in
             let c = both (holds (e .name) 6 it ns) (numbers (howMany held e s) (count ns)) (a .0) in
-            let b = so-fit (eachFits masks source e inner ns s) (next vs) (a .1) in
+            let b = bind-fit (eachFits masks source e inner ns s) (next vs) (a .1) in
             rw (holds-is (e .name) 6 it ns (c .0))
             (table p o (many (howMany held e s) (count ns) (c .1)) (each-sound e ms inner ih ns s (b .0) (b .1)) (more vs (b .0) s′ (b .2)))
 
   fit-state : {s s′ : State} → fit s ≡ fit s′ → s ≡ s′
   fit-state {s} q = ap state q
     where
-      state : Fit → State
+      state : Fit State → State
       state misfit = s
       state (fit x) = x
 
@@ -214,20 +208,20 @@ same-self : (xs : List ℕ) → same xs xs ≡ true
 same-self [] = refl
 same-self (x ∷ xs) = rw (eq-eqb x x refl) (same-self xs)
 
-text-fit : (text : List ℕ) (f : Fit) → textIs text f ≡ true → (s : State) × (f ≡ fit s) × (s .text ≡ text)
+text-fit : (text : List ℕ) (f : Fit State) → textIs text f ≡ true → (s : State) × (f ≡ fit s) × (s .text ≡ text)
 text-fit text misfit h = absurd (false≢true h)
 text-fit text (fit s) h = (s, refl, same-is (s .text) text h)
 
 module _ (l masks items text : List ℕ) where
-  abbrev answer : Fit
-  answer = fitted masks text (entries l) (values items 0 (length items / 4)) start
+  abbrev answer : Fit State
+  answer = fitted masks text (entries l) (values items 0 (itemCount items)) start
 
   pub fitting-sound : fitting l masks items text ≡ true → Fitting l masks items text
   unfolding fitting
   fitting-sound h =
       let a = both (wellFormed items (length text)) (textIs text answer) h in
       let b = text-fit text answer (a .1) in
-      record { wellFormed = a .0; counts = b .0; fits = fitted-sound masks text (entries l) (values items 0 (length items / 4)) start (b .0) (b .1); texts = b .2 }
+      record { wellFormed = a .0; counts = b .0; fits = fitted-sound masks text (entries l) (values items 0 (itemCount items)) start (b .0) (b .1); texts = b .2 }
 
   pub fitting-complete : Fitting l masks items text → fitting l masks items text ≡ true
   unfolding fitting

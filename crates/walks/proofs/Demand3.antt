@@ -8,14 +8,15 @@ use lib.ListN.{length, take, replicate, length-append, length-replicate}
 use lib.Seq.{take-at}
 use lib.Dec.{leb, eqb}
 use borrow.Author.Tests.{le-leb}
+use Rattle.lists.proofs.Logic.{or-right}
 use Rattle.layout.specs.declared.Entry.{Entry}
 use Rattle.layout.proofs.Laws.{lawful-asked}
-use Rattle.layout.specs.Layout.{workFor, entries, recordLength, dependsIn}
+use Rattle.layout.specs.Layout.{workFor, entries, recordLength, dependsIn, isPad}
 use Rattle.spans.specs.Tree.{Tree, none, node}
 use Rattle.items.specs.declared.Item.{Item}
-use Rattle.items.specs.Items.{Values, values, count, wellFormed, lookup}
+use Rattle.items.specs.Items.{itemCount, Values, values, count, wellFormed, lookup}
 use Rattle.items.proofs.Exact.{whole-count}
-use Rattle.walks.specs.Walk.{isPad, Codec}
+use Rattle.walks.specs.Walk.{Codec}
 use Rattle.walks.specs.Kinds.{State, start, held, kinds}
 use Rattle.walks.specs.Reading as R
 use Rattle.walks.specs.Writing as W
@@ -28,9 +29,10 @@ use Rattle.walks.specs.Needs.{needed}
 use Rattle.walks.specs.Demand.{Kept, Demand3}
 use Rattle.walks.proofs.Puts.{Held, apply-length, apply-held, held-front}
 use Rattle.walks.proofs.Plainly.{least, plain-lawful, plain-tree}
-use Rattle.walks.proofs.Goes.{flat, Goes}
+use Rattle.walks.proofs.Goes.{Goes}
+use Rattle.items.specs.Items.{flat}
 use Rattle.walks.proofs.Trip.{trip, looks-self, self-found}
-use Rattle.walks.proofs.Flat.{flat-values}
+use Rattle.items.proofs.Flat.{flat-values}
 use Rattle.walks.proofs.Scalars.{scalar-law, pad-law}
 
 -- ---- question 12: every top-level name but Pads is supplied
@@ -45,10 +47,6 @@ found-more it ms vs name h = go (eqb (it .name) name)
     go : (b : Bool) → found (cond b (node it ms vs) (lookup name vs)) ≡ true
     go true = refl
     go false = h
-
-or-right : (a b : Bool) → b ≡ true → (a || b) ≡ true
-or-right true b h = refl
-or-right false b h = h
 
 supplied-more : (t : Tree Entry) (it : Item) (ms vs : Values) → supplied t vs ≡ true → supplied t (node it ms vs) ≡ true
 unfolding supplied
@@ -79,7 +77,7 @@ module _ (masks source : List ℕ) where
 
 module _ (l masks : List ℕ) (page : ℕ) (items text : List ℕ) (p : plain l masks page ≡ true) (f : Fitting l masks items text) (small : needed l items ≤ most) where
   abbrev vs : Values
-  vs = values items 0 (length items / 4)
+  vs = values items 0 (itemCount items)
 
   abbrev kw : Codec State
   kw = kinds masks page text 0
@@ -88,8 +86,8 @@ module _ (l masks : List ℕ) (page : ℕ) (items text : List ℕ) (p : plain l 
     abbrev kr : Codec State
     kr = kinds masks page [] textRoom
 
-    goes : Goes (λ room. W.seq kw room (entries l) vs 0 0) (λ r room. R.seq kr r (entries l) 0 0 room start) (N.seq (entries l) vs 0 0) (0 + (0 + 0)) 0 (least (entries l)) (flat vs) (count vs) (f .counts)
-    goes = trip kw kr (pad-law masks page text 0 textRoom enough) (λ e s. refl) masks text (λ e once it s g. scalar-law masks page text 0 textRoom enough e once it s g)
+    goes : Goes (λ room. W.seq kw room (entries l) vs 0 0) (λ r room. R.seq _+_ kr r (entries l) 0 0 room start) (N.seq (entries l) vs 0 0) (0 + (0 + 0)) 0 (least (entries l)) (flat vs) (count vs) (f .counts)
+    goes = trip kw kr (pad-law masks page text 0 textRoom enough) (λ e s. refl) masks text (λ e it s g. scalar-law masks page text 0 textRoom enough e it s g)
         (f .fits) 0 0 0 vs (plain-tree l masks page p) (looks-self (entries l) vs)
 
   self : length text ≤ length text

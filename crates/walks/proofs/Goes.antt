@@ -7,12 +7,14 @@ use native.Mathlib.Omega.{arith}
 use lib.ListN.{length, take, drop, length-append}
 use lib.Dec.{leb, eqb}
 use borrow.Author.Tests.{le-leb, ne-eqb}
+use Rattle.lists.proofs.Logic.{or-true}
+use Rattle.items.proofs.Flat.{flat-long}
 use Rattle.layout.specs.declared.Entry.{Entry}
-use Rattle.layout.specs.Layout.{isGroup, present, reservedWidth}
+use Rattle.layout.specs.Layout.{isGroup, present, reservedWidth, unrepeated, isPad}
 use Rattle.spans.specs.Tree.{Tree, none, node, size}
 use Rattle.items.specs.declared.Item.{Item}
-use Rattle.items.specs.Items.{Values, count, headOf, restOf, lookup}
-use Rattle.walks.specs.Walk.{single, isPad, Many, times, atMost, howMany, leaf, bytes, Codec}
+use Rattle.items.specs.Items.{itemWords, itemCount, flat, wordsOf, itemOf, scalarIn, Values, count, headOf, restOf, lookup}
+use Rattle.walks.specs.Walk.{Many, times, atMost, howMany, leaf, bytes, Codec}
 use Rattle.walks.specs.Reading as R
 use Rattle.walks.specs.Reading.{Outcome, read, Reader}
 use Rattle.walks.specs.Writing as W
@@ -22,18 +24,8 @@ use Rattle.walks.specs.Needs.{Extent, Measure}
 use Rattle.walks.specs.Fitting.{holder}
 use Rattle.walks.proofs.Puts.{Asc, Held, asc-from, asc-append, reach-append, held-left, held-right}
 
--- the words of items, four an item
-abbrev pub flat : Values → List ℕ
-flat none = []
-flat (node it ms rest) = it .name ∷ it .tag ∷ it .a ∷ it .b ∷ (flat ms ++ flat rest)
-
-pub flat-long : (vs : Values) → length (flat vs) ≡ 4 * size vs
-unfolding size
-flat-long none = refl
-flat-long (node it ms rest) = omega (arith, length-append (flat ms) (flat rest), flat-long ms, flat-long rest)
-
-span-of : (vs : Values) → length (flat vs) / 4 + 1 ≡ suc (size vs)
-span-of vs = let e : length (flat vs) ≡ 4 * size vs = flat-long vs in omega arith
+span-of : (vs : Values) → itemCount (flat vs) + 1 ≡ suc (size vs)
+span-of vs = let e : length (flat vs) ≡ itemWords * size vs = flat-long vs in omega arith
 
 -- A part of the writer w, by the buffer's room, and a part of the reader f, by the record and the items' room, of the extent x. It lies from lo on and ends by
 -- base + the bytes taken; it takes at least so many bytes; and what is written is read as the words ws, m items at their own level, with the state s behind it.
@@ -69,9 +61,9 @@ pub counted : {S : Type 0} {w : ℕ → Wrote} {f : List ℕ → ℕ → Outcome
 counted m m′ e g = rw e g
 
 -- the law of a scalar: it is written in as many bytes as the entry is wide, and read back
-abbrev pub Law : {S : Type 0} → Codec S → Codec S → Entry → Bool → Item → S → S → Type 0
-Law kw kr e once it s s′ =
-    (bs : List ℕ) × (kw .enc e it ≡ bytes bs) × (length bs ≡ e .width) × (kr .dec e once bs s ≡ leaf (it .tag) (it .a) (it .b) s′)
+abbrev pub Law : {S : Type 0} → Codec S → Codec S → Entry → Item → S → S → Type 0
+Law kw kr e it s s′ =
+    (bs : List ℕ) × (kw .enc e it ≡ bytes bs) × (length bs ≡ e .width) × (kr .dec e bs s ≡ leaf (scalarIn it) s′) × (itemOf (it .name) (scalarIn it) ≡ it)
 
 -- the law of a Pad: whatever value stands there, it is written in as many bytes as the entry is wide
 abbrev pub PadLaw : {S : Type 0} → Codec S → Type 0
@@ -79,9 +71,9 @@ PadLaw kw = (e : Entry) → isPad e ≡ true → (it : Item) → (bs : List ℕ)
 
 module _ {S : Type 0} (kw kr : Codec S) where
   pub scalar-goes : (e : Entry) (inw : ℕ → Writer) (inr : List ℕ → Reader S) (inm : Measure) (name : ℕ) (it : Item) (vs : Values) (once : Bool) (s s′ : S) (at : ℕ)
-      → it .name ≡ name → isPad e ≡ false → isGroup e ≡ false → 1 ≤ e .width → Law kw kr e once it s s′
+      → it .name ≡ name → isPad e ≡ false → isGroup e ≡ false → 1 ≤ e .width → Law kw kr e it s s′
       → Goes (λ room. W.one kw room e (inw room) (node it none vs) at) (λ r room. R.one kr r e (inr r) name once at room s) (N.one e inm (node it none vs) at)
-      at at 1 (it .name ∷ it .tag ∷ it .a ∷ it .b ∷ []) 1 s′
+      at at 1 (wordsOf it) 1 s′
   unfolding R.one R.scalar W.one N.one
   scalar-goes e inw inr inm name it vs once s s′ at n p g wide l =
       record {
@@ -100,13 +92,9 @@ module _ {S : Type 0} (kw kr : Codec S) where
               l .3,
               le-leb 1 (e .width) wide,
               or-true once,
-              le-leb 4 room f,
-            ) (ap (λ (n : ℕ). read (n ∷ it .tag ∷ it .a ∷ it .b ∷ []) 1 (e .width) s′) (sym n));
+              le-leb itemWords room f,
+            ) (ap (λ (n : ℕ). read (wordsOf (itemOf n (scalarIn it))) 1 (e .width) s′) (sym n) ∙ ap (λ (x : Item). read (wordsOf x) 1 (e .width) s′) (l .4));
       }
-    where
-      or-true : (b : Bool) → (b || true) ≡ true
-      or-true true = refl
-      or-true false = refl
 
   pub pad-goes : PadLaw kw → (e : Entry) (inw : ℕ → Writer) (inr : List ℕ → Reader S) (inm : Measure) (name : ℕ) (vs : Values) (once : Bool) (s : S) (at : ℕ)
       → isPad e ≡ true → isGroup e ≡ false → 1 ≤ e .width
@@ -126,8 +114,8 @@ module _ {S : Type 0} (kw kr : Codec S) where
 
 pub inside-goes : {S : Type 0} (name tag : ℕ) (w : ℕ → Wrote) (f : List ℕ → Reader S) (x : Extent) (lo base least : ℕ) (ns : Values) (s s′ : S) (at : ℕ)
     → Goes w (λ r room. f r at room s) x lo base least (flat ns) (count ns) s′
-    → Goes w (λ r room. R.inside name tag (f r) at room s) x lo base least (name ∷ tag ∷ count ns ∷ suc (size ns) ∷ flat ns) 1 s′
-unfolding R.inside
+    → Goes w (λ r room. R.container name tag (f r) at room s) x lo base least (wordsOf (holder name tag ns) ++ flat ns) 1 s′
+unfolding R.container
 inside-goes name tag w f x lo base least ns s s′ at g =
     record {
       puts = g .puts;
@@ -142,15 +130,15 @@ inside-goes name tag w f x lo base least ns s s′ at g =
 
 -- no elements, and one more element
 pub elements-none : {S : Type 0} (g : ℕ → Writer) (f : List ℕ → Reader S) (i : Measure) (vs : Values) (s : S) (at : ℕ)
-    → Goes (λ room. W.elements (g room) 0 vs at) (λ r room. R.elements (f r) 0 at room s) (N.elements i 0 vs at) at at 0 [] 0 s
+    → Goes (λ room. W.elements (g room) 0 vs at) (λ r room. R.elements _+_ (f r) 0 at room s) (N.elements i 0 vs at) at at 0 [] 0 s
 unfolding W.elements R.elements N.elements
 elements-none g f i vs s at = record { puts = []; writes = λ room h. refl; far = refl; above = tt; below = omega arith; some = omega arith; reads = λ r room h l. refl }
 
 pub elements-more : {S : Type 0} (g : ℕ → Writer) (f : List ℕ → Reader S) (i : Measure) (n : ℕ) (vs : Values) (ws ws′ : List ℕ) (m m′ : ℕ) (s s₁ s′ : S) (at : ℕ)
     → Goes (λ room. g room vs at) (λ r room. f r at room s) (i vs at) at at 1 ws m s₁
-    → Goes (λ room. W.elements (g room) n (restOf vs) (at + i vs at .taken)) (λ r room. R.elements (f r) n (at + i vs at .taken) room s₁)
+    → Goes (λ room. W.elements (g room) n (restOf vs) (at + i vs at .taken)) (λ r room. R.elements _+_ (f r) n (at + i vs at .taken) room s₁)
     (N.elements i n (restOf vs) (at + i vs at .taken)) (at + i vs at .taken) (at + i vs at .taken) 0 ws′ m′ s′
-    → Goes (λ room. W.elements (g room) (suc n) vs at) (λ r room. R.elements (f r) (suc n) at room s) (N.elements i (suc n) vs at) at at 0 (ws ++ ws′) (m + m′) s′
+    → Goes (λ room. W.elements (g room) (suc n) vs at) (λ r room. R.elements _+_ (f r) (suc n) at room s) (N.elements i (suc n) vs at) at at 0 (ws ++ ws′) (m + m′) s′
 unfolding W.elements R.elements N.elements
 elements-more g f i n vs ws ws′ m m′ s s₁ s′ at x y =
     let ra : reach (x .puts ++ y .puts) ≡ max (reach (x .puts)) (reach (y .puts)) = reach-append (x .puts) (y .puts) in
@@ -176,11 +164,11 @@ module _ {S : Type 0} (kw kr : Codec S) where
       → lo ≤ e .offset
       → (y : Extent) → y ≡ N.field e (λ vs b. N.seq ms vs b 0) (lookup (e .name) all) (base + (e .offset + shift))
       → Goes (λ room. W.field kw room e (λ vs b. W.seq kw room ms vs b 0) (lookup (e .name) all) (base + (e .offset + shift)))
-      (λ r room. R.field kr r e (λ b n c. R.seq kr r ms b 0 n c) (base + (e .offset + shift)) room s) y (base + (e .offset + shift)) (base + (e .offset + shift)) least₁ ws m s₁
-      → Goes (λ room. W.seq kw room rest all base (shift + (y .taken - reservedWidth e))) (λ r room. R.seq kr r rest base (shift + (y .taken - reservedWidth e)) room s₁)
+      (λ r room. R.field _+_ kr r e (λ b n c. R.seq _+_ kr r ms b 0 n c) (base + (e .offset + shift)) room s) y (base + (e .offset + shift)) (base + (e .offset + shift)) least₁ ws m s₁
+      → Goes (λ room. W.seq kw room rest all base (shift + (y .taken - reservedWidth e))) (λ r room. R.seq _+_ kr r rest base (shift + (y .taken - reservedWidth e)) room s₁)
       (N.seq rest all base (shift + (y .taken - reservedWidth e)))
       (base + (e .offset + reservedWidth e + (shift + (y .taken - reservedWidth e)))) base least ws′ m′ s′
-      → Goes (λ room. W.seq kw room (node e ms rest) all base shift) (λ r room. R.seq kr r (node e ms rest) base shift room s) (N.seq (node e ms rest) all base shift)
+      → Goes (λ room. W.seq kw room (node e ms rest) all base shift) (λ r room. R.seq _+_ kr r (node e ms rest) base shift room s) (N.seq (node e ms rest) all base shift)
       (base + (lo + shift)) base (max least₁ least) (ws ++ ws′) (m + m′) s′
   unfolding W.seq R.seq N.seq
   entry-goes e ms rest all lo base shift least₁ least ws ws′ m m′ s s₁ s′ from y ey x z =
@@ -209,9 +197,9 @@ module _ {S : Type 0} (kw kr : Codec S) where
       (inside-goes name 7 (λ room. inw room ns at) inr (inm ns at) lo at least ns s s′ at x)
 
   pub field-one : (e : Entry) (inw : ℕ → Writer) (inr : List ℕ → Reader S) (inm : Measure) (v v′ : Values) (s s′ : S) (at least least′ : ℕ) (ws : List ℕ) (m : ℕ)
-      → single e ≡ true → v′ ≡ v → least′ ≤ least
+      → unrepeated e ≡ true → v′ ≡ v → least′ ≤ least
       → Goes (λ room. W.one kw room e (inw room) v at) (λ r room. R.one kr r e (inr r) (e .name) true at room s) (N.one e inm v at) at at least ws m s′
-      → Goes (λ room. W.field kw room e (inw room) v′ at) (λ r room. R.field kr r e (inr r) at room s) (N.field e inm v′ at) at at least′ ws m s′
+      → Goes (λ room. W.field kw room e (inw room) v′ at) (λ r room. R.field _+_ kr r e (inr r) at room s) (N.field e inm v′ at) at at least′ ws m s′
   unfolding R.field W.field N.field
   field-one e inw inr inm v v′ s s′ at least least′ ws m o q l x =
       along at at at least least′ (λ room. rw (o, q) refl) (λ r room. rw o refl) (rw (o, q) refl) (omega arith) l x
@@ -226,18 +214,18 @@ module _ {S : Type 0} (kw kr : Codec S) where
       go false h′ = cc
 
   pub field-table : (e : Entry) (inw : ℕ → Writer) (inr : List ℕ → Reader S) (inm : Measure) (ns vs v′ : Values) (s s′ : S) (at least′ : ℕ)
-      → isPad e ≡ false → single e ≡ false → howMany (kr .held) e s ≡ times (count ns) → v′ ≡ node (holder (e .name) 6 ns) ns vs → least′ ≤ 0
-      → Goes (λ room. W.elements (W.one kw room e (inw room)) (count ns) ns at) (λ r room. R.elements (R.one kr r e (inr r) 65536 false) (count ns) at room s)
+      → isPad e ≡ false → unrepeated e ≡ false → howMany (kr .held) e s ≡ times (count ns) → v′ ≡ node (holder (e .name) 6 ns) ns vs → least′ ≤ 0
+      → Goes (λ room. W.elements (W.one kw room e (inw room)) (count ns) ns at) (λ r room. R.elements _+_ (R.one kr r e (inr r) 65536 false) (count ns) at room s)
       (N.elements (N.one e inm) (count ns) ns at) at at 0 (flat ns) (count ns) s′
-      → Goes (λ room. W.field kw room e (inw room) v′ at) (λ r room. R.field kr r e (inr r) at room s) (N.field e inm v′ at) at at least′
+      → Goes (λ room. W.field kw room e (inw room) v′ at) (λ r room. R.field _+_ kr r e (inr r) at room s) (N.field e inm v′ at) at at least′
       (e .name ∷ 6 ∷ count ns ∷ suc (size ns) ∷ flat ns) 1 s′
   unfolding R.field W.field W.table N.field N.long
   field-table e inw inr inm ns vs v′ s s′ at least′ p o n q l x =
       along at at at 0 least′ (λ room. rw (o, q, same-many e s (count ns) ns n refl) refl) (λ r room. rw (o, n, p) refl) (rw (o, q, p) refl) (omega arith) l
-      (inside-goes (e .name) 6 (λ room. W.elements (W.one kw room e (inw room)) (count ns) ns at) (λ r. R.elements (R.one kr r e (inr r) 65536 false) (count ns))
+      (inside-goes (e .name) 6 (λ room. W.elements (W.one kw room e (inw room)) (count ns) ns at) (λ r. R.elements _+_ (R.one kr r e (inr r) 65536 false) (count ns))
       (N.elements (N.one e inm) (count ns) ns at) at at 0 ns s s′ at x)
 
   pub seq-none : (all : Values) (lo base shift : ℕ) (s : S)
-      → Goes (λ room. W.seq kw room none all base shift) (λ r room. R.seq kr r none base shift room s) (N.seq none all base shift) lo base 0 [] 0 s
+      → Goes (λ room. W.seq kw room none all base shift) (λ r room. R.seq _+_ kr r none base shift room s) (N.seq none all base shift) lo base 0 [] 0 s
   unfolding W.seq R.seq N.seq
   seq-none all lo base shift s = record { puts = []; writes = λ room h. refl; far = refl; above = tt; below = omega arith; some = omega arith; reads = λ r room h l. refl }

@@ -3,10 +3,11 @@ pub mod Puts
 pub mod Goes
 pub mod Plainly
 pub mod Trip
-pub mod Flat
 pub mod Scalars
 pub mod Demand3
 pub mod Decided
 pub mod NotEmpty
 pub mod Fakes
 pub mod Asked
+pub mod Alike
+pub mod Local

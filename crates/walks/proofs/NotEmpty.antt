@@ -3,9 +3,8 @@ use mathlib.Core.List.{[], _∷_}
 use native.Mathlib.Omega.{arith}
 use Prim.Native.Nat.{_≤_}
 use Rattle.spans.specs.Tree.{tree, treeIn}
-use Rattle.layout.specs.Layout.{entryAt, reservedWidth, furthest, recordLength}
+use Rattle.layout.specs.Layout.{entryAt, reservedWidth, furthest, recordLength, unrepeated, isPad}
 use Rattle.items.specs.Items.{values, count, lookup}
-use Rattle.walks.specs.Walk.{single, isPad}
 use Rattle.walks.specs.Records.{most}
 use Rattle.walks.specs.Needs as N
 use Rattle.walks.specs.Needs.{needed}
@@ -15,14 +14,14 @@ use Rattle.walks.proofs.Decided.{fitting-sound}
 use Rattle.walks.proofs.Demand3.{demand-3}
 
 every-small : needed every everyItem ≤ most
-unfolding needed N.seq N.field N.long N.elements N.one recordLength furthest reservedWidth tree treeIn entryAt values count lookup single isPad
+unfolding needed N.seq N.field N.long N.elements N.one recordLength furthest reservedWidth tree treeIn entryAt values count lookup unrepeated isPad
 every-small = omega arith
 
 pub every-kept : Kept every everyMask 1 everyItem everyText
 every-kept = demand-3 every everyMask 1 everyItem everyText every-plain (fitting-sound every everyMask everyItem everyText every-fits) every-small
 
 boxes-small : needed boxes boxed ≤ most
-unfolding needed N.seq N.field N.long N.elements N.one recordLength furthest reservedWidth tree treeIn entryAt values count lookup single isPad
+unfolding needed N.seq N.field N.long N.elements N.one recordLength furthest reservedWidth tree treeIn entryAt values count lookup unrepeated isPad
 boxes-small = omega arith
 
 pub boxes-kept : Kept boxes [] 1 boxed (0x61 ∷ 0x62 ∷ [])

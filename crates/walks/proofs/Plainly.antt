@@ -6,19 +6,11 @@ use Prim.Native.Nat.{ℕ, _+_, _≤_, max}
 use native.Mathlib.Omega.{arith}
 use lib.Dec.{eqb, leb}
 use borrow.Author.Tests.{leb-true, eq-eqb}
+use Rattle.lists.proofs.Logic.{and-left, and-right, or-else}
 use Rattle.layout.specs.declared.Entry.{Entry}
-use Rattle.layout.specs.Layout.{isGroup, present, reservedWidth, entries, checkedOf}
+use Rattle.layout.specs.Layout.{isGroup, unrepeatedLeaf, present, reservedWidth, entries, checkedOf, unrepeated, isPad}
 use Rattle.spans.specs.Tree.{Tree, none, node}
-use Rattle.walks.specs.Walk.{single, isPad}
 use Rattle.walks.specs.Plain.{isIn, namesOf, distinct, padOk, widthOk, some, sure, groupOk, eachOk, inOrder, controlled, plain}
-
-and-left : (a b : Bool) → (a && b) ≡ true → a ≡ true
-and-left true b h = refl
-and-left false b h = absurd (false≢true h)
-
-and-right : (a b : Bool) → (a && b) ≡ true → b ≡ true
-and-right true b h = h
-and-right false b h = absurd (false≢true h)
 
 not-true : (a : Bool) → not a ≡ true → a ≡ false
 not-true true h = absurd (false≢true h)
@@ -32,11 +24,11 @@ Fresh name (node e ms rest) = (name ≡ e .name → ⊥) × Fresh name rest
 -- 1 where a sequence has an unrepeated entry that is no group
 abbrev pub least : Tree Entry → ℕ
 least none = 0
-least (node e ms rest) = max (cond (single e && not (isGroup e)) 1 0) (least rest)
+least (node e ms rest) = max (cond (unrepeatedLeaf e) 1 0) (least rest)
 
 pub record Sound (e : Entry) (members : Tree Entry) : Type 0 where
   pub wide : isGroup e ≡ false → 1 ≤ e .width
-  pub solid : single e ≡ false → isGroup e ≡ true → 1 ≤ least members
+  pub solid : unrepeated e ≡ false → isGroup e ≡ true → 1 ≤ least members
   pub fixed : isPad e ≡ true → present (e .depending) ≡ false
 
 -- in order from an offset on
@@ -85,7 +77,7 @@ distinct-right (x ∷ xs) ys h = distinct-right xs ys (and-right (not (isIn x (x
 least-sure : (t : Tree Entry) → sure t ≡ true → 1 ≤ least t
 unfolding sure
 least-sure none h = absurd (false≢true h)
-least-sure (node e ms rest) h = go (single e && not (isGroup e)) h (λ q. least-sure rest q)
+least-sure (node e ms rest) h = go (unrepeatedLeaf e) h (λ q. least-sure rest q)
   where
     go : (b : Bool) → (b || sure rest) ≡ true → (sure rest ≡ true → 1 ≤ least rest) → 1 ≤ max (cond b 1 0) (least rest)
     go true k f = omega arith
@@ -95,15 +87,11 @@ sound : (e : Entry) (ms : Tree Entry) → padOk e ≡ true → widthOk e ≡ tru
 unfolding padOk widthOk groupOk
 sound e ms p w g = record {
   wide = λ o. leb-true 1 (e .width) (and-left (leb 1 (e .width)) (not (eqb (e .kind) 5) || leb (e .width) 1)
-      (and-left (leb 1 (e .width) && (not (eqb (e .kind) 5) || leb (e .width) 1)) (not (eqb (e .kind) 2) || leb (e .width) 8) (wide-of (isGroup e) _ o w)));
-  solid = λ s o. least-sure ms (solid-of (isGroup e) (some ms) (single e) (sure ms) o s g);
+      (and-left (leb 1 (e .width) && (not (eqb (e .kind) 5) || leb (e .width) 1)) (not (eqb (e .kind) 2) || leb (e .width) 8) (or-else (isGroup e) _ o w)));
+  solid = λ s o. least-sure ms (solid-of (isGroup e) (some ms) (unrepeated e) (sure ms) o s g);
   fixed = λ q. fixed-of (isPad e) (present (e .depending)) q p;
 }
   where
-    wide-of : (b c : Bool) → b ≡ false → (b || c) ≡ true → c ≡ true
-    wide-of true c o h = absurd (false≢true (sym o))
-    wide-of false c o h = h
-
     solid-of : (a b c d : Bool) → a ≡ true → c ≡ false → (not a || (b && (c || d))) ≡ true → d ≡ true
     solid-of true true false d o s h = h
     solid-of true false c d o s h = absurd (false≢true h)

@@ -10,11 +10,11 @@ use lib.Seq.{length-take-le}
 use borrow.Author.Tests.{le-leb, eqb-true, leb-true}
 use Rattle.layout.specs.declared.Entry.{Entry}
 use Rattle.items.specs.declared.Item.{Item}
-use Rattle.items.specs.Items.{scalarOk}
+use Rattle.items.specs.Items.{itemOf, scalarOk, textOf, scalarIn}
 use Rattle.items.proofs.Words.{words-back}
 use Rattle.value.specs.declared.Scalar.{Scalar}
 use Rattle.value.specs.declared.Scalar.the-variants.{Null, Text, Int, Decimal, Float as FloatV, FloatBits, Bool as BoolV}
-use Rattle.value.specs.Scalar.{tagOf, firstOf, secondOf, scalarOf}
+use Rattle.value.specs.Scalar.{tagOf, scalarOf}
 use Rattle.text.specs.Text.{padded}
 use Rattle.text.proofs.Back.{padded-length}
 use Rattle.decode_scalar.specs.Decode.{value, text}
@@ -22,8 +22,9 @@ use Rattle.encode_scalar.specs.Encode.{judgedOf, bytesOf}
 use Rattle.encode_scalar.specs.Fits.{saidOf}
 use Rattle.encode_scalar.proofs.Back.{Kept, field-kept}
 use Rattle.fits.proofs.Length.{bytes-long}
-use Rattle.walks.specs.Walk.{isPad, bytes, leaf}
-use Rattle.walks.specs.Kinds.{State, noted, said, maskOf, textOf, scalarIn, codedOf, enc, leafOf, dec, kinds}
+use Rattle.walks.specs.Walk.{bytes, leaf}
+use Rattle.layout.specs.Layout.{isPad}
+use Rattle.walks.specs.Kinds.{State, noted, said, maskOf, codedOf, enc, leafOf, dec, kinds}
 use Rattle.walks.specs.Fitting.{after, Good}
 use Rattle.walks.proofs.Goes.{Law, PadLaw}
 
@@ -47,9 +48,12 @@ unfolding scalarOk
 text-inside n it q h = leb-true (it .a + it .b) n (subst (λ (k : ℕ). scalarOk n (record { name = it .name; tag = k; a = it .a; b = it .b }) ≡ true) q h)
 
 module _ (masks : List ℕ) (page : ℕ) (source : List ℕ) (room₁ room : ℕ) (enough : length source ≤ room) where
-  module _ (e : Entry) (once : Bool) (it : Item) (s : State) (good : Good masks source e it s) where
-    w : (tagOf (scalarIn it) ≡ it .tag) × ((firstOf (scalarIn it) ≡ it .a) × (secondOf (scalarIn it) ≡ it .b))
-    w = words-back (length source) it (good .lawful) (good .word)
+  module _ (e : Entry) (it : Item) (s : State) (good : Good masks source e it s) where
+    same : itemOf (it .name) (scalarIn it) ≡ it
+    same = words-back (length source) it (good .lawful) (good .word)
+
+    same-tag : tagOf (scalarIn it) ≡ it .tag
+    same-tag = ap (λ (x : Item). x .tag) same
 
     kept : Kept (e .kind) (e .p) (e .q) (e .r) (e .s) (maskOf masks e) page (e .width) (scalarIn it) (textOf source it)
     kept = field-kept (e .p) (e .q) (e .r) (e .s) (maskOf masks e) page (e .width) (good .fits)
@@ -59,40 +63,37 @@ module _ (masks : List ℕ) (page : ℕ) (source : List ℕ) (room₁ room : ℕ
 
     coded : enc masks page source room₁ e it ≡ bytes bs
     unfolding enc
-    coded = ap (λ (n : ℕ). codedOf (judgedOf (e .kind) (e .p) (e .q) (e .r) (e .s) (maskOf masks e) (e .width) n (scalarIn it) (textOf source it)) bs) (sym (w .0))
+    coded = ap (λ (n : ℕ). codedOf (judgedOf (e .kind) (e .p) (e .q) (e .r) (e .s) (maskOf masks e) (e .width) n (scalarIn it) (textOf source it)) bs) (sym same-tag)
         ∙ ap (λ (n : ℕ). codedOf n bs) (kept .accepted)
 
     text-leaf : (t : List ℕ) → length t ≡ it .b → it .a ≡ length (s .text) → it .a + it .b ≤ room
-        → leafOf masks page [] room e once s (text t) ≡ leaf 1 (it .a) (it .b) (said t s)
+        → leafOf masks page [] room e s (text t) ≡ leaf (Text (it .a) (it .b)) (said t s)
     text-leaf t long start fits = rw (le-leb (length (s .text) + length t) room (omega arith))
-        (ap (λ (n : ℕ). leaf 1 n (length t) (said t s)) (sym start) ∙ ap (λ (n : ℕ). leaf 1 (it .a) n (said t s)) long)
+        (ap (λ (n : ℕ). leaf (Text n (length t)) (said t s)) (sym start) ∙ ap (λ (n : ℕ). leaf (Text (it .a) n) (said t s)) long)
 
-    leafs : leafOf masks page [] room e once s (saidOf (scalarIn it) (textOf source it)) ≡ leaf (it .tag) (it .a) (it .b) (after source e once it s)
+    leafs : leafOf masks page [] room e s (saidOf (scalarIn it) (textOf source it)) ≡ leaf (scalarIn it) (after source e it s)
     leafs = go (eqb (it .tag) 1) refl
       where
-        go : (b : Bool) → eqb (it .tag) 1 ≡ b → leafOf masks page [] room e once s (saidOf (scalarIn it) (textOf source it)) ≡ leaf (it .tag) (it .a) (it .b) (after source e once it s)
+        go : (b : Bool) → eqb (it .tag) 1 ≡ b → leafOf masks page [] room e s (saidOf (scalarIn it) (textOf source it)) ≡ leaf (scalarIn it) (after source e it s)
         go true q =
             let tag : it .tag ≡ 1 = eqb-true (it .tag) 1 q in
             let inside : it .a + it .b ≤ length source = text-inside (length source) it tag (good .lawful) in
             let start : it .a ≡ length (s .text) = good .packed tag in
             let long : length (take (it .b) (drop (it .a) source)) ≡ it .b = length-take-le (it .b) (drop (it .a) source) (omega (arith, length-drop (it .a) source)) in
-            ap (λ (v : Scalar). leafOf masks page [] room e once s (saidOf v (textOf source it))) (text-scalar it tag)
+            ap (λ (v : Scalar). leafOf masks page [] room e s (saidOf v (textOf source it))) (text-scalar it tag)
             ∙ text-leaf (textOf source it) (ap (λ (b : Bool). length (cond b (take (it .b) (drop (it .a) source)) [])) q ∙ long) start (omega arith)
-            ∙ ap (λ (n : ℕ). leaf n (it .a) (it .b) (said (textOf source it) s)) (sym tag)
-            ∙ ap (λ (b : Bool). leaf (it .tag) (it .a) (it .b) (cond b (said (textOf source it) s) (noted e once (scalarIn it) s))) (sym q)
+            ∙ ap (λ (v : Scalar). leaf v (said (textOf source it) s)) (sym (text-scalar it tag))
+            ∙ ap (λ (b : Bool). leaf (scalarIn it) (cond b (said (textOf source it) s) (noted e (scalarIn it) s))) (sym q)
         go false q =
-            ap (leafOf masks page [] room e once s) (said-value (scalarIn it) (textOf source it) (ap (λ (n : ℕ). eqb n 1) (w .0) ∙ q))
-            ∙ ap (λ (n : ℕ). leaf n (firstOf (scalarIn it)) (secondOf (scalarIn it)) (noted e once (scalarIn it) s)) (w .0)
-            ∙ ap (λ (n : ℕ). leaf (it .tag) n (secondOf (scalarIn it)) (noted e once (scalarIn it) s)) (w .1 .0)
-            ∙ ap (λ (n : ℕ). leaf (it .tag) (it .a) n (noted e once (scalarIn it) s)) (w .1 .1)
-            ∙ ap (λ (b : Bool). leaf (it .tag) (it .a) (it .b) (cond b (said (textOf source it) s) (noted e once (scalarIn it) s))) (sym q)
+            ap (leafOf masks page [] room e s) (said-value (scalarIn it) (textOf source it) (ap (λ (n : ℕ). eqb n 1) same-tag ∙ q))
+            ∙ ap (λ (b : Bool). leaf (scalarIn it) (cond b (said (textOf source it) s) (noted e (scalarIn it) s))) (sym q)
 
-    decoded : dec masks page [] room e once bs s ≡ leaf (it .tag) (it .a) (it .b) (after source e once it s)
+    decoded : dec masks page [] room e bs s ≡ leaf (scalarIn it) (after source e it s)
     unfolding dec
-    decoded = ap (leafOf masks page [] room e once s) (kept .said) ∙ leafs
+    decoded = ap (leafOf masks page [] room e s) (kept .said) ∙ leafs
 
-    pub scalar-law : Law (kinds masks page source room₁) (kinds masks page [] room) e once it s (after source e once it s)
-    scalar-law = (bs, coded, bytes-long page (good .fits), decoded)
+    pub scalar-law : Law (kinds masks page source room₁) (kinds masks page [] room) e it s (after source e it s)
+    scalar-law = (bs, coded, bytes-long page (good .fits), decoded, same)
 
   pub pad-law : PadLaw (kinds masks page source room₁)
   unfolding enc isPad judgedOf bytesOf

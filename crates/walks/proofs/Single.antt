@@ -5,11 +5,10 @@ use Prim.Native.Nat.{_*_}
 use native.Mathlib.Omega.{arith}
 use lib.Dec.{eqb}
 use Rattle.layout.specs.declared.Entry.{Entry}
-use Rattle.layout.specs.Layout.{absent, reservedWidth}
-use Rattle.walks.specs.Walk.{single}
+use Rattle.layout.specs.Layout.{absent, reservedWidth, unrepeated}
 
-pub single-reserves : (e : Entry) → single e ≡ true → reservedWidth e ≡ e .width
-unfolding single reservedWidth
+pub single-reserves : (e : Entry) → unrepeated e ≡ true → reservedWidth e ≡ e .width
+unfolding unrepeated reservedWidth
 single-reserves e h = go (eqb (e .occurs) absent) (eqb (e .depending) absent) h
   where
     go : (o d : Bool) → (not (not o) && not (not d)) ≡ true → cond (not d) 0 (e .width * cond o 1 (e .occurs)) ≡ e .width

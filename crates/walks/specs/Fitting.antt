@@ -6,17 +6,17 @@ use Prim.Native.Nat.{ℕ, suc, _/_, _^_, _<_}
 use lib.Dec.{eqb}
 use lib.ListN.{length}
 use Rattle.layout.specs.declared.Entry.{Entry}
-use Rattle.layout.specs.Layout.{isGroup, entries}
+use Rattle.layout.specs.Layout.{isGroup, isPad, unrepeated, entries}
 use Rattle.spans.specs.Tree.{Tree, none, node, size}
 use Rattle.items.specs.declared.Item.{Item}
-use Rattle.items.specs.Items.{Values, values, count, scalarOk, wellFormed}
+use Rattle.items.specs.Items.{Values, itemCount, header, scalarIn, textOf, values, count, scalarOk, wellFormed}
 use Rattle.encode_scalar.specs.Fits as Scalar
-use Rattle.walks.specs.Walk.{single, isPad, Many, times, howMany}
-use Rattle.walks.specs.Kinds.{State, start, noted, said, held, maskOf, textOf, scalarIn}
+use Rattle.walks.specs.Walk.{Many, times, howMany}
+use Rattle.walks.specs.Kinds.{State, start, noted, said, held, maskOf}
 
 -- the state behind a fitting item: a text stands behind the texts so far, and a number may set a count
-abbrev pub after : List ℕ → Entry → Bool → Item → State → State
-after source e once it s = cond (eqb (it .tag) 1) (said (textOf source it) s) (noted e once (scalarIn it) s)
+abbrev pub after : List ℕ → Entry → Item → State → State
+after source e it s = cond (eqb (it .tag) 1) (said (textOf source it) s) (noted e (scalarIn it) s)
 
 -- A scalar item fits an entry: "Text for Text and Hex, Int for Int and Binary, ..", and each kind's range. "Texts are packed in item order, from 0."
 pub record Good (masks source : List ℕ) (e : Entry) (it : Item) (s : State) : Type 0 where
@@ -27,7 +27,7 @@ pub record Good (masks source : List ℕ) (e : Entry) (it : Item) (s : State) : 
 
 -- "List or Struct member count and span, itself counted"
 abbrev pub holder : ℕ → ℕ → Values → Item
-holder name tag members = record { name = name; tag = tag; a = count members; b = suc (size members) }
+holder name tag members = header name tag (count members) (suc (size members))
 
 -- what values are fitted to: the entries of a sequence, or the elements of a table
 pub data Sort : Type 0 where
@@ -40,24 +40,24 @@ pub data Fits (masks source : List ℕ) : Sort → Values → State → State �
   pads : {e : Entry} {ms rest : Tree Entry} {vs : Values} {s s′ : State}
       → isPad e ≡ true → Fits masks source (sequence rest) vs s s′ → Fits masks source (sequence (node e ms rest)) vs s s′
   scalar : {e : Entry} {ms rest : Tree Entry} {it : Item} {vs : Values} {s s′ : State}
-      → isPad e ≡ false → single e ≡ true → isGroup e ≡ false → it .name ≡ e .name → Good masks source e it s
-      → Fits masks source (sequence rest) vs (after source e true it s) s′
+      → isPad e ≡ false → unrepeated e ≡ true → isGroup e ≡ false → it .name ≡ e .name → Good masks source e it s
+      → Fits masks source (sequence rest) vs (after source e it s) s′
       → Fits masks source (sequence (node e ms rest)) (node it none vs) s s′
   -- "a Struct of its members' items for a group"
   group : {e : Entry} {ms rest : Tree Entry} {ns vs : Values} {s s₁ s′ : State}
-      → isPad e ≡ false → single e ≡ true → isGroup e ≡ true → Fits masks source (sequence ms) ns s s₁ → Fits masks source (sequence rest) vs s₁ s′
+      → isPad e ≡ false → unrepeated e ≡ true → isGroup e ≡ true → Fits masks source (sequence ms) ns s s₁ → Fits masks source (sequence rest) vs s₁ s′
       → Fits masks source (sequence (node e ms rest)) (node (holder (e .name) 7 ns) ns vs) s s′
   -- "a repeated entry has, under its name, a List of such items": "exactly occurs elements; under depending, as many as the value its controller holds,
   -- last before it in the walk, and at most occurs where given"
   table : {e : Entry} {ms rest : Tree Entry} {ns vs : Values} {s s₁ s′ : State}
-      → isPad e ≡ false → single e ≡ false → howMany held e s ≡ times (count ns)
+      → isPad e ≡ false → unrepeated e ≡ false → howMany held e s ≡ times (count ns)
       → Fits masks source (elements e ms) ns s s₁ → Fits masks source (sequence rest) vs s₁ s′
       → Fits masks source (sequence (node e ms rest)) (node (holder (e .name) 6 ns) ns vs) s s′
   -- "each under 65536"
   last : {e : Entry} {ms : Tree Entry} {s : State} → Fits masks source (elements e ms) none s s
   scalars : {e : Entry} {ms : Tree Entry} {it : Item} {vs : Values} {s s′ : State}
       → isGroup e ≡ false → it .name ≡ 65536 → Good masks source e it s
-      → Fits masks source (elements e ms) vs (after source e false it s) s′
+      → Fits masks source (elements e ms) vs (after source e it s) s′
       → Fits masks source (elements e ms) (node it none vs) s s′
   groups : {e : Entry} {ms : Tree Entry} {ns vs : Values} {s s₁ s′ : State}
       → isGroup e ≡ true → Fits masks source (sequence ms) ns s s₁ → Fits masks source (elements e ms) vs s₁ s′
@@ -67,5 +67,5 @@ pub data Fits (masks source : List ℕ) : Sort → Values → State → State �
 pub record Fitting (l masks items text : List ℕ) : Type 0 where
   pub wellFormed : wellFormed items (length text) ≡ true
   pub counts : State
-  pub fits : Fits masks text (sequence (entries l)) (values items 0 (length items / 4)) start counts
+  pub fits : Fits masks text (sequence (entries l)) (values items 0 (itemCount items)) start counts
   pub texts : counts .text ≡ text

@@ -5,10 +5,11 @@ use Prim.Native.Nat.{ℕ, _+_}
 use lib.Dec.{eqb, leb, ltb}
 use lib.ListN.{length, take, drop}
 use Rattle.layout.specs.declared.Entry.{Entry}
+use Rattle.layout.specs.Layout.{controls}
 use Rattle.items.specs.declared.Item.{Item}
+use Rattle.items.specs.Items.{scalarIn, textOf}
 use Rattle.value.specs.declared.Scalar.{Scalar}
 use Rattle.value.specs.declared.Scalar.the-variants.{Null, Text, Int, Decimal, Float as FloatV, FloatBits, Bool as BoolV}
-use Rattle.value.specs.Scalar.{tagOf, firstOf, secondOf, scalarOf}
 use Rattle.decode_scalar.specs.Decode.{Says, refused, value, text, says}
 use Rattle.encode_scalar.specs.Encode.{judgedOf, bytesOf}
 use Rattle.walks.specs.Walk.{Many, never, times, Coded, unfit, bytes, Leaf, bad, leaf, Codec}
@@ -27,18 +28,22 @@ pub record State : Type 0 where
 abbrev pub start : State
 start = record { counts = []; text = [] }
 
--- "An unrepeated Int or Binary sets the count for its name."
-abbrev pub countOf : Entry → Bool → Scalar → List Count
-countOf e once (Int negative size) = cond (once && (eqb (e .kind) 1 || eqb (e .kind) 2)) (record { name = e .name; negative = negative; size = size } ∷ []) []
-countOf e once Null = []
-countOf e once (Text a b) = []
-countOf e once (Decimal negative size scale) = []
-countOf e once (FloatV x) = []
-countOf e once (FloatBits x) = []
-countOf e once (BoolV b) = []
+-- the count that a scalar sets for a name, if it sets one
+abbrev pub countIn : ℕ → Scalar → List Count
+countIn name (Int negative size) = record { name = name; negative = negative; size = size } ∷ []
+countIn name Null = []
+countIn name (Text a b) = []
+countIn name (Decimal negative size scale) = []
+countIn name (FloatV x) = []
+countIn name (FloatBits x) = []
+countIn name (BoolV b) = []
 
-abbrev pub noted : Entry → Bool → Scalar → State → State
-noted e once v s = record { counts = countOf e once v ++ s .counts; text = s .text }
+-- "An unrepeated Int or Binary sets the count for its name."
+abbrev pub countOf : Entry → Scalar → List Count
+countOf e v = cond (controls e) (countIn (e .name) v) []
+
+abbrev pub noted : Entry → Scalar → State → State
+noted e v s = record { counts = countOf e v ++ s .counts; text = s .text }
 
 abbrev pub said : List ℕ → State → State
 said t s = record { counts = s .counts; text = s .text ++ t }
@@ -55,13 +60,6 @@ held name s = look (s .counts) name
 abbrev pub maskOf : List ℕ → Entry → List ℕ
 maskOf masks e = take (e .width) (drop (e .mask) masks)
 
--- the bytes of a Text item
-abbrev pub textOf : List ℕ → Item → List ℕ
-textOf source it = cond (eqb (it .tag) 1) (take (it .b) (drop (it .a) source)) []
-
-abbrev pub scalarIn : Item → Scalar
-scalarIn it = scalarOf (it .tag) (it .a) (it .b)
-
 abbrev pub codedOf : ℕ → List ℕ → Coded
 codedOf refusal bs = cond (eqb refusal 0) (bytes bs) (unfit refusal)
 
@@ -73,13 +71,13 @@ module _ (masks : List ℕ) (page : ℕ) (source : List ℕ) (room : ℕ) where
       (bytesOf (e .kind) (e .p) (e .q) (e .r) (maskOf masks e) page (e .width) (scalarIn it) (textOf source it))
 
   -- texts are "packed from 0 in item order"; "Place for item and text? 16."
-  abbrev pub leafOf : Entry → Bool → State → Says → Leaf State
-  leafOf e once s (refused n) = bad n
-  leafOf e once s (value v) = leaf (tagOf v) (firstOf v) (secondOf v) (noted e once v s)
-  leafOf e once s (text t) = cond (leb (length (s .text) + length t) room) (leaf 1 (length (s .text)) (length t) (said t s)) (bad 16)
+  abbrev pub leafOf : Entry → State → Says → Leaf State
+  leafOf e s (refused n) = bad n
+  leafOf e s (value v) = leaf v (noted e v s)
+  leafOf e s (text t) = cond (leb (length (s .text) + length t) room) (leaf (Text (length (s .text)) (length t)) (said t s)) (bad 16)
 
-  unfoldable pub dec : Entry → Bool → List ℕ → State → Leaf State
-  dec e once bs s = leafOf e once s (says (e .kind) (e .p) (e .q) (e .r) page bs)
+  unfoldable pub dec : Entry → List ℕ → State → Leaf State
+  dec e bs s = leafOf e s (says (e .kind) (e .p) (e .q) (e .r) page bs)
 
   abbrev pub kinds : Codec State
   kinds = record { enc = enc; dec = dec; held = held }

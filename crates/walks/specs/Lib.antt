@@ -11,3 +11,4 @@ pub mod Needs
 pub mod Demand
 pub mod Worked
 pub mod Refusals
+pub mod Local

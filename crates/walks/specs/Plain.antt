@@ -4,9 +4,8 @@ use mathlib.Core.List.{List, [], _∷_, _++_}
 use Prim.Native.Nat.{ℕ, _+_}
 use lib.Dec.{eqb, leb}
 use Rattle.layout.specs.declared.Entry.{Entry}
-use Rattle.layout.specs.Layout.{isGroup, present, reservedWidth, checkedOf, entries}
+use Rattle.layout.specs.Layout.{isGroup, isPad, unrepeated, unrepeatedLeaf, controls, present, reservedWidth, checkedOf, entries}
 use Rattle.spans.specs.Tree.{Tree, none, node}
-use Rattle.walks.specs.Walk.{single, isPad}
 
 abbrev pub isIn : ℕ → List ℕ → Bool
 isIn x [] = false
@@ -36,11 +35,11 @@ some (node e members rest) = true
 -- an unrepeated entry that is no group
 unfoldable pub sure : Tree Entry → Bool
 sure none = false
-sure (node e members rest) = (single e && not (isGroup e)) || sure rest
+sure (node e members rest) = unrepeatedLeaf e || sure rest
 
 -- "groups have members, a repeated group an unrepeated non-group one"
 unfoldable pub groupOk : Entry → Tree Entry → Bool
-groupOk e members = not (isGroup e) || (some members && (single e || sure members))
+groupOk e members = not (isGroup e) || (some members && (unrepeated e || sure members))
 
 -- the clauses on each entry alone
 unfoldable pub eachOk : Tree Entry → Bool
@@ -52,14 +51,10 @@ unfoldable pub inOrder : ℕ → Tree Entry → Bool
 inOrder from none = true
 inOrder from (node e members rest) = leb from (e .offset) && inOrder 0 members && inOrder (e .offset + reservedWidth e) rest
 
--- "an unrepeated Int or Binary"
-unfoldable pub controls : Entry → Bool
-controls e = single e && (eqb (e .kind) 1 || eqb (e .kind) 2)
-
 -- the controllers of a sequence that may serve a table behind it: those in repeated groups may not
 unfoldable pub offers : Tree Entry → List ℕ
 offers none = []
-offers (node e members rest) = (cond (controls e) (e .name ∷ []) [] ++ cond (single e) (offers members) []) ++ offers rest
+offers (node e members rest) = (cond (controls e) (e .name ∷ []) [] ++ cond (unrepeated e) (offers members) []) ++ offers rest
 
 -- "each controller is an unrepeated Int or Binary standing earlier, every repeated group around it being around the table":
 -- `known` are those that stand earlier and in no other repeated group than those around this sequence

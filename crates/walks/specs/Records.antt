@@ -2,15 +2,14 @@
 use mathlib.Core.Path.{_≡_}
 use mathlib.Core.Bool.{Bool, true, false, _&&_, _||_, not, cond}
 use mathlib.Core.List.{List, [], _∷_, _++_}
-use Prim.Native.Nat.{ℕ, _-_, _*_, _/_, min, max}
+use Prim.Native.Nat.{ℕ, _+_, _-_, _*_, _/_, min, max}
 use lib.Dec.{eqb, leb}
 use lib.IntN.{ℤ, pos}
 use lib.ListN.{length, replicate}
 use Rattle.layout.specs.declared.Entry.{Entry}
-use Rattle.layout.specs.Layout.{entries, layoutAsks, recordLength, dependsIn}
+use Rattle.layout.specs.Layout.{isPad, entries, layoutAsks, recordLength, dependsIn}
 use Rattle.spans.specs.Tree.{Tree, none, node}
-use Rattle.items.specs.Items.{Values, values, wellFormed, lookup}
-use Rattle.walks.specs.Walk.{isPad}
+use Rattle.items.specs.Items.{Values, itemCount, values, wellFormed, lookup}
 use Rattle.walks.specs.Kinds.{State, start, kinds}
 use Rattle.walks.specs.Reading as R
 use Rattle.walks.specs.Writing as W
@@ -22,6 +21,10 @@ most = 65536
 -- the refusal of a question by its number, or what stands behind it where the number is 0
 abbrev pub asking : {A : Type 0} → (ℕ → A) → ℕ → A → A
 asking refuse n behind = cond (eqb n 0) behind (refuse n)
+
+-- the number of the first of two questions that fails, or 0
+abbrev pub firstOf : ℕ → ℕ → ℕ
+firstOf a b = cond (eqb a 0) b a
 
 -- what the lent buffers hold behind what a call gives: "unused output is zero"
 abbrev pub filled : ℕ → List ℕ → List ℕ
@@ -38,6 +41,10 @@ pub data Decoded : Type 0 where
 abbrev pub recordAsks : List ℕ → ℕ → Bool → ℕ
 recordAsks l bytes deps = cond (leb bytes most && (deps || leb (recordLength l) bytes)) 0 4
 
+-- the number of the first of these questions that fails, or 0; `deps`: whether some table depends on a count
+abbrev pub readerAsks : List ℕ → List ℕ → ℕ → ℕ → ℕ → Bool → ℕ
+readerAsks l masks page bytes work deps = firstOf (layoutAsks l masks page work) (recordAsks l bytes deps)
+
 abbrev pub outcome : R.Outcome State → Decoded
 outcome (R.refused n) = refused n
 outcome (R.read ws m t s) = decoded ws (s .text)
@@ -45,9 +52,8 @@ outcome (R.read ws m t s) = decoded ws (s .text)
 -- the layout, its masks and its page, the record; the words of the item buffer, the bytes of the text buffer, the words of the work space
 unfoldable pub decodeRecord : List ℕ → List ℕ → ℕ → List ℕ → ℕ → ℕ → ℕ → Decoded
 decodeRecord l masks page r items text work =
-    asking refused (layoutAsks l masks page work)
-    (asking refused (recordAsks l (length r) (dependsIn l))
-    (outcome (R.seq (kinds masks page [] text) r (entries l) 0 0 items start)))
+    asking refused (readerAsks l masks page (length r) work (dependsIn l))
+    (outcome (R.seq _+_ (kinds masks page [] text) r (entries l) 0 0 items start))
 
 abbrev pub numberOf : Decoded → ℕ
 numberOf (refused n) = n
@@ -100,7 +106,7 @@ finish least (W.wrote ps t) = encoded (W.apply ps (replicate (max least (W.reach
 abbrev pub listAsks : List ℕ → List ℕ → List ℕ → ℕ → ℕ
 listAsks l items text room =
     cond (wellFormed items (length text))
-    (cond (supplied (entries l) (values items 0 (length items / 4)))
+    (cond (supplied (entries l) (values items 0 (itemCount items)))
     (cond (leb (recordLength l) (min room most)) 0 16) 12) 11
 
 -- the layout, its masks and its page, the value list and its texts; the bytes of the record buffer, the words of the work space
@@ -108,7 +114,7 @@ unfoldable pub encodeRecord : List ℕ → List ℕ → ℕ → List ℕ → Lis
 encodeRecord l masks page items text room work =
     asking refused (layoutAsks l masks page work)
     (asking refused (listAsks l items text room)
-    (finish (recordLength l) (W.seq (kinds masks page text 0) (min room most) (entries l) (values items 0 (length items / 4)) 0 0)))
+    (finish (recordLength l) (W.seq (kinds masks page text 0) (min room most) (entries l) (values items 0 (itemCount items)) 0 0)))
 
 abbrev pub refusalOf : Encoded → ℕ
 refusalOf (refused n) = n

@@ -7,7 +7,7 @@ use Prim.Native.Nat.{ℕ, _+_}
 use lib.ListN.{length}
 use lib.Ieee.{ofBits, toBits, nanBits, isNan, fits}
 use Rattle.spans.specs.Tree.{tree, treeIn, size, nested}
-use Rattle.layout.specs.Layout.{absent, entryAt, allBelow, someBelow, wordsOk, upTo, plainOk, boolOk, editedOk, floatOk, kindOk, optionOk, placeOk, entryOk, entriesOk, spansOk, checkedOf, layoutAsks, reservedWidth, furthest, recordLength, dependsIn}
+use Rattle.layout.specs.Layout.{absent, entryAt, allBelow, someBelow, wordsOk, upTo, plainOk, boolOk, editedOk, floatOk, kindOk, optionOk, placeOk, entryOk, entriesOk, spansOk, checkedOf, layoutAsks, reservedWidth, furthest, recordLength, dependsIn, unrepeated, isPad, controls}
 use Rattle.items.specs.Items.{values, count, lookup, scalarOk, holderOk, itemOk, listOk, wellFormed}
 use Rattle.lists.specs.Scan.{leftBy, rightBy, everyBy, keepBy, beforeBy}
 use Rattle.value.specs.Field.{fieldOf}
@@ -29,12 +29,12 @@ use Rattle.text.specs.Text as Text
 use Rattle.decode_scalar.specs.Decode.{says}
 use Rattle.encode_scalar.specs.Encode.{numberJudged, numberBytes, judgedOf, bytesOf}
 use Rattle.fits.specs.Decide as Scalar
-use Rattle.walks.specs.Walk.{single, isPad, howMany}
+use Rattle.walks.specs.Walk.{howMany}
 use Rattle.walks.specs.Kinds.{look, enc, dec}
 use Rattle.walks.specs.Reading as R
 use Rattle.walks.specs.Writing as W
 use Rattle.walks.specs.Records.{Decoded, decoded, decodeRecord, numberOf, Encoded, encoded, supplied, encodeRecord, refusalOf}
-use Rattle.walks.specs.Plain.{namesOf, distinct, padOk, widthOk, sure, groupOk, eachOk, inOrder, controls, offers, controlled, plain}
+use Rattle.walks.specs.Plain.{namesOf, distinct, padOk, widthOk, sure, groupOk, eachOk, inOrder, offers, controlled, plain}
 use Rattle.walks.specs.Worked.{entry, once}
 
 -- ---- the reader's refusals, in the order of the questions; then two at once
@@ -77,7 +77,7 @@ reader-refuses :
     ∷ readNumber (entry 0 0 0 0 2 absent 1 0 1 0x20) [] 4 4 4
     ∷ []
     ≡ 1 ∷ 2 ∷ 3 ∷ 16 ∷ 4 ∷ 5 ∷ 6 ∷ 6 ∷ 7 ∷ 8 ∷ 9 ∷ 10 ∷ 16 ∷ 16 ∷ 8 ∷ 8 ∷ 8 ∷ 16 ∷ 16 ∷ 10 ∷ []
-unfolding layoutAsks checkedOf wordsOk entriesOk allBelow entryOk placeOk optionOk kindOk plainOk boolOk floatOk editedOk upTo spansOk nested size tree treeIn entryAt recordLength furthest reservedWidth dependsIn someBelow decodeRecord R.seq R.field R.elements R.one R.pad R.scalar R.inside single isPad howMany look dec says fromPage everyBy leftBy rightBy beforeBy fieldOf Display.intOf Display.intIn Display.digitsIn Display.signAt Display.restOf Display.wholeOf Packed.decodeOf Text.cut wordIn integerOf
+unfolding layoutAsks checkedOf wordsOk entriesOk allBelow entryOk placeOk optionOk kindOk plainOk boolOk floatOk editedOk upTo spansOk nested size tree treeIn entryAt recordLength furthest reservedWidth dependsIn someBelow decodeRecord R.seq R.field R.elements R.one R.pad R.scalar R.container unrepeated isPad controls howMany look dec says fromPage everyBy leftBy rightBy beforeBy fieldOf Display.intOf Display.intIn Display.digitsIn Display.signAt Display.restOf Display.wholeOf Packed.decodeOf Text.cut wordIn integerOf
 reader-refuses = refl
 
 -- ---- the writer's refusals, in the order of the questions; then two at once
@@ -112,7 +112,7 @@ writer-refuses :
     ∷ writeNumber (int 0 ++ int 1) [] (0 ∷ 7 ∷ 0 ∷ 1 ∷ 1 ∷ 2 ∷ 10 ∷ 0 ∷ []) [] 9 4
     ∷ []
     ≡ 1 ∷ 2 ∷ 3 ∷ 16 ∷ 11 ∷ 12 ∷ 16 ∷ 13 ∷ 13 ∷ 15 ∷ 14 ∷ 15 ∷ 14 ∷ 16 ∷ 14 ∷ 13 ∷ []
-unfolding layoutAsks checkedOf wordsOk entriesOk allBelow entryOk placeOk optionOk kindOk plainOk boolOk floatOk editedOk upTo spansOk nested size tree treeIn entryAt recordLength furthest reservedWidth dependsIn someBelow encodeRecord supplied W.seq W.field W.table W.tableLength W.elements W.one lookup count wellFormed listOk itemOk holderOk scalarOk values enc scalarOf single isPad judgedOf bytesOf numberJudged numberBytes ontoPage Text.written Display.intFits Display.intBytes Packed.writtenOf decimalFor rescaled rounded everyBy Edited.judged Edited.countBy Edited.lawfulFrom Display.restOf Display.signAt Display.wholeOf Display.digitsIn Display.intIn leftBy rightBy
+unfolding layoutAsks checkedOf wordsOk entriesOk allBelow entryOk placeOk optionOk kindOk plainOk boolOk floatOk editedOk upTo spansOk nested size tree treeIn entryAt recordLength furthest reservedWidth dependsIn someBelow encodeRecord supplied W.seq W.field W.table W.tableLength W.elements W.one lookup count wellFormed listOk itemOk holderOk scalarOk values enc scalarOf unrepeated isPad judgedOf bytesOf numberJudged numberBytes ontoPage Text.written Display.intFits Display.intBytes Packed.writtenOf decimalFor rescaled rounded everyBy Edited.judged Edited.countBy Edited.lawfulFrom Display.restOf Display.signAt Display.wholeOf Display.digitsIn Display.intIn leftBy rightBy
 writer-refuses = refl
 
 -- ---- every two of the field questions, in either order: the earlier field's number
@@ -170,7 +170,7 @@ eachTwo f all [] = []
 eachTwo f all (a ∷ more) = map (f a) all ++ eachTwo f all more
 
 reader-pairs : eachTwo readTwo readings readings ≡ eachTwo (λ a b. a .number) readings readings
-unfolding layoutAsks checkedOf wordsOk entriesOk allBelow entryOk placeOk optionOk kindOk plainOk boolOk floatOk editedOk upTo spansOk nested size tree treeIn entryAt recordLength furthest reservedWidth dependsIn someBelow decodeRecord R.seq R.field R.elements R.one R.pad R.scalar R.inside single isPad howMany look dec says fromPage everyBy leftBy rightBy beforeBy fieldOf Display.intOf Display.intIn Display.digitsIn Display.signAt Display.restOf Display.wholeOf Packed.decodeOf Text.cut wordIn integerOf
+unfolding layoutAsks checkedOf wordsOk entriesOk allBelow entryOk placeOk optionOk kindOk plainOk boolOk floatOk editedOk upTo spansOk nested size tree treeIn entryAt recordLength furthest reservedWidth dependsIn someBelow decodeRecord R.seq R.field R.elements R.one R.pad R.scalar R.container unrepeated isPad controls howMany look dec says fromPage everyBy leftBy rightBy beforeBy fieldOf Display.intOf Display.intIn Display.digitsIn Display.signAt Display.restOf Display.wholeOf Packed.decodeOf Text.cut wordIn integerOf
 reader-pairs = refl
 
 -- the questions before the walk, each with each later one: 1, 2, 3, 16 for the work space, 4, and 8 of the only field
@@ -194,7 +194,7 @@ reader-before :
     ∷ readAt (spoiled ++ once 1 1 1 1 0 0 0) 0 (0x19 ∷ []) 4
     ∷ []
     ≡ 1 ∷ 1 ∷ 1 ∷ 1 ∷ 1 ∷ 2 ∷ 2 ∷ 2 ∷ 2 ∷ 3 ∷ 3 ∷ 3 ∷ 16 ∷ 16 ∷ 4 ∷ []
-unfolding layoutAsks checkedOf wordsOk entriesOk allBelow entryOk placeOk optionOk kindOk plainOk boolOk floatOk editedOk upTo spansOk nested size tree treeIn entryAt recordLength furthest reservedWidth dependsIn someBelow decodeRecord R.seq R.field R.elements R.one R.pad R.scalar R.inside single isPad howMany look dec says fromPage everyBy leftBy rightBy beforeBy fieldOf Display.intOf Display.intIn Display.digitsIn Display.signAt Display.restOf Display.wholeOf Packed.decodeOf Text.cut
+unfolding layoutAsks checkedOf wordsOk entriesOk allBelow entryOk placeOk optionOk kindOk plainOk boolOk floatOk editedOk upTo spansOk nested size tree treeIn entryAt recordLength furthest reservedWidth dependsIn someBelow decodeRecord R.seq R.field R.elements R.one R.pad R.scalar R.container unrepeated isPad controls howMany look dec says fromPage everyBy leftBy rightBy beforeBy fieldOf Display.intOf Display.intIn Display.digitsIn Display.signAt Display.restOf Display.wholeOf Packed.decodeOf Text.cut
 reader-before = refl
 
 -- ---- the writer's: a field, its value and the number that refuses it; 15 of a repeated $ and of an unlawful character are two questions
@@ -228,7 +228,7 @@ eachWritten f all [] = []
 eachWritten f all (a ∷ more) = map (f a) all ++ eachWritten f all more
 
 writer-pairs : eachWritten writeTwo writings writings ≡ eachWritten (λ a b. a .number) writings writings
-unfolding layoutAsks checkedOf wordsOk entriesOk allBelow entryOk placeOk optionOk kindOk plainOk boolOk floatOk editedOk upTo spansOk nested size tree treeIn entryAt recordLength furthest reservedWidth dependsIn someBelow encodeRecord supplied W.seq W.field W.table W.tableLength W.elements W.one lookup count wellFormed listOk itemOk holderOk scalarOk values enc scalarOf single isPad judgedOf bytesOf numberJudged numberBytes ontoPage Text.written Display.intFits Display.intBytes Packed.writtenOf decimalFor rescaled rounded everyBy Edited.judged Edited.countBy Edited.lawfulFrom Display.restOf Display.signAt Display.wholeOf Display.digitsIn Display.intIn leftBy rightBy
+unfolding layoutAsks checkedOf wordsOk entriesOk allBelow entryOk placeOk optionOk kindOk plainOk boolOk floatOk editedOk upTo spansOk nested size tree treeIn entryAt recordLength furthest reservedWidth dependsIn someBelow encodeRecord supplied W.seq W.field W.table W.tableLength W.elements W.one lookup count wellFormed listOk itemOk holderOk scalarOk values enc scalarOf unrepeated isPad judgedOf bytesOf numberJudged numberBytes ontoPage Text.written Display.intFits Display.intBytes Packed.writtenOf decimalFor rescaled rounded everyBy Edited.judged Edited.countBy Edited.lawfulFrom Display.restOf Display.signAt Display.wholeOf Display.digitsIn Display.intIn leftBy rightBy
 writer-pairs = refl
 
 -- the questions before the walk, each with each later one: 1, 2, 3, 16 for the work space, 11, 12, 16 for the record length, and 13 of the only field
@@ -248,5 +248,5 @@ writer-before :
     ∷ writeAt (int 0) 0 struct 0 2
     ∷ []
     ≡ 1 ∷ 1 ∷ 1 ∷ 1 ∷ 1 ∷ 1 ∷ 1 ∷ 2 ∷ 2 ∷ 2 ∷ 2 ∷ 2 ∷ 2 ∷ 3 ∷ 3 ∷ 3 ∷ 3 ∷ 3 ∷ 16 ∷ 16 ∷ 16 ∷ 16 ∷ 11 ∷ 11 ∷ 11 ∷ 12 ∷ 12 ∷ 16 ∷ []
-unfolding layoutAsks checkedOf wordsOk entriesOk allBelow entryOk placeOk optionOk kindOk plainOk boolOk floatOk editedOk upTo spansOk nested size tree treeIn entryAt recordLength furthest reservedWidth dependsIn someBelow encodeRecord supplied W.seq W.field W.table W.tableLength W.elements W.one lookup count wellFormed listOk itemOk holderOk scalarOk values enc scalarOf single isPad judgedOf bytesOf numberJudged numberBytes ontoPage Text.written Display.intFits Display.intBytes Packed.writtenOf decimalFor rescaled rounded everyBy Edited.judged Edited.countBy Edited.lawfulFrom Display.restOf Display.signAt Display.wholeOf Display.digitsIn Display.intIn leftBy rightBy
+unfolding layoutAsks checkedOf wordsOk entriesOk allBelow entryOk placeOk optionOk kindOk plainOk boolOk floatOk editedOk upTo spansOk nested size tree treeIn entryAt recordLength furthest reservedWidth dependsIn someBelow encodeRecord supplied W.seq W.field W.table W.tableLength W.elements W.one lookup count wellFormed listOk itemOk holderOk scalarOk values enc scalarOf unrepeated isPad judgedOf bytesOf numberJudged numberBytes ontoPage Text.written Display.intFits Display.intBytes Packed.writtenOf decimalFor rescaled rounded everyBy Edited.judged Edited.countBy Edited.lawfulFrom Display.restOf Display.signAt Display.wholeOf Display.digitsIn Display.intIn leftBy rightBy
 writer-before = refl

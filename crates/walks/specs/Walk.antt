@@ -4,16 +4,14 @@ use mathlib.Core.List.{List}
 use Prim.Native.Nat.{ℕ}
 use lib.Dec.{eqb, leb}
 use Rattle.layout.specs.declared.Entry.{Entry}
-use Rattle.layout.specs.Layout.{present}
+use Rattle.layout.specs.Layout.{present, isPad}
+use Rattle.value.specs.declared.Scalar.{Scalar}
 use Rattle.items.specs.declared.Item.{Item}
+use Rattle.items.specs.Items.{Values, restOf}
 
--- "unrepeated: occurs and depending absent"
-unfoldable pub single : Entry → Bool
-single e = not (present (e .occurs)) && not (present (e .depending))
-
--- "Pads yield no item": kind 6 is Pad
-unfoldable pub isPad : Entry → Bool
-isPad e = eqb (e .kind) 6
+-- the values behind an entry's own: a Pad has none
+abbrev pub valuesAfter : Entry → Values → Values
+valuesAfter e vs = cond (isPad e) vs (restOf vs)
 
 -- how many elements a table has, or the number that refuses it
 pub data Many : Type 0 where
@@ -30,17 +28,17 @@ pub data Coded : Type 0 where
   unfit : ℕ → Coded
   bytes : List ℕ → Coded
 
--- The tag and the two words of a scalar, with the state behind it; or the number that refuses its bytes.
+-- A scalar, with the state behind it; or the number that refuses its bytes.
 pub data Leaf (S : Type 0) : Type 0 where
   bad : ℕ → Leaf S
-  leaf : ℕ → ℕ → ℕ → S → Leaf S
+  leaf : Scalar → S → Leaf S
 
 -- The scalars of all kinds, as the walks see them. The reader carries a state along: the counts set so far and the texts so far.
 pub record Codec (S : Type 0) : Type 0 where
   -- what an item is written as in an entry's field
   pub enc : Entry → Item → Coded
-  -- what the bytes of an entry's field are read as; whether the entry is unrepeated
-  pub dec : Entry → Bool → List ℕ → S → Leaf S
+  -- what the bytes of an entry's field are read as
+  pub dec : Entry → List ℕ → S → Leaf S
   -- the count that the controller of this name holds
   pub held : ℕ → S → Many
 

@@ -6,7 +6,7 @@ use mathlib.Core.List.{List, [], _∷_, _++_}
 use Prim.Native.Nat.{ℕ}
 use lib.Ieee.{ofBits, toBits, nanBits, isNan, fits}
 use Rattle.spans.specs.Tree.{tree, treeIn, size, nested}
-use Rattle.layout.specs.Layout.{absent, entryAt, allBelow, someBelow, wordsOk, upTo, plainOk, boolOk, editedOk, floatOk, kindOk, optionOk, placeOk, entryOk, entriesOk, spansOk, checkedOf, layoutAsks, reservedWidth, furthest, recordLength, dependsIn}
+use Rattle.layout.specs.Layout.{absent, entryAt, allBelow, someBelow, wordsOk, upTo, plainOk, boolOk, editedOk, floatOk, kindOk, optionOk, placeOk, entryOk, entriesOk, spansOk, checkedOf, layoutAsks, reservedWidth, furthest, recordLength, dependsIn, unrepeated, isPad, controls}
 use Rattle.items.specs.Items.{values, count, lookup, scalarOk, holderOk, itemOk, listOk, wellFormed}
 use Rattle.lists.specs.Scan.{leftBy, rightBy, everyBy, keepBy, beforeBy}
 use Rattle.value.specs.Field.{fieldOf}
@@ -28,12 +28,12 @@ use Rattle.text.specs.Text as Text
 use Rattle.decode_scalar.specs.Decode.{says}
 use Rattle.encode_scalar.specs.Encode.{numberJudged, numberBytes, judgedOf, bytesOf}
 use Rattle.fits.specs.Decide as Scalar
-use Rattle.walks.specs.Walk.{single, isPad, howMany}
+use Rattle.walks.specs.Walk.{howMany}
 use Rattle.walks.specs.Kinds.{look, enc, dec}
 use Rattle.walks.specs.Reading as R
 use Rattle.walks.specs.Writing as W
 use Rattle.walks.specs.Records.{Decoded, decoded, decodeRecord, numberOf, Encoded, encoded, supplied, encodeRecord, refusalOf}
-use Rattle.walks.specs.Plain.{namesOf, distinct, padOk, widthOk, sure, groupOk, eachOk, inOrder, controls, offers, controlled, plain}
+use Rattle.walks.specs.Plain.{namesOf, distinct, padOk, widthOk, sure, groupOk, eachOk, inOrder, offers, controlled, plain}
 use Rattle.walks.specs.Decide as Fit
 use Rattle.walks.specs.Decide.{fitting}
 
@@ -55,7 +55,7 @@ shown =
 
 pub shown-read : decodeRecord shown [] 0 (0x30 ∷ 0x32 ∷ 0x01 ∷ 0x2C ∷ 0x34 ∷ 0x5D ∷ 0x4F ∷ 0x4B ∷ []) 20 2 6
     ≡ decoded (0 ∷ 2 ∷ 2 ∷ 0 ∷ 1 ∷ 6 ∷ 2 ∷ 3 ∷ 65536 ∷ 3 ∷ 12 ∷ 1 ∷ 65536 ∷ 3 ∷ 18446744073709551271 ∷ 1 ∷ 2 ∷ 1 ∷ 0 ∷ 2 ∷ []) (0x4F ∷ 0x4B ∷ [])
-unfolding layoutAsks checkedOf wordsOk entriesOk allBelow entryOk placeOk optionOk kindOk plainOk boolOk floatOk editedOk upTo spansOk nested size tree treeIn entryAt recordLength furthest reservedWidth dependsIn someBelow decodeRecord R.seq R.field R.elements R.one R.pad R.scalar R.inside single isPad howMany look dec says fromPage everyBy leftBy rightBy beforeBy fieldOf Display.intOf Display.intIn Display.digitsIn Display.signAt Display.restOf Display.wholeOf Packed.decodeOf Text.cut
+unfolding layoutAsks checkedOf wordsOk entriesOk allBelow entryOk placeOk optionOk kindOk plainOk boolOk floatOk editedOk upTo spansOk nested size tree treeIn entryAt recordLength furthest reservedWidth dependsIn someBelow decodeRecord R.seq R.field R.elements R.one R.pad R.scalar R.container unrepeated isPad controls howMany look dec says fromPage everyBy leftBy rightBy beforeBy fieldOf Display.intOf Display.intIn Display.digitsIn Display.signAt Display.restOf Display.wholeOf Packed.decodeOf Text.cut
 shown-read = refl
 
 -- ---- a repeated group G of K Int 0,1; X packed 1,1, occurs 3, depending K; Y Text 1,1; and behind it Z Int 4,1
@@ -72,19 +72,19 @@ boxed =
     4 ∷ 2 ∷ 7 ∷ 0 ∷ []
 
 pub boxes-read : decodeRecord boxes [] 0 (0x31 ∷ 0x5C ∷ 0x61 ∷ 0x30 ∷ 0x62 ∷ 0x37 ∷ []) 44 2 10 ≡ decoded boxed (0x61 ∷ 0x62 ∷ [])
-unfolding layoutAsks checkedOf wordsOk entriesOk allBelow entryOk placeOk optionOk kindOk plainOk boolOk floatOk editedOk upTo spansOk nested size tree treeIn entryAt recordLength furthest reservedWidth dependsIn someBelow decodeRecord R.seq R.field R.elements R.one R.pad R.scalar R.inside single isPad howMany look dec says fromPage everyBy leftBy rightBy beforeBy fieldOf Display.intOf Display.intIn Display.digitsIn Display.signAt Display.restOf Display.wholeOf Packed.decodeOf Text.cut
+unfolding layoutAsks checkedOf wordsOk entriesOk allBelow entryOk placeOk optionOk kindOk plainOk boolOk floatOk editedOk upTo spansOk nested size tree treeIn entryAt recordLength furthest reservedWidth dependsIn someBelow decodeRecord R.seq R.field R.elements R.one R.pad R.scalar R.container unrepeated isPad controls howMany look dec says fromPage everyBy leftBy rightBy beforeBy fieldOf Display.intOf Display.intIn Display.digitsIn Display.signAt Display.restOf Display.wholeOf Packed.decodeOf Text.cut
 boxes-read = refl
 
 pub boxes-written : encodeRecord boxes [] 0 boxed (0x61 ∷ 0x62 ∷ []) 6 10 ≡ encoded (0x31 ∷ 0x5C ∷ 0x61 ∷ 0x30 ∷ 0x62 ∷ 0x37 ∷ [])
-unfolding layoutAsks checkedOf wordsOk entriesOk allBelow entryOk placeOk optionOk kindOk plainOk boolOk floatOk editedOk upTo spansOk nested size tree treeIn entryAt recordLength furthest reservedWidth dependsIn someBelow encodeRecord supplied W.seq W.field W.table W.tableLength W.elements W.one lookup count wellFormed listOk itemOk holderOk scalarOk values enc scalarOf single isPad judgedOf bytesOf numberJudged numberBytes ontoPage Text.written Display.intFits Display.intBytes Packed.writtenOf decimalFor rescaled rounded everyBy
+unfolding layoutAsks checkedOf wordsOk entriesOk allBelow entryOk placeOk optionOk kindOk plainOk boolOk floatOk editedOk upTo spansOk nested size tree treeIn entryAt recordLength furthest reservedWidth dependsIn someBelow encodeRecord supplied W.seq W.field W.table W.tableLength W.elements W.one lookup count wellFormed listOk itemOk holderOk scalarOk values enc scalarOf unrepeated isPad judgedOf bytesOf numberJudged numberBytes ontoPage Text.written Display.intFits Display.intBytes Packed.writtenOf decimalFor rescaled rounded everyBy
 boxes-written = refl
 
 pub boxes-plain : plain boxes [] 1 ≡ true
-unfolding layoutAsks checkedOf wordsOk entriesOk allBelow entryOk placeOk optionOk kindOk plainOk boolOk floatOk editedOk upTo spansOk nested size tree treeIn entryAt recordLength furthest reservedWidth dependsIn someBelow single isPad plain namesOf distinct padOk widthOk sure groupOk eachOk inOrder controls offers controlled
+unfolding layoutAsks checkedOf wordsOk entriesOk allBelow entryOk placeOk optionOk kindOk plainOk boolOk floatOk editedOk upTo spansOk nested size tree treeIn entryAt recordLength furthest reservedWidth dependsIn someBelow unrepeated isPad plain namesOf distinct padOk widthOk sure groupOk eachOk inOrder controls offers controlled
 boxes-plain = refl
 
 pub boxes-fit : fitting boxes [] boxed (0x61 ∷ 0x62 ∷ []) ≡ true
-unfolding layoutAsks checkedOf wordsOk entriesOk allBelow entryOk placeOk optionOk kindOk plainOk boolOk floatOk editedOk upTo spansOk nested size tree treeIn entryAt recordLength furthest reservedWidth dependsIn someBelow single isPad howMany look fitting Fit.fitted Fit.first Fit.eachFits Fit.goodOf Fit.holds wellFormed listOk itemOk holderOk scalarOk count values scalarOf Scalar.fitsOf Scalar.textFits Scalar.digitsFit Scalar.intFits Scalar.decimalFits everyBy
+unfolding layoutAsks checkedOf wordsOk entriesOk allBelow entryOk placeOk optionOk kindOk plainOk boolOk floatOk editedOk upTo spansOk nested size tree treeIn entryAt recordLength furthest reservedWidth dependsIn someBelow unrepeated isPad controls howMany look fitting Fit.fitted Fit.first Fit.eachFits Fit.goodOf Fit.holds wellFormed listOk itemOk holderOk scalarOk count values scalarOf Scalar.fitsOf Scalar.textFits Scalar.digitsFit Scalar.intFits Scalar.decimalFits everyBy
 boxes-fit = refl
 
 -- ---- every kind: Text, Int, Binary, Float, Hex, Bool, Pad, Display, packed, zoned, Edited, and a group
@@ -108,9 +108,9 @@ abbrev pub everyText : List ℕ
 everyText = 0x61 ∷ 0x62 ∷ 0x31 ∷ 0x32 ∷ 0x61 ∷ 0x66 ∷ 0 ∷ []
 
 pub every-plain : plain every everyMask 1 ≡ true
-unfolding layoutAsks checkedOf wordsOk entriesOk allBelow entryOk placeOk optionOk kindOk plainOk boolOk floatOk editedOk upTo spansOk nested size tree treeIn entryAt recordLength furthest reservedWidth dependsIn someBelow single isPad plain namesOf distinct padOk widthOk sure groupOk eachOk inOrder controls offers controlled
+unfolding layoutAsks checkedOf wordsOk entriesOk allBelow entryOk placeOk optionOk kindOk plainOk boolOk floatOk editedOk upTo spansOk nested size tree treeIn entryAt recordLength furthest reservedWidth dependsIn someBelow unrepeated isPad plain namesOf distinct padOk widthOk sure groupOk eachOk inOrder controls offers controlled
 every-plain = refl
 
 pub every-fits : fitting every everyMask everyItem everyText ≡ true
-unfolding layoutAsks checkedOf wordsOk entriesOk allBelow entryOk placeOk optionOk kindOk plainOk boolOk floatOk editedOk upTo spansOk nested size tree treeIn entryAt recordLength furthest reservedWidth dependsIn someBelow single isPad howMany look fitting Fit.fitted Fit.first Fit.eachFits Fit.goodOf Fit.holds wellFormed listOk itemOk holderOk scalarOk count values scalarOf Scalar.fitsOf Scalar.textFits Scalar.hexFits Scalar.digitsFit Scalar.intFits Scalar.binaryFits Scalar.wordFits Scalar.decimalFits Scalar.editedFits Scalar.tells exactIn narrow fits isNan toBits nanBits ofBits everyBy Edited.countBy Edited.lawfulFrom
+unfolding layoutAsks checkedOf wordsOk entriesOk allBelow entryOk placeOk optionOk kindOk plainOk boolOk floatOk editedOk upTo spansOk nested size tree treeIn entryAt recordLength furthest reservedWidth dependsIn someBelow unrepeated isPad controls howMany look fitting Fit.fitted Fit.first Fit.eachFits Fit.goodOf Fit.holds wellFormed listOk itemOk holderOk scalarOk count values scalarOf Scalar.fitsOf Scalar.textFits Scalar.hexFits Scalar.digitsFit Scalar.intFits Scalar.binaryFits Scalar.wordFits Scalar.decimalFits Scalar.editedFits Scalar.tells exactIn narrow fits isNan toBits nanBits ofBits everyBy Edited.countBy Edited.lawfulFrom
 every-fits = refl

@@ -5,11 +5,11 @@ use Prim.Native.Nat.{ℕ, zero, suc, _+_, _-_, max}
 use lib.Dec.{eqb, leb}
 use lib.ListN.{length, take, drop, replicate}
 use Rattle.layout.specs.declared.Entry.{Entry}
-use Rattle.layout.specs.Layout.{isGroup, present, reservedWidth}
+use Rattle.layout.specs.Layout.{isGroup, unrepeated, present, reservedWidth}
 use Rattle.spans.specs.Tree.{Tree, none, node}
 use Rattle.items.specs.declared.Item.{Item}
 use Rattle.items.specs.Items.{Values, count, headOf, membersOf, restOf, lookup}
-use Rattle.walks.specs.Walk.{single, Coded, unfit, bytes, Codec}
+use Rattle.walks.specs.Walk.{Coded, unfit, bytes, Codec}
 
 pub record Put : Type 0 where
   pub at : ℕ
@@ -37,50 +37,50 @@ pub data Wrote : Type 0 where
 abbrev pub Writer : Type 0
 Writer = Values → ℕ → Wrote
 
-abbrev pub next : Wrote → (List Put → ℕ → Wrote) → Wrote
-next (refused n) f = refused n
-next (wrote ps t) f = f ps t
+abbrev pub bind : Wrote → (List Put → ℕ → Wrote) → Wrote
+bind (refused n) f = refused n
+bind (wrote ps t) f = f ps t
 
-abbrev pub behind : List Put → ℕ → Wrote → Wrote
-behind ps t (refused n) = refused n
-behind ps t (wrote ps′ t′) = wrote (ps ++ ps′) (t + t′)
+abbrev pub thenElement : List Put → ℕ → Wrote → Wrote
+thenElement ps t (refused n) = refused n
+thenElement ps t (wrote ps′ t′) = wrote (ps ++ ps′) (t + t′)
 
-abbrev pub follow : List Put → ℕ → Wrote → Wrote
-follow ps stop (refused n) = refused n
-follow ps stop (wrote ps′ far) = wrote (ps ++ ps′) (max stop far)
+abbrev pub thenEntry : List Put → ℕ → Wrote → Wrote
+thenEntry ps stop (refused n) = refused n
+thenEntry ps stop (wrote ps′ far) = wrote (ps ++ ps′) (max stop far)
 
 -- "Bytes within the buffer and 65,536? 16."
 abbrev pub coded : ℕ → ℕ → ℕ → Coded → Wrote
 coded room width at (unfit n) = refused n
 coded room width at (bytes bs) = cond (leb (at + length bs) room) (wrote (record { at = at; bs = bs } ∷ []) width) (refused 16)
 
--- a group takes a Struct (tag 7) or Null, which has no members
+-- a List (tag 6) or Struct (tag 7) by its members, Null as one of none
+abbrev pub container : ℕ → (Values → Wrote) → Values → Wrote
+container tag f vs = cond (eqb (headOf vs .tag) tag) (f (membersOf vs)) (cond (eqb (headOf vs .tag) 0) (f none) (refused 13))
+
 unfoldable pub one : {S : Type 0} → Codec S → ℕ → Entry → Writer → Writer
 one k room e inner vs at =
     cond (isGroup e)
-    (cond (eqb (headOf vs .tag) 7) (inner (membersOf vs) at) (cond (eqb (headOf vs .tag) 0) (inner none at) (refused 13)))
+    (container 7 (λ ms. inner ms at) vs)
     (coded room (e .width) at (k .enc e (headOf vs)))
 
 unfoldable pub elements : Writer → ℕ → Writer
 elements f zero vs at = wrote [] 0
-elements f (suc n) vs at = next (f vs at) (λ ps t. behind ps t (elements f n (restOf vs) (at + t)))
+elements f (suc n) vs at = bind (f vs at) (λ ps t. thenElement ps t (elements f n (restOf vs) (at + t)))
 
 -- how many elements are written of these: occurs, or under depending as many as there are
 unfoldable pub tableLength : Entry → Values → ℕ
 tableLength e vs = cond (present (e .depending)) (count vs) (e .occurs)
 
--- a table takes a List (tag 6) or Null, which has no elements
 unfoldable pub table : Entry → Writer → Writer
-table e f vs at =
-    cond (eqb (headOf vs .tag) 6) (elements f (tableLength e (membersOf vs)) (membersOf vs) at)
-    (cond (eqb (headOf vs .tag) 0) (elements f (tableLength e none) none at) (refused 13))
+table e f vs at = container 6 (λ ms. elements f (tableLength e ms) ms at) vs
 
 unfoldable pub field : {S : Type 0} → Codec S → ℕ → Entry → Writer → Writer
-field k room e inner vs at = cond (single e) (one k room e inner vs at) (table e (one k room e inner) vs at)
+field k room e inner vs at = cond (unrepeated e) (one k room e inner vs at) (table e (one k room e inner) vs at)
 
 -- the reader's positions; values by name, "the first of that name"
 unfoldable pub seq : {S : Type 0} → Codec S → ℕ → Tree Entry → Values → ℕ → ℕ → Wrote
 seq k room none all base shift = wrote [] 0
 seq k room (node e members rest) all base shift =
-    next (field k room e (λ vs base′. seq k room members vs base′ 0) (lookup (e .name) all) (base + (e .offset + shift)))
-    (λ ps t. follow ps (e .offset + shift + t) (seq k room rest all base (shift + (t - reservedWidth e))))
+    bind (field k room e (λ vs base′. seq k room members vs base′ 0) (lookup (e .name) all) (base + (e .offset + shift)))
+    (λ ps t. thenEntry ps (e .offset + shift + t) (seq k room rest all base (shift + (t - reservedWidth e))))

@@ -10,15 +10,20 @@ ask-layout-requires : tie.Need-ask-layout-requires
 ask-layout-requires c κs = search needs
 
 returns : tie.Need-returns
-returns c = asked-layout _ _ _ _ _ _ _ (c .before .ask-layout .ensures) (c .if1 .taken)
+returns c =
+    let at-args = c .before .before .before .before .args in
+    let at-args = at-args in
+    asked-layout (at-args .layout .now) (at-args .masks .now) (at-args .page) (at-args .bytes) (at-args .work) (at-args .deps) _ (c .before .ask-layout .ensures) (c .if1 .taken)
 
 ask-record-requires : tie.Need-ask-record-requires
 ask-record-requires c κs = search needs
 
 returns-2 : tie.Need-returns-2
 returns-2 c =
+    let at-args = c .before .before .before .before .before .args in
     let at-ask-layout = c .before .before .ask-layout in
-    asked-record _ _ _ _ _ _ _ (at-ask-layout .ensures) (c .before .if1 .left) _ (c .ask-record .ensures)
+    let at-args = at-args in
+    asked-record (at-args .layout .now) (at-args .masks .now) (at-args .page) (at-args .bytes) (at-args .work) (at-args .deps) _ (at-ask-layout .ensures) (c .before .if1 .left) _ (c .ask-record .ensures)
 
 pub asked-spec : {M : Type 1} → statement M
 asked-spec = tie.close (tie.spec ask-layout-requires returns ask-record-requires returns-2)

@@ -9,7 +9,7 @@ use borrow.Author.Tests.{eq-eqb, ne-eqb}
 use lib.Dec.{eqb}
 use lib.ListN.{length, take}
 use borrow.Author.Needs.{needs}
-use Rattle.decode_leaf.specs.Capped.{table}
+use Rattle.walks.specs.Reading.{table}
 use Rattle.decode_leaf.specs.Machine.{kept, state, leafAt}
 use Rattle.decode_leaf.proofs.Meets.{refuse}
 use Rattle.decode.proofs.Steps.{leaf-takes}
@@ -72,7 +72,8 @@ part-decode-element-end c = omega arith
 decode-element-requires : tie.Need-decode-element-requires Inv-loop μ-loop
 decode-element-requires c κs =
     let at-loop = c .before .before .before .loop in
-    at-loop .inv true .fits
+    let at-pre = c .before .before .before .before .before .before .before .before .before .before .before .before .before .before .pre in
+    (at-pre .1 .0, at-loop .inv true .fits)
 
 refusal-requires-3 : tie.Need-refusal-requires-3 Inv-loop μ-loop
 refusal-requires-3 c κs = search needs

@@ -1,4 +1,7 @@
--- Outside the record nothing is written; a Pad writes nothing; any other entry is a scalar inside the record.
+use mathlib.Core.Path.{refl}
+use mathlib.Core.Bool.{true}
+use Prim.Native.Nat.{_-_}
+use lib.ListN.{length, take}
 use Rattle.decode_leaf.proofs.Scalars.{text-outside, text-pad, text-scalar}
 use mathlib.Core.Path.{refl}
 use mathlib.Core.Bool.{true}
@@ -6,26 +9,30 @@ use Prim.Native.Nat.{_-_}
 use lib.ListN.{length, take}
 use Rattle.decode_leaf.proofs.Scalars.{leaf-outside, leaf-inside, leaf-pad, leaf-scalar}
 use borrow.Author.Needs.{needs}
+use borrow.Author.Needs.{needs}
 use Rattle.decode_leaf.proofs.decode_lone.Statement.{statement}
 use Rattle.decode_leaf.proofs.decode_lone.Tie as tie
 
-inside-record-requires : tie.Need-inside-record-requires
-inside-record-requires c κs = search needs
+cast-inside : tie.Need-cast-inside
+cast-inside c = search needs
+
+inside-requires : tie.Need-inside-requires
+inside-requires c κs = search needs
 
 refusal-requires : tie.Need-refusal-requires
 refusal-requires c κs = search needs
 
 returns : tie.Need-returns
 returns c =
-    let at-args = c .before .before .before .before .before .before .before .args in
-    let at-inside-record = c .before .before .inside-record in (
-      record {
-        met = leaf-outside (at-args .layout .now) (at-args .«record» .now) (at-args .page) (at-args .deps) (at-args .e) (at-args .e .name) true (at-args .at) (length (at-args .items .now)) (at-args .counts .now) (at-args .told) (at-args .text .now) (at-inside-record .result) (at-inside-record .ensures)
+    let at-args = c .before .before .before .before .before .before .before .before .args in
+    let at-inside = c .before .before .inside in
+    (record {
+        met = leaf-outside (at-args .layout .now) (at-args .«record» .now) (at-args .page) (at-args .deps) (at-args .e) (at-args .e .name) true (at-args .at) (length (at-args .items .now)) (at-args .counts .now) (at-args .told) (at-args .text .now) (at-inside .result) (at-inside .ensures)
             (c .before .if1 .taken) (c .refusal .ensures);
         rest = refl;
         counts = λ _. refl;
       },
-      text-outside (at-args .«record» .now) (at-args .page) (at-args .e) (at-args .at) (at-args .told) (at-args .text .now) (at-inside-record .result) (at-inside-record .ensures) (c .before .if1 .taken),
+      text-outside (at-args .«record» .now) (at-args .page) (at-args .e) (at-args .at) (at-args .told) (at-args .text .now) (at-inside .result) (at-inside .ensures) (c .before .if1 .taken),
     )
 
 passed-requires : tie.Need-passed-requires
@@ -33,26 +40,26 @@ passed-requires c κs = search needs
 
 returns-2 : tie.Need-returns-2
 returns-2 c =
-    let at-args = c .before .before .before .before .before .before .before .before .before .args in
-    let at-pre = c .before .before .before .before .before .before .before .before .before .pre in
-    let at-inside-record = c .before .before .before .before .inside-record in
-    let at-if1 = c .before .before .before .if1 in (
-      record {
-        met = leaf-pad (at-args .layout .now) (at-args .«record» .now) (at-args .page) (at-args .deps) (at-args .e) (at-args .e .name) true (at-args .at) (length (at-args .items .now)) (at-args .counts .now) (at-args .told) (at-args .text .now) (at-inside-record .result) (at-inside-record .ensures)
+    let at-args = c .before .before .before .before .before .before .before .before .before .before .args in
+    let at-pre = c .before .before .before .before .before .before .before .before .before .before .pre in
+    let at-inside = c .before .before .before .before .inside in
+    let at-if1 = c .before .before .before .if1 in
+    (record {
+        met = leaf-pad (at-args .layout .now) (at-args .«record» .now) (at-args .page) (at-args .deps) (at-args .e) (at-args .e .name) true (at-args .at) (length (at-args .items .now)) (at-args .counts .now) (at-args .told) (at-args .text .now) (at-inside .result) (at-inside .ensures)
             (at-if1 .left) (c .before .if2 .taken) (at-pre) (c .passed .ensures);
         rest = refl;
         counts = λ _. refl;
       },
-      text-pad (at-args .«record» .now) (at-args .page) (at-args .e) (at-args .at) (at-args .told) (at-args .text .now) (at-inside-record .result) (at-inside-record .ensures) (at-if1 .left) (c .before .if2 .taken),
+      text-pad (at-args .«record» .now) (at-args .page) (at-args .e) (at-args .at) (at-args .told) (at-args .text .now) (at-inside .result) (at-inside .ensures) (at-if1 .left) (c .before .if2 .taken),
     )
 
 lone-value-requires : tie.Need-lone-value-requires
 lone-value-requires c κs =
-    let at-args = c .before .before .before .before .before .before .before .before .before .before .before .args in
-    let at-pre = c .before .before .before .before .before .before .before .before .before .before .before .pre in
-    let at-inside-record = c .before .before .before .before .before .before .inside-record in
+    let at-args = c .before .before .before .before .before .before .before .before .before .before .before .before .args in
+    let at-pre = c .before .before .before .before .before .before .before .before .before .before .before .before .pre in
+    let at-inside = c .before .before .before .before .before .before .inside in
     let at-if1 = c .before .before .before .before .before .if1 in
-    (leaf-inside (at-args .layout .now) (at-args .«record» .now) (at-args .page) (at-args .deps) (at-args .e) (at-args .e .name) true (at-args .at) (length (at-args .items .now)) (at-args .counts .now) (at-args .told) (at-args .text .now) (at-inside-record .result) (at-inside-record .ensures) (at-if1 .left), at-pre)
+    (leaf-inside (at-args .layout .now) (at-args .«record» .now) (at-args .page) (at-args .deps) (at-args .e) (at-args .e .name) true (at-args .at) (length (at-args .items .now)) (at-args .counts .now) (at-args .told) (at-args .text .now) (at-inside .result) (at-inside .ensures) (at-if1 .left), at-pre)
 
 same-length : tie.Need-same-length
 same-length c = search needs
@@ -65,24 +72,25 @@ same-length-3 c = search needs
 
 returns-3 : tie.Need-returns-3
 returns-3 c =
-    let at-args = c .before .before .before .before .before .before .before .before .before .before .before .before .before .before .before .before .before .args in
-    let at-inside-record = c .before .before .before .before .before .before .before .before .before .before .before .before .inside-record in
+    let at-args = c .before .before .before .before .before .before .before .before .before .before .before .before .before .before .before .before .before .before .args in
+    let at-inside = c .before .before .before .before .before .before .before .before .before .before .before .before .inside in
     let at-if1 = c .before .before .before .before .before .before .before .before .before .before .before .if1 in
     let at-if2 = c .before .before .before .before .before .before .before .before .before .if2 in
-    let at-lone-value = c .before .before .before .before .before .lone-value in (
-      record {
-        met = leaf-scalar (at-args .layout .now) (at-args .«record» .now) (at-args .page) (at-args .deps) (at-args .e) (at-args .e .name) true (at-args .at) (length (at-args .items .now)) (at-args .counts .now) (at-args .told) (at-args .text .now) (at-inside-record .result) (at-inside-record .ensures) (at-if2 .left) (at-lone-value .ensures .0 .met);
+    let at-lone-value = c .before .before .before .before .before .lone-value in
+    (record {
+        met = leaf-scalar (at-args .layout .now) (at-args .«record» .now) (at-args .page) (at-args .deps) (at-args .e) (at-args .e .name) true (at-args .at) (length (at-args .items .now)) (at-args .counts .now) (at-args .told) (at-args .text .now) (at-inside .result) (at-inside .ensures) (at-if2 .left) (at-lone-value .ensures .0 .met);
         rest = at-lone-value .ensures .0 .rest;
         counts = at-lone-value .ensures .0 .counts;
       },
-      text-scalar (at-args .«record» .now) (at-args .page) (at-args .e) (at-args .at) (at-args .told) (at-args .text .now) (at-inside-record .result) (at-inside-record .ensures) (at-if1 .left) (at-if2 .left) (at-lone-value .ensures .1),
+      text-scalar (at-args .«record» .now) (at-args .page) (at-args .e) (at-args .at) (at-args .told) (at-args .text .now) (at-inside .result) (at-inside .ensures) (at-if1 .left) (at-if2 .left) (at-lone-value .ensures .1),
     )
 
 pub decode-lone-spec : {M : Type 1} → statement M
 decode-lone-spec =
     tie.close
     (tie.spec
-    inside-record-requires
+    cast-inside
+    inside-requires
     refusal-requires
     returns
     passed-requires

@@ -6,19 +6,19 @@ use borrow.Author.Needs.{needs}
 use Rattle.decode_leaf.proofs.element_count.Statement.{statement}
 use Rattle.decode_leaf.proofs.element_count.Tie as tie
 
-is-single-requires : tie.Need-is-single-requires
-is-single-requires c κs = search needs
+unrepeated-requires : tie.Need-unrepeated-requires
+unrepeated-requires c κs = search needs
 
 returns : tie.Need-returns
-returns c = counted-once _ _ (sym (c .before .is-single .ensures) ∙ c .if1 .taken)
+returns c = counted-once _ _ (sym (c .before .unrepeated .ensures) ∙ c .if1 .taken)
 
 how-many-requires : tie.Need-how-many-requires
 how-many-requires c κs = search needs
 
 returns-2 : tie.Need-returns-2
 returns-2 c =
-    let at-is-single = c .before .before .is-single in
-    counted-table _ _ _ (sym (at-is-single .ensures) ∙ c .before .if1 .left) (c .how-many .ensures)
+    let at-unrepeated = c .before .before .unrepeated in
+    counted-table _ _ _ (sym (at-unrepeated .ensures) ∙ c .before .if1 .left) (c .how-many .ensures)
 
 pub element-count-spec : {M : Type 1} → statement M
-element-count-spec = tie.close (tie.spec is-single-requires returns how-many-requires returns-2)
+element-count-spec = tie.close (tie.spec unrepeated-requires returns how-many-requires returns-2)

@@ -28,7 +28,7 @@ place-element-requires c κs =
     let at-pre = c .before .before .before .before .before .before .before .before .before .before .before .pre in
     let at-read-part = c .before .before .before .before .before .before .read-part in
     let at-v = c .before .before .v in
-    let read = value-read [] (at-args .«record» .now) (at-args .page) false (at-args .e) 65536 false (at-args .at) (length (at-args .items .now)) [] (at-args .told) (at-args .text .now) (at-pre .0) (at-pre .1) (at-read-part .result) (at-read-part .ensures .0) _ (at-v .given .1) (at-read-part .last .1 .0) (at-read-part .ensures .1) in
+    let read = value-read [] (at-args .«record» .now) (at-args .page) false (at-args .e) 65536 false (at-args .at) (length (at-args .items .now)) [] (at-args .told) (at-args .text .now) (at-pre .1 .0) (at-pre .1 .1) (at-read-part .result) (at-read-part .ensures .0) _ (at-v .given .1) (at-read-part .last .1 .0) (at-read-part .ensures .1) in
     omega (arith, read .within, read .same)
 
 same-length : tie.Need-same-length
@@ -40,7 +40,7 @@ returns c =
     let at-pre = c .before .before .before .before .before .before .before .before .before .before .before .pre in
     let at-read-part = c .before .before .before .before .before .before .read-part in
     let at-n = c .before .before .n in
-    (record { met = λ l deps run. value-refuses l (at-args .«record» .now) (at-args .page) deps (at-args .e) 65536 false (at-args .at) (length (at-args .items .now)) run (at-args .told) (at-args .text .now) (at-pre .0) (at-pre .1) (at-read-part .result) (at-read-part .ensures .0) _ (at-n .given .1) (c .refusal .ensures); rest = refl }, at-read-part .ensures .1)
+    (record { met = λ l deps run. value-refuses l (at-args .«record» .now) (at-args .page) deps (at-args .e) 65536 false (at-args .at) (length (at-args .items .now)) run (at-args .told) (at-args .text .now) (at-pre .1 .0) (at-pre .1 .1) (at-read-part .result) (at-read-part .ensures .0) _ (at-n .given .1) (c .refusal .ensures); rest = refl }, at-read-part .ensures .1)
 
 same-length-2 : tie.Need-same-length-2
 same-length-2 c = search needs
@@ -56,8 +56,8 @@ returns-2 c =
     let at-v = c .before .before .before .before .before .v in
     let at-place-element = c .before .before .place-element in (
       record {
-        met = λ l deps run. value-reads l (at-args .«record» .now) (at-args .page) deps (at-args .e) 65536 false (at-args .at) (length (at-args .items .now)) run (at-args .told) (at-args .text .now) (at-pre .0) (at-pre .1) (at-read-part .result) (at-read-part .ensures .0) _ (at-v .given .1) (at-read-part .last .1 .0) (at-read-part .ensures .1)
-            (λ _. note-none l deps (at-args .e) _ run) (at-place-element .ensures);
+        met = λ l deps run. value-reads l (at-args .«record» .now) (at-args .page) deps (at-args .e) 65536 false (at-args .at) (length (at-args .items .now)) run (at-args .told) (at-args .text .now) (at-pre .1 .0) (at-pre .1 .1) (at-read-part .result) (at-read-part .ensures .0) _ (at-v .given .1) (at-read-part .last .1 .0) (at-read-part .ensures .1)
+            (λ _. note-none l deps (at-args .e) _ run (at-pre .0)) (at-place-element .ensures);
         rest = at-place-element .ensures .rest;
       },
       at-read-part .ensures .1,

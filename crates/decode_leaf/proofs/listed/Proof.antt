@@ -12,15 +12,25 @@ returns c = listed-pads _ _ (c .before .before .pre .0) _ _ _ _ _ (c .if1 .taken
 cast-put-header : tie.Need-cast-put-header
 cast-put-header c = search needs
 
+item-count-requires : tie.Need-item-count-requires
+item-count-requires c κs = search needs
+
 put-header-requires : tie.Need-put-header-requires
-put-header-requires c κs = omega (arith, c .before .before .before .before .pre .1 .0, c .before .before .before .before .pre .1 .1, has-head (c .before .before .before .before .args .e) (c .before .before .before .before .args .head) (c .before .before .before .before .pre .0) (c .before .before .if1 .left) .1)
+put-header-requires c κs =
+    let at-args = c .before .before .before .before .before .args in
+    let at-pre = c .before .before .before .before .before .pre in
+    omega (arith, at-pre .1 .0, at-pre .1 .1, has-head (at-args .e) (at-args .head) (at-pre .0) (c .before .before .before .if1 .left) .1)
 
 same-length : tie.Need-same-length
 same-length c = search needs
 
 returns-2 : tie.Need-returns-2
-returns-2 c = listed-items _ _ (c .before .before .before .before .before .before .before .pre .0) _ _ _ _ _ (c .before .before .before .before .before .if1 .left) _ (c .before .before .put-header .ensures)
+returns-2 c =
+    let at-pre = c .before .before .before .before .before .before .before .before .pre in
+    let at-put-header = c .before .before .put-header in
+    let at-item-count = c .before .before .before .item-count in
+    listed-items _ _ (at-pre .0) _ _ _ _ _ (c .before .before .before .before .before .before .if1 .left) _ (at-item-count .ensures) _ (at-put-header .ensures)
 
 pub listed-spec : {M : Type 1} → statement M
 listed-spec =
-    tie.close (tie.spec returns cast-put-header put-header-requires same-length returns-2)
+    tie.close (tie.spec returns cast-put-header item-count-requires put-header-requires same-length returns-2)

@@ -1,12 +1,18 @@
+use mathlib.Core.Path.{sym, _∙_}
 use Prim.Native.Nat.{_-_}
 use lib.ListN.{length, take, set}
-use Rattle.decode_leaf.proofs.Runs.{note-int, note-not, note-other}
+use Rattle.decode_leaf.proofs.Runs.{note-off, note-not, note-int, note-other}
 use borrow.Author.Needs.{needs}
 use Rattle.decode_leaf.proofs.note.Statement.{statement}
 use Rattle.decode_leaf.proofs.note.Tie as tie
 
-sets-count-requires : tie.Need-sets-count-requires
-sets-count-requires c κs = search needs
+returns : tie.Need-returns
+returns c =
+    let at-args = c .before .before .args in
+    note-off (at-args .layout .now) (at-args .deps) (at-args .e) (at-args .counts .now) (at-args .v) (c .if1 .taken)
+
+controls-requires : tie.Need-controls-requires
+controls-requires c κs = search needs
 
 enum-known-v : tie.Need-enum-known-v
 enum-known-v c = search needs
@@ -17,23 +23,36 @@ set-count-requires c κs = search needs
 same-length : tie.Need-same-length
 same-length c = search needs
 
-returns : tie.Need-returns
-returns c = note-int (c .before .before .before .before .before .before .before .before .before .args .layout .now) (c .before .before .before .before .before .before .before .before .before .args .deps) (c .before .before .before .before .before .before .before .before .before .args .e) (c .before .before .before .before .before .before .before .before .before .args .once) (c .before .before .before .before .before .before .before .before .before .args .counts .now) (c .before .before .before .before .before .before .before .sets-count .result) (c .before .before .before .before .before .before .before .sets-count .ensures) (c .before .before .before .before .before .before .if1 .taken) _ _ _ _ (c .before .before .before .before .v .given .1) (c .before .set-count .ensures)
-
 returns-2 : tie.Need-returns-2
-returns-2 c = note-other (c .before .before .before .before .args .layout .now) (c .before .before .before .before .args .deps) (c .before .before .before .before .args .e) (c .before .before .before .before .args .once) (c .before .before .before .before .args .counts .now) (c .before .before .sets-count .result) (c .before .before .sets-count .ensures) (c .before .if1 .taken) _ (c .match .keys2)
+returns-2 c =
+    let at-args = c .before .before .before .before .before .before .before .before .before .before .args in
+    let at-if1 = c .before .before .before .before .before .before .before .before .if1 in
+    let at-controls = c .before .before .before .before .before .before .before .controls in
+    let at-if2 = c .before .before .before .before .before .before .if2 in
+    let at-v = c .before .before .before .before .v in
+    note-int (at-args .layout .now) (at-args .deps) (at-args .e) (at-args .counts .now) (at-if1 .left) (at-controls .result) (at-controls .ensures) (at-if2 .taken) _ _ _ _ (at-v .given .1) (c .before .set-count .ensures)
 
 returns-3 : tie.Need-returns-3
-returns-3 c = note-not (c .before .before .before .args .layout .now) (c .before .before .before .args .deps) (c .before .before .before .args .e) (c .before .before .before .args .once) (c .before .before .before .args .counts .now) (c .before .sets-count .result) (c .before .sets-count .ensures) (c .if1 .left) _
+returns-3 c =
+    let at-args = c .before .before .before .before .before .args in
+    let at-if1 = c .before .before .before .if1 in
+    let at-controls = c .before .before .controls in
+    note-other (at-args .layout .now) (at-args .deps) (at-args .e) (at-args .counts .now) (at-if1 .left) (at-controls .result) (at-controls .ensures) (c .before .if2 .taken) _ (c .match .keys2)
+
+returns-4 : tie.Need-returns-4
+returns-4 c =
+    let at-args = c .before .before .before .before .args in
+    note-not (at-args .layout .now) (at-args .deps) (at-args .e) (at-args .counts .now) (at-args .v) (sym (c .before .controls .ensures) ∙ c .if2 .left)
 
 pub note-spec : {M : Type 1} → statement M
 note-spec =
     tie.close
     (tie.spec
-    sets-count-requires
+    returns
+    controls-requires
     enum-known-v
     set-count-requires
     same-length
-    returns
     returns-2
-    returns-3)
+    returns-3
+    returns-4)

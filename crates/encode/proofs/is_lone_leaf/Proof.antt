@@ -10,14 +10,14 @@ use Rattle.encode.proofs.is_lone_leaf.Tie as tie
 returns : tie.Need-returns
 returns c = lone-group _ (c .if1 .taken)
 
-is-single-requires : tie.Need-is-single-requires
-is-single-requires c κs = search needs
+unrepeated-requires : tie.Need-unrepeated-requires
+unrepeated-requires c κs = search needs
 
 returns-2 : tie.Need-returns-2
-returns-2 c = lone-table _ _ (c .before .is-single .ensures) (not-true _ (c .if2 .taken))
+returns-2 c = lone-table _ _ (c .before .unrepeated .ensures) (not-true _ (c .if2 .taken))
 
 returns-3 : tie.Need-returns-3
-returns-3 c = lone-span _ (c .before .before .before .if1 .left) _ (c .before .before .is-single .ensures) (not-false _ (c .before .if2 .left))
+returns-3 c = lone-span _ (c .before .before .before .if1 .left) _ (c .before .before .unrepeated .ensures) (not-false _ (c .before .if2 .left))
 
 pub is-lone-leaf-spec : {M : Type 1} → statement M
-is-lone-leaf-spec = tie.close (tie.spec returns is-single-requires returns-2 returns-3)
+is-lone-leaf-spec = tie.close (tie.spec returns unrepeated-requires returns-2 returns-3)

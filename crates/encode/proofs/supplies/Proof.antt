@@ -33,8 +33,8 @@ has-value-requires c κs = search needs
 returns : tie.Need-returns Inv-loop μ-loop
 returns c = sym (c .before .before .before .before .before .loop .inv .0 ∙ supplied-not _ _ _ _ _ _ (c .before .before .before .before .before .loop .inv .1) (c .before .before .before .before .loop-test .taken) (c .before .before .before .load .result) (c .before .before .before .load .ensures) _ (c .before .before .seek .ensures) _ (c .before .has-value .ensures) (not-true _ (c .if1 .taken)))
 
-behind-requires : tie.Need-behind-requires Inv-loop μ-loop
-behind-requires c κs = search needs
+values-after-requires : tie.Need-values-after-requires Inv-loop μ-loop
+values-after-requires c κs = search needs
 
 cast-end-of : tie.Need-cast-end-of Inv-loop μ-loop
 cast-end-of c = search needs
@@ -62,7 +62,7 @@ supplies-spec =
     seek-requires
     has-value-requires
     returns
-    behind-requires
+    values-after-requires
     cast-end-of
     end-of-requires
     loop-less

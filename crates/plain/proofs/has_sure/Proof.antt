@@ -21,11 +21,11 @@ loop-holds c = (omega arith, refl)
 load-requires : tie.Need-load-requires Inv-loop μ-loop
 load-requires c κs = search needs
 
-is-sure-requires : tie.Need-is-sure-requires Inv-loop μ-loop
-is-sure-requires c κs = search needs
+unrepeated-leaf-requires : tie.Need-unrepeated-leaf-requires Inv-loop μ-loop
+unrepeated-leaf-requires c κs = search needs
 
 returns : tie.Need-returns Inv-loop μ-loop
-returns c = sym (c .before .before .before .before .loop .inv .1 ∙ sure-here (c .before .before .before .before .before .before .args .layout .now) (c .before .before .before .before .loop .i) (c .before .before .before .before .before .before .args .hi) _ _ (c .before .before .before .loop-test .taken) (c .before .before .load .ensures) (c .before .is-sure .ensures) (c .if1 .taken))
+returns c = sym (c .before .before .before .before .loop .inv .1 ∙ sure-here (c .before .before .before .before .before .before .args .layout .now) (c .before .before .before .before .loop .i) (c .before .before .before .before .before .before .args .hi) _ _ (c .before .before .before .loop-test .taken) (c .before .before .load .ensures) (c .before .unrepeated-leaf .ensures) (c .if1 .taken))
 
 cast-end-of : tie.Need-cast-end-of Inv-loop μ-loop
 cast-end-of c = omega arith
@@ -37,7 +37,7 @@ loop-less : tie.Need-loop-less Inv-loop μ-loop
 loop-less c = omega arith
 
 loop-again : tie.Need-loop-again Inv-loop μ-loop
-loop-again c = (omega arith, c .before .before .before .before .before .before .loop .inv .1 ∙ sure-next (c .before .before .before .before .before .before .before .before .args .layout .now) (c .before .before .before .before .before .before .loop .i) (c .before .before .before .before .before .before .before .before .args .hi) _ _ (c .before .before .before .before .before .loop-test .taken) (c .before .before .before .before .load .ensures) (c .before .before .before .is-sure .ensures) (c .before .before .if1 .left) _ (c .end-of .ensures))
+loop-again c = (omega arith, c .before .before .before .before .before .before .loop .inv .1 ∙ sure-next (c .before .before .before .before .before .before .before .before .args .layout .now) (c .before .before .before .before .before .before .loop .i) (c .before .before .before .before .before .before .before .before .args .hi) _ _ (c .before .before .before .before .before .loop-test .taken) (c .before .before .before .before .load .ensures) (c .before .before .before .unrepeated-leaf .ensures) (c .before .before .if1 .left) _ (c .end-of .ensures))
 
 returns-2 : tie.Need-returns-2 Inv-loop μ-loop
 returns-2 c = sym (c .before .loop .inv .1 ∙ sure-end (c .before .before .before .args .layout .now) (c .before .loop .i) (c .before .before .before .args .hi) (c .loop-test .left))
@@ -50,7 +50,7 @@ has-sure-spec =
     μ-loop
     loop-holds
     load-requires
-    is-sure-requires
+    unrepeated-leaf-requires
     returns
     cast-end-of
     end-of-requires

@@ -5,14 +5,14 @@ use borrow.Author.Needs.{needs}
 use Rattle.plain.proofs.held_top.Statement.{statement}
 use Rattle.plain.proofs.held_top.Tie as tie
 
-is-single-requires : tie.Need-is-single-requires
-is-single-requires c κs = search needs
+unrepeated-requires : tie.Need-unrepeated-requires
+unrepeated-requires c κs = search needs
 
 returns : tie.Need-returns
-returns c = simp (sym (c .before .is-single .ensures) ∙ c .if1 .taken)
+returns c = simp (sym (c .before .unrepeated .ensures) ∙ c .if1 .taken)
 
 returns-2 : tie.Need-returns-2
-returns-2 c = simp (sym (c .before .is-single .ensures) ∙ c .if1 .left)
+returns-2 c = simp (sym (c .before .unrepeated .ensures) ∙ c .if1 .left)
 
 pub held-top-spec : {M : Type 1} → statement M
-held-top-spec = tie.close (tie.spec is-single-requires returns returns-2)
+held-top-spec = tie.close (tie.spec unrepeated-requires returns returns-2)

@@ -5,8 +5,8 @@ use borrow.Author.Needs.{needs}
 use Rattle.plain.proofs.put_known.Statement.{statement}
 use Rattle.plain.proofs.put_known.Tie as tie
 
-is-control-requires : tie.Need-is-control-requires
-is-control-requires c κs = search needs
+controls-requires : tie.Need-controls-requires
+controls-requires c κs = search needs
 
 mul-known : tie.Need-mul-known
 mul-known c = search needs
@@ -21,16 +21,16 @@ same-length : tie.Need-same-length
 same-length c = search needs
 
 returns : tie.Need-returns
-returns c = simp (sym (c .before .is-control .ensures) ∙ c .if1 .taken) (refl, refl)
+returns c = simp (sym (c .before .controls .ensures) ∙ c .if1 .taken) (refl, refl)
 
 returns-2 : tie.Need-returns-2
-returns-2 c = simp (sym (c .before .is-control .ensures) ∙ c .if1 .left) (refl, refl)
+returns-2 c = simp (sym (c .before .controls .ensures) ∙ c .if1 .left) (refl, refl)
 
 pub put-known-spec : {M : Type 1} → statement M
 put-known-spec =
     tie.close
     (tie.spec
-    is-control-requires
+    controls-requires
     mul-known
     slice-write-known
     add-result

@@ -8,18 +8,18 @@ use Rattle.decode.proofs.+decode_field+decode_one+decode_seq.Lts-decode
 use Rattle.decode.proofs.decode_seq.Reads as decode-seq
 use Rattle.decode.proofs.decode_seq.Kinds as decode-seq-kinds
 use Rattle.decode.proofs.decode_table.Reads as decode-table-reads
-use Rattle.decode.proofs.is_lone.Reads as is-lone-reads
+use Rattle.layout.proofs.unrepeated_leaf.Reads as unrepeated-leaf-reads
 use Rattle.decode_leaf.proofs.decode_lone.Reads as decode-lone-reads
 use Rattle.decode_leaf.proofs.element_count.Reads as element-count-reads
 use Rattle.decode_leaf.proofs.element_name.Reads as element-name-reads
 use Rattle.decode_leaf.proofs.head_words.Reads as head-words-reads
-use Rattle.decode_leaf.proofs.is_single.Reads as is-single-reads
-use Rattle.decode_leaf.proofs.larger.Reads as larger-reads
-use Rattle.decode_leaf.proofs.less.Reads as less-reads
+use Rattle.layout.proofs.unrepeated.Reads as unrepeated-reads
+use Rattle.positions.proofs.larger.Reads as larger-reads
+use Rattle.positions.proofs.less.Reads as less-reads
 use Rattle.decode_leaf.proofs.listed.Reads as listed-reads
-use Rattle.decode_leaf.proofs.put_header.Reads as put-header-reads
+use Rattle.items.proofs.put_header.Reads as put-header-reads
 use Rattle.decode_leaf.proofs.refusal.Reads as refusal-reads
-use Rattle.decode_leaf.proofs.sat_add.Reads as sat-add-reads
+use Rattle.positions.proofs.sat_add.Reads as sat-add-reads
 use Rattle.decode_leaf.proofs.took_none.Reads as took-none-reads
 use Rattle.layout.proofs.load.Reads as load-reads
 use Rattle.layout.proofs.reserved_width.Reads as reserved-width-reads
@@ -31,8 +31,7 @@ use native.Mathlib.Omega.{arith}
 use borrow.Author.Needs.{needs}
 use lib.ListN.{length, take}
 use Rattle.layout.specs.Layout.{part}
-use Rattle.walks.specs.Reading.{one}
-use Rattle.decode_leaf.specs.Capped.{seq}
+use Rattle.walks.specs.Reading.{one, seq}
 use Rattle.decode_leaf.specs.Machine.{kept}
 use Rattle.decode_leaf.proofs.Meets.{refuse}
 use Rattle.decode.proofs.Steps.{inside-small}

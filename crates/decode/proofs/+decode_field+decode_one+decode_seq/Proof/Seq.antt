@@ -10,18 +10,18 @@ use Rattle.decode.proofs.decode_seq.Reads as decode-seq
 use Rattle.decode.proofs.decode_seq.Kinds as decode-seq-kinds
 use Rattle.decode.proofs.+decode_field+decode_one+decode_seq.Lts-decode_seq as decode-seq-lts
 use Rattle.decode.proofs.decode_table.Reads as decode-table-reads
-use Rattle.decode.proofs.is_lone.Reads as is-lone-reads
+use Rattle.layout.proofs.unrepeated_leaf.Reads as unrepeated-leaf-reads
 use Rattle.decode_leaf.proofs.decode_lone.Reads as decode-lone-reads
 use Rattle.decode_leaf.proofs.element_count.Reads as element-count-reads
 use Rattle.decode_leaf.proofs.element_name.Reads as element-name-reads
 use Rattle.decode_leaf.proofs.head_words.Reads as head-words-reads
-use Rattle.decode_leaf.proofs.is_single.Reads as is-single-reads
-use Rattle.decode_leaf.proofs.larger.Reads as larger-reads
-use Rattle.decode_leaf.proofs.less.Reads as less-reads
+use Rattle.layout.proofs.unrepeated.Reads as unrepeated-reads
+use Rattle.positions.proofs.larger.Reads as larger-reads
+use Rattle.positions.proofs.less.Reads as less-reads
 use Rattle.decode_leaf.proofs.listed.Reads as listed-reads
-use Rattle.decode_leaf.proofs.put_header.Reads as put-header-reads
+use Rattle.items.proofs.put_header.Reads as put-header-reads
 use Rattle.decode_leaf.proofs.refusal.Reads as refusal-reads
-use Rattle.decode_leaf.proofs.sat_add.Reads as sat-add-reads
+use Rattle.positions.proofs.sat_add.Reads as sat-add-reads
 use Rattle.decode_leaf.proofs.took_none.Reads as took-none-reads
 use Rattle.layout.proofs.load.Reads as load-reads
 use Rattle.layout.proofs.reserved_width.Reads as reserved-width-reads
@@ -33,8 +33,7 @@ use native.Mathlib.Omega.{arith}
 use borrow.Author.Needs.{needs}
 use lib.ListN.{length, take}
 use Rattle.layout.specs.Layout.{part}
-use Rattle.walks.specs.Reading.{one}
-use Rattle.decode_leaf.specs.Capped.{seq}
+use Rattle.walks.specs.Reading.{one, seq}
 use Rattle.decode_leaf.specs.Machine.{kept}
 use Rattle.decode_leaf.proofs.Meets.{refuse, same-as}
 use Rattle.decode.proofs.Steps.{left-behind, fewer}
@@ -42,7 +41,7 @@ use Rattle.decode.proofs.Turns.{returned-same, returned-written, SeqInv
 use Rattle.decode.proofs.Around.{field-lone, lone-is, lone-kind}
 
 abbrev pub decode-seq-claims : ℕ → decode-seq-lts.Claims
-decode-seq-claims t = (load-reads.Asked, load-reads.Learnt, end-of-reads.Asked, end-of-reads.Learnt, sat-add-reads.Asked, sat-add-reads.Learnt, is-lone-reads.Asked, is-lone-reads.Learnt, decode-lone-reads.Asked, decode-lone-reads.Learnt, refusal-reads.Asked, refusal-reads.Learnt, larger-reads.Asked, larger-reads.Learnt, decode-field-below t, decode-field.Post, reserved-width-reads.Asked, reserved-width-reads.Learnt, less-reads.Asked, less-reads.Learnt)
+decode-seq-claims t = (load-reads.Asked, load-reads.Learnt, end-of-reads.Asked, end-of-reads.Learnt, sat-add-reads.Asked, sat-add-reads.Learnt, unrepeated-leaf-reads.Asked, unrepeated-leaf-reads.Learnt, decode-lone-reads.Asked, decode-lone-reads.Learnt, refusal-reads.Asked, refusal-reads.Learnt, larger-reads.Asked, larger-reads.Learnt, decode-field-below t, decode-field.Post, reserved-width-reads.Asked, reserved-width-reads.Learnt, less-reads.Asked, less-reads.Learnt)
 
 abbrev pub decode-seq-Inv-loop : decode-seq-lts.InvT-loop
 decode-seq-Inv-loop layout «record» items₀ text₀ counts₀ page deps lo hi base told i₀ used₀ members₀ shift₀ far₀ behind₀ items text counts i used members shift far behind = SeqInv (λ m. kept layout page m deps) «record» layout items₀ text₀ counts₀ lo hi base told items text counts i used members shift far behind
@@ -73,8 +72,8 @@ decode-seq-sat-add-requires t c κs = search needs
 pub decode-seq-sat-add-requires-2 : (t : ℕ) → decode-seq-lts.Need-sat-add-requires-2 (decode-seq-claims t) (decode-seq-at t) decode-seq.Post decode-seq-Inv-loop decode-seq-μ-loop
 decode-seq-sat-add-requires-2 t c κs = search needs
 
-pub decode-seq-is-lone-requires : (t : ℕ) → decode-seq-lts.Need-is-lone-requires (decode-seq-claims t) (decode-seq-at t) decode-seq.Post decode-seq-Inv-loop decode-seq-μ-loop
-decode-seq-is-lone-requires t c κs = search needs
+pub decode-seq-unrepeated-leaf-requires : (t : ℕ) → decode-seq-lts.Need-unrepeated-leaf-requires (decode-seq-claims t) (decode-seq-at t) decode-seq.Post decode-seq-Inv-loop decode-seq-μ-loop
+decode-seq-unrepeated-leaf-requires t c κs = search needs
 
 pub decode-seq-mul-decode-lone : (t : ℕ) → decode-seq-lts.Need-mul-decode-lone (decode-seq-claims t) (decode-seq-at t) decode-seq.Post decode-seq-Inv-loop decode-seq-μ-loop
 decode-seq-mul-decode-lone t c =
@@ -129,11 +128,11 @@ decode-seq-returns t c =
     let at-end-of = c .before .before .before .before .before .before .before .before .before .before .before .before .before .before .before .before .before .end-of in
     let at-sat-add = c .before .before .before .before .before .before .before .before .before .before .before .before .before .before .before .sat-add in
     let at-sat-add2 = c .before .before .before .before .before .before .before .before .before .before .before .before .before .before .sat-add2 in
-    let at-is-lone = c .before .before .before .before .before .before .before .before .before .before .before .before .before .is-lone in
+    let at-unrepeated-leaf = c .before .before .before .before .before .before .before .before .before .before .before .before .before .unrepeated-leaf in
     let at-if1 = c .before .before .before .before .before .before .before .before .before .before .before .before .if1 in
     let at-decode-lone = c .before .before .before .before .before .before .before .before .decode-lone in
     refuse (at-decode-lone .result .refused) (c .refusal .ensures) (c .before .if2 .taken) (seq-stops (at-loop .inv) _ _ _ _ (at-loop-test .taken) (at-load .ensures) (at-end-of .ensures) (at-sat-add .ensures) (at-sat-add2 .ensures) (at-decode-lone .last .1 .1 .0) (at-decode-lone .kept .1 .1 .0) _ ((same-as
-    (field-lone _ _ _ _ _ _ _ (lone-kind (at-load .result) (at-is-lone .ensures) (at-if1 .taken)) (lone-is (at-load .result) (at-is-lone .ensures) (at-if1 .taken))) (at-decode-lone .ensures .0 .met)) .refuses (c .before .if2 .taken) .0))
+    (field-lone _ _ _ _ _ _ _ (lone-kind (at-load .result) (at-unrepeated-leaf .ensures) (at-if1 .taken)) (lone-is (at-load .result) (at-unrepeated-leaf .ensures) (at-if1 .taken))) (at-decode-lone .ensures .0 .met)) .refuses (c .before .if2 .taken) .0))
 
 pub decode-seq-sat-add-requires-3 : (t : ℕ) → decode-seq-lts.Need-sat-add-requires-3 (decode-seq-claims t) (decode-seq-at t) decode-seq.Post decode-seq-Inv-loop decode-seq-μ-loop
 decode-seq-sat-add-requires-3 t c κs = search needs
@@ -171,15 +170,15 @@ decode-seq-loop-again t c =
     let at-end-of = c .before .before .before .before .before .before .before .before .before .before .before .before .before .before .before .before .before .before .before .before .end-of in
     let at-sat-add = c .before .before .before .before .before .before .before .before .before .before .before .before .before .before .before .before .before .before .sat-add in
     let at-sat-add2 = c .before .before .before .before .before .before .before .before .before .before .before .before .before .before .before .before .before .sat-add2 in
-    let at-is-lone = c .before .before .before .before .before .before .before .before .before .before .before .before .before .before .before .before .is-lone in
+    let at-unrepeated-leaf = c .before .before .before .before .before .before .before .before .before .before .before .before .before .before .before .before .unrepeated-leaf in
     let at-if1 = c .before .before .before .before .before .before .before .before .before .before .before .before .before .before .before .if1 in
     let at-decode-lone = c .before .before .before .before .before .before .before .before .before .before .before .decode-lone in
     let at-if2 = c .before .before .before .before .if2 in
     let at-sat-add3 = c .before .before .before .sat-add3 in
     let at-larger = c .before .before .larger in
     seq-passes (at-loop .inv) _ _ _ _ (at-loop-test .taken) (at-load .ensures) (at-end-of .ensures) (at-sat-add .ensures) (at-sat-add2 .ensures) (at-decode-lone .last .1 .1 .0) (at-decode-lone .kept .1 .1 .0) (at-decode-lone .result) (at-decode-lone .last .1 .1 .1 .0) (at-decode-lone .last .1 .1 .1 .1 .0) ((same-as
-    (field-lone _ _ _ _ _ _ _ (lone-kind (at-load .result) (at-is-lone .ensures) (at-if1 .taken)) (lone-is (at-load .result) (at-is-lone .ensures) (at-if1 .taken))) (at-decode-lone .ensures .0 .met)) .fine (at-if2 .left)) (lone-is (at-load .result) (at-is-lone .ensures) (at-if1 .taken)) (field-lone _ _ _ _ _ _ _
-    (lone-kind (at-load .result) (at-is-lone .ensures) (at-if1 .taken)) (lone-is (at-load .result) (at-is-lone .ensures) (at-if1 .taken))) _ _ (at-decode-lone .kept .1 .1 .1 .0) (at-decode-lone .kept .1 .1 .1 .1 .0) (at-sat-add3 .ensures) (at-larger .ensures)
+    (field-lone _ _ _ _ _ _ _ (lone-kind (at-load .result) (at-unrepeated-leaf .ensures) (at-if1 .taken)) (lone-is (at-load .result) (at-unrepeated-leaf .ensures) (at-if1 .taken))) (at-decode-lone .ensures .0 .met)) .fine (at-if2 .left)) (lone-is (at-load .result) (at-unrepeated-leaf .ensures) (at-if1 .taken)) (field-lone _ _ _ _ _ _ _
+    (lone-kind (at-load .result) (at-unrepeated-leaf .ensures) (at-if1 .taken)) (lone-is (at-load .result) (at-unrepeated-leaf .ensures) (at-if1 .taken))) _ _ (at-decode-lone .kept .1 .1 .1 .0) (at-decode-lone .kept .1 .1 .1 .1 .0) (at-sat-add3 .ensures) (at-larger .ensures)
 
 pub decode-seq-mul-decode-field : (t : ℕ) → decode-seq-lts.Need-mul-decode-field (decode-seq-claims t) (decode-seq-at t) decode-seq.Post decode-seq-Inv-loop decode-seq-μ-loop
 decode-seq-mul-decode-field t c =
@@ -214,10 +213,10 @@ decode-seq-decode-field-requires t c κs =
     let at-loop-test = c .before .before .before .before .before .before .before .before .before .before .before .loop-test in
     let at-end-of = c .before .before .before .before .before .before .before .before .end-of in
     let at-sat-add2 = c .before .before .before .before .before .sat-add2 in
-    let at-is-lone = c .before .before .before .before .is-lone in
+    let at-unrepeated-leaf = c .before .before .before .before .unrepeated-leaf in
     let at-if1 = c .before .before .before .if1 in (
       fewer (length (at-args .«record» .now)) _ _ _ _ _ _ _ (at-pre .0) (at-loop .inv .past) (at-loop-test .taken) (omega (arith, at-end-of .ensures)) (left-behind _ _ _ _ (at-pre .1 .1) (at-sat-add2 .ensures)),
-      (at-loop .inv .fits, (sym (at-is-lone .ensures) ∙ at-if1 .left, at-pre .1 .1)),
+      (at-loop .inv .fits, (sym (at-unrepeated-leaf .ensures) ∙ at-if1 .left, at-pre .1 .1)),
     )
 
 pub decode-seq-refusal-requires-2 : (t : ℕ) → decode-seq-lts.Need-refusal-requires-2 (decode-seq-claims t) (decode-seq-at t) decode-seq.Post decode-seq-Inv-loop decode-seq-μ-loop

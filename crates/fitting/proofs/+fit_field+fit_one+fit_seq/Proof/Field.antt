@@ -2,7 +2,7 @@ use Prim.Native.Nat.{ℕ}
 use Rattle.fitting.proofs.fit_field.Reads as fit-field
 use Rattle.fitting.proofs.+fit_field+fit_one+fit_seq.Lts-fit_field as fit-field-lts
 use Rattle.fitting.proofs.fit_one.Reads as fit-one
-use Rattle.decode_leaf.proofs.is_single.Reads as is-single-reads
+use Rattle.decode_leaf.proofs.unrepeated.Reads as unrepeated-reads
 use Rattle.fitting.proofs.is_table.Reads as is-table-reads
 use Rattle.fitting.proofs.misfit.Reads as misfit-reads
 use Rattle.items.proofs.after.Reads as after-reads
@@ -17,7 +17,7 @@ use Rattle.items.specs.Items.{values}
 use Rattle.fitting.proofs.Turns.{refuse, fine, same-as, field-pad, field-one, field-not, field-each, fieldIn, FieldInv, field-stops, field-goes, field-done}
 
 abbrev pub fit-field-claims : ℕ → fit-field-lts.Claims
-fit-field-claims t = (is-single-reads.Asked, is-single-reads.Learnt, fit-one-below t, fit-one.Post, is-table-reads.Asked, is-table-reads.Learnt, misfit-reads.Asked, misfit-reads.Learnt, item-end-reads.Asked, item-end-reads.Learnt, after-reads.Asked, after-reads.Learnt)
+fit-field-claims t = (unrepeated-reads.Asked, unrepeated-reads.Learnt, fit-one-below t, fit-one.Post, is-table-reads.Asked, is-table-reads.Learnt, misfit-reads.Asked, misfit-reads.Learnt, item-end-reads.Asked, item-end-reads.Learnt, after-reads.Asked, after-reads.Learnt)
 
 abbrev pub fit-field-Inv-loop : fit-field-lts.InvT-loop
 fit-field-Inv-loop layout masks items text counts₀ e lo hi j to told end k₀ at₀ counts k at = FieldInv (fieldIn layout masks text e lo hi (values items j to) counts₀ told) layout masks text items counts₀ e lo hi end counts k at
@@ -28,8 +28,8 @@ fit-field-μ-loop layout masks items text counts₀ e lo hi j to told end k₀ a
 pub fit-field-returns : (t : ℕ) → fit-field-lts.Need-returns (fit-field-claims t) (fit-field-at t) fit-field.Post fit-field-Inv-loop fit-field-μ-loop
 fit-field-returns t c = fine _ (field-pad _ _ _ _ _ _ _ _ _ _ (c .if1 .taken))
 
-pub fit-field-is-single-requires : (t : ℕ) → fit-field-lts.Need-is-single-requires (fit-field-claims t) (fit-field-at t) fit-field.Post fit-field-Inv-loop fit-field-μ-loop
-fit-field-is-single-requires t c κs = search needs
+pub fit-field-unrepeated-requires : (t : ℕ) → fit-field-lts.Need-unrepeated-requires (fit-field-claims t) (fit-field-at t) fit-field.Post fit-field-Inv-loop fit-field-μ-loop
+fit-field-unrepeated-requires t c κs = search needs
 
 pub fit-field-fit-one-requires : (t : ℕ) → fit-field-lts.Need-fit-one-requires (fit-field-claims t) (fit-field-at t) fit-field.Post fit-field-Inv-loop fit-field-μ-loop
 fit-field-fit-one-requires t c κs = omega (arith, c .before .before .before .before .before .before .before .before .before .pre)
@@ -38,7 +38,7 @@ pub fit-field-same-length : (t : ℕ) → fit-field-lts.Need-same-length (fit-fi
 fit-field-same-length t c = c .before .fit-one .kept .1 .1 .1 .1 .0
 
 pub fit-field-returns-2 : (t : ℕ) → fit-field-lts.Need-returns-2 (fit-field-claims t) (fit-field-at t) fit-field.Post fit-field-Inv-loop fit-field-μ-loop
-fit-field-returns-2 t c = same-as (field-one _ _ _ _ _ _ _ _ _ _ (c .before .before .before .before .before .if1 .left) _ (c .before .before .before .before .is-single .ensures) (c .before .before .before .if2 .taken)) (c .before .fit-one .ensures)
+fit-field-returns-2 t c = same-as (field-one _ _ _ _ _ _ _ _ _ _ (c .before .before .before .before .before .if1 .left) _ (c .before .before .before .before .unrepeated .ensures) (c .before .before .before .if2 .taken)) (c .before .fit-one .ensures)
 
 pub fit-field-is-table-requires : (t : ℕ) → fit-field-lts.Need-is-table-requires (fit-field-claims t) (fit-field-at t) fit-field.Post fit-field-Inv-loop fit-field-μ-loop
 fit-field-is-table-requires t c κs = search needs
@@ -50,7 +50,7 @@ pub fit-field-same-length-2 : (t : ℕ) → fit-field-lts.Need-same-length-2 (fi
 fit-field-same-length-2 t c = search needs
 
 pub fit-field-returns-3 : (t : ℕ) → fit-field-lts.Need-returns-3 (fit-field-claims t) (fit-field-at t) fit-field.Post fit-field-Inv-loop fit-field-μ-loop
-fit-field-returns-3 t c = refuse (c .misfit .ensures) (field-not _ _ _ _ _ _ _ _ _ _ (c .before .before .before .before .before .before .if1 .left) _ (c .before .before .before .before .before .is-single .ensures) (c .before .before .before .before .if2 .left) _ (c .before .before .is-table .ensures) (not-true _ (c .before .if3 .taken)))
+fit-field-returns-3 t c = refuse (c .misfit .ensures) (field-not _ _ _ _ _ _ _ _ _ _ (c .before .before .before .before .before .before .if1 .left) _ (c .before .before .before .before .before .unrepeated .ensures) (c .before .before .before .before .if2 .left) _ (c .before .before .is-table .ensures) (not-true _ (c .before .if3 .taken)))
 
 pub fit-field-item-end-requires : (t : ℕ) → fit-field-lts.Need-item-end-requires (fit-field-claims t) (fit-field-at t) fit-field.Post fit-field-Inv-loop fit-field-μ-loop
 fit-field-item-end-requires t c κs = search needs
@@ -59,7 +59,7 @@ pub fit-field-after-requires : (t : ℕ) → fit-field-lts.Need-after-requires (
 fit-field-after-requires t c κs = search needs
 
 pub fit-field-loop-holds : (t : ℕ) → fit-field-lts.Need-loop-holds (fit-field-claims t) (fit-field-at t) fit-field.Post fit-field-Inv-loop fit-field-μ-loop
-fit-field-loop-holds t c = record { whole = field-each _ _ _ _ _ _ _ _ _ _ (c .before .before .before .before .before .before .before .if1 .left) _ (c .before .before .before .before .before .before .is-single .ensures) (c .before .before .before .before .before .if2 .left) _ (c .before .before .before .is-table .ensures) (not-false _ (c .before .before .if3 .left)) _ _ (c .before .item-end .ensures) (c .after .ensures); same = refl }
+fit-field-loop-holds t c = record { whole = field-each _ _ _ _ _ _ _ _ _ _ (c .before .before .before .before .before .before .before .if1 .left) _ (c .before .before .before .before .before .before .unrepeated .ensures) (c .before .before .before .before .before .if2 .left) _ (c .before .before .before .is-table .ensures) (not-false _ (c .before .before .if3 .left)) _ _ (c .before .item-end .ensures) (c .after .ensures); same = refl }
 
 pub fit-field-fit-one-requires-2 : (t : ℕ) → fit-field-lts.Need-fit-one-requires-2 (fit-field-claims t) (fit-field-at t) fit-field.Post fit-field-Inv-loop fit-field-μ-loop
 fit-field-fit-one-requires-2 t c κs = omega (arith, c .before .before .before .before .before .before .before .before .before .before .before .before .before .before .before .before .pre)

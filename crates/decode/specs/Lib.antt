@@ -1,2 +1,0 @@
--- The questions that the reader asks before its walk.
-pub mod Asked

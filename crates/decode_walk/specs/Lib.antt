@@ -1,2 +1,0 @@
--- What reading depends on.
-pub mod Local

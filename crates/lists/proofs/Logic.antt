@@ -1,0 +1,30 @@
+-- Two tests together: each from both, both from each.
+use mathlib.Core.Path.{_≡_, refl, sym}
+use mathlib.Core.Bool.{Bool, true, false, false≢true, _&&_, _||_}
+
+pub and-left : (a b : Bool) → (a && b) ≡ true → a ≡ true
+and-left true b h = refl
+and-left false b h = absurd (false≢true h)
+
+pub and-right : (a b : Bool) → (a && b) ≡ true → b ≡ true
+and-right true b h = h
+and-right false b h = absurd (false≢true h)
+
+pub both : (a b : Bool) → (a && b) ≡ true → (a ≡ true) × (b ≡ true)
+both a b h = (and-left a b h, and-right a b h)
+
+pub and : {a b : Bool} → a ≡ true → b ≡ true → (a && b) ≡ true
+and {a} {b} p q = rw (p, q)
+
+pub or-true : (b : Bool) → (b || true) ≡ true
+or-true true = refl
+or-true false = refl
+
+pub or-right : (a b : Bool) → b ≡ true → (a || b) ≡ true
+or-right true b h = refl
+or-right false b h = h
+
+-- the second, where the first fails
+pub or-else : (a b : Bool) → a ≡ false → (a || b) ≡ true → b ≡ true
+or-else true b f h = absurd (false≢true (sym f))
+or-else false b f h = h

@@ -1,0 +1,2 @@
+-- Positions that stop at 2^63.
+pub mod Positions

@@ -19,14 +19,15 @@ big-append : (acc : ℕ) (xs ys : List ℕ) → bigFrom acc (xs ++ ys) ≡ bigFr
 big-append acc [] ys = refl
 big-append acc (x ∷ xs) ys = big-append (acc * 256 + x) xs ys
 
+-- one byte more, in a word of 64 bits
+shifted : (x y : ℕ) → y < 256 → x % 2 ^ 64 % 0x100_0000_0000_0000 * 256 + y ≡ (x * 256 + y) % 2 ^ 64
+shifted x y l = omega arith
+
 pub big-go : (s : List ℕ) (i v b : ℕ) → i < length s → b ≡ getD s i 0 → b < 256 → v ≡ bigFrom 0 (take i s) % 2 ^ 64
     → v % 0x100_0000_0000_0000 * 256 + b ≡ bigFrom 0 (take (i + 1) s) % 2 ^ 64
 big-go s i v b h e k q =
     let m : bigFrom 0 (take (i + 1) s) ≡ bigFrom 0 (take i s) * 256 + getD s i 0 = rw (add-one, take-suc s i 0 h) (big-append 0 (take i s) (getD s i 0 ∷ [])) in
     rw (m, q, e) (shifted (bigFrom 0 (take i s)) (getD s i 0) (rw e at k))
-  where
-    shifted : (x y : ℕ) → y < 256 → x % 2 ^ 64 % 0x100_0000_0000_0000 * 256 + y ≡ (x * 256 + y) % 2 ^ 64
-    shifted x y l = omega arith
 
 pub little-go : (s : List ℕ) (i v b : ℕ) → 0 < i → i ≤ length s → b ≡ getD s (i - 1) 0 → b < 256 → v ≡ littleOf (drop i s) % 2 ^ 64
     → v % 0x100_0000_0000_0000 * 256 + b ≡ littleOf (drop (i - 1) s) % 2 ^ 64
@@ -34,9 +35,6 @@ little-go s i v b h l e k q =
     let j : suc (i - 1) ≡ i = omega arith in
     let d : drop (i - 1) s ≡ getD s (i - 1) 0 ∷ drop i s = drop-cons s (i - 1) 0 (omega arith) ∙ ap (λ (n : ℕ). getD s (i - 1) 0 ∷ drop n s) j in
     rw (d, q, e) (shifted (littleOf (drop i s)) (getD s (i - 1) 0) (rw e at k))
-  where
-    shifted : (x y : ℕ) → y < 256 → x % 2 ^ 64 % 0x100_0000_0000_0000 * 256 + y ≡ (x * 256 + y) % 2 ^ 64
-    shifted x y l = omega arith
 
 -- ---- bounds
 

@@ -1,5 +1,5 @@
 -- Binary: "p order, q signed 0/1", "Binary width 1..8"; Bool: "true if any raw byte is neither 0 nor 0x30".
-use mathlib.Core.List.{List, [], _∷_}
+use mathlib.Core.List.{List}
 use mathlib.Core.Bool.{Bool, true, false, not, _&&_, _||_, cond}
 use Prim.Native.Nat.{ℕ, _-_, _/_, _^_}
 use lib.Dec.{eqb, leb, ltb}

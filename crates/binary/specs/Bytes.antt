@@ -1,6 +1,6 @@
 -- A run of bytes as a number, and the bytes of a number. "Order: 0 Big, 1 Little."
 use mathlib.Core.List.{List, [], _∷_}
-use mathlib.Core.Bool.{Bool, cond}
+use mathlib.Core.Bool.{cond}
 use Prim.Native.Nat.{ℕ, zero, suc, _+_, _*_, _/_, _%_, _^_}
 use lib.Dec.{eqb}
 

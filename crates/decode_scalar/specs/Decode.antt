@@ -5,7 +5,7 @@ use Prim.Native.Nat.{ℕ, _%_}
 use lib.Dec.{eqb, leb}
 use lib.ListN.{length}
 use Rattle.value.specs.declared.Scalar.{Scalar}
-use Rattle.value.specs.declared.Scalar.the-variants.{Null, Text, Int, Decimal, Bool as BoolV}
+use Rattle.value.specs.declared.Scalar.the-variants.{Null, Text, Int, Bool as BoolV}
 use Rattle.value.specs.Answer.{Answer, refused as refusedBy, given}
 use Rattle.value.specs.Number.{Whole, number}
 use Rattle.value.specs.Scalar.{decimal}

@@ -1,7 +1,7 @@
 -- What is written into an Int or a Display field is read back, over any width and on either page.
 use mathlib.Core.Path.{_≡_, refl, sym, _∙_, ap}
 use mathlib.Core.List.{List, [], _∷_, _++_, map}
-use mathlib.Core.Bool.{Bool, true, false, _&&_, not, cond, false≢true}
+use mathlib.Core.Bool.{Bool, true, false, _&&_, not, cond}
 use Prim.Native.Nat.{ℕ, zero, suc, _-_, _^_, _<_, _≤_}
 use native.Mathlib.Nat.{not-suc-le-zero}
 use native.Mathlib.Omega.{arith}
@@ -15,6 +15,7 @@ use Rattle.value.proofs.Answers.{numberIn-fits}
 use Rattle.value.proofs.Field.{last-snoc, front-snoc}
 use Rattle.value.proofs.Room.{room-some, room-below}
 use Rattle.lists.proofs.Lists.{getD-map}
+use Rattle.lists.proofs.Logic.{and-right}
 use Rattle.ebcdic.specs.Ebcdic.{fromPage, ontoPage}
 use Rattle.ebcdic.proofs.Laws.{bytes-back, onto-byte}
 use Rattle.numerals.specs.Numerals.{isSign, signByte}
@@ -98,10 +99,6 @@ pub fits-separate : (w : ℕ) (negative : Bool) (size : ℕ) (signed : Bool) (si
     → intFits w negative size signed sign ≡ true
 unfolding intFits
 fits-separate w negative size signed sign s h k = rw (s, lt-ltb 0 (w - 1) (omega arith), lt-ltb size (10 ^ (w - 1)) k)
-
-and-right : (a b : Bool) → (a && b) ≡ true → b ≡ true
-and-right true b h = h
-and-right false b h = absurd (false≢true h)
 
 -- the digits have room
 fits-room : (w : ℕ) (negative : Bool) (size : ℕ) (signed : Bool) (sign : ℕ) → intFits w negative size signed sign ≡ true → roomFor (placesOf sign w) size ≡ true

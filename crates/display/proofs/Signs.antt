@@ -8,9 +8,8 @@ use native.Mathlib.Omega.{arith}
 use lib.Dec.{eqb}
 use lib.ListN.{length, getD, take, drop, length-map}
 use borrow.Author.Tests.{eq-eqb, ne-eqb}
-use Rattle.lists.proofs.Lists.{getD-map, map-take, map-drop, map-same}
+use Rattle.lists.proofs.Lists.{getD-map, map-take, map-drop}
 use Rattle.lists.proofs.Scan.{tail-part}
-use Rattle.ebcdic.specs.Ebcdic.{fromPage}
 use Rattle.value.specs.Number.{some, unlawful, withSign}
 use Rattle.numerals.specs.Numerals.{trimmed, keptOf, isSign}
 use Rattle.numerals.proofs.Reading.{kept-signed}
@@ -110,8 +109,3 @@ module _ (g : ℕ → ℕ) (sign : ℕ) (s t rest : List ℕ) (et : map g t ≡ 
     pub int-plain : ¬ (length u ≡ 0) → isSign (signAt sign (map g t)) ≡ false → wholeOf (map g u) ≡ intOf sign (map g s)
     unfolding intIn
     int-plain h k = sym (rw (length-map u g, ne-eqb (length u) 0 h, k)) ∙ int-is
-
--- bytes that stand on page 0 are ASCII already
-pub same-page : (s : List ℕ) → map (fromPage 0) s ≡ s
-unfolding fromPage
-same-page s = map-same s

@@ -1,7 +1,7 @@
 -- Int and Display fields, by computation.
 use mathlib.Core.Path.{_≡_, refl}
 use mathlib.Core.List.{List, [], _∷_, map}
-use mathlib.Core.Bool.{Bool, true, false}
+use mathlib.Core.Bool.{true, false}
 use Prim.Native.Nat.{ℕ, _^_}
 use Rattle.value.specs.Answer.{refused}
 use Rattle.value.specs.Number.{some}

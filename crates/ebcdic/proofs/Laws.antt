@@ -75,6 +75,10 @@ pub onto-table : (page : ℕ) → (page ≡ 0 → ⊥) → toEbcdic ≡ ontoPage
 unfolding ontoPage
 onto-table page e = λ i b. cond (sym (ne-eqb page 0 e) i) b (toEbcdic b)
 
+pub page-zero : (s : List ℕ) → map (fromPage 0) s ≡ s
+unfolding fromPage
+page-zero s = map-same s
+
 -- bytes that stay as they are
 pub copied-same : {f : ℕ → ℕ} → (λ b. b) ≡ f → (s out : List ℕ) → take (length out) s ++ drop (length s) out ≡ copied f s out
 copied-same e s out =

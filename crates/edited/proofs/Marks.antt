@@ -8,6 +8,7 @@ use native.Mathlib.Omega.{arith}
 use lib.Dec.{eqb, ltb, lit<}
 use lib.ListN.{length, getD}
 use borrow.Author.Tests.{eqb-true}
+use Rattle.lists.proofs.Logic.{both}
 use Rattle.value.proofs.Digits.{digit-below}
 use Rattle.edited.specs.Edited.{isIn, positions, isMark, follows, lawfulFrom, isLawful, digitByte, editByte, supAfter, editFrom, padOf, edited, countOf}
 
@@ -61,15 +62,11 @@ follower prev c e = by (eqb prev 67) (eqb prev 68) e
     by false true q = subst Mark (sym (eqb-true c 66 q)) blank
     by false false q = mark-of c q
 
-both-true : (a b : Bool) → (a && b) ≡ true → (a ≡ true) × (b ≡ true)
-both-true true b e = (refl, e)
-both-true false b e = absurd (false≢true e)
-
 marks-from : (prev : ℕ) (mask : List ℕ) → lawfulFrom prev mask ≡ true → All Mark mask
 unfolding lawfulFrom
 marks-from prev [] e = end
 marks-from prev (c ∷ m) e =
-    let b = both-true (follows prev c) (lawfulFrom c m) e in
+    let b = both (follows prev c) (lawfulFrom c m) e in
     one (follower prev c (b .0)) (marks-from c m (b .1))
 
 pub marks-of : (mask : List ℕ) → isLawful mask ≡ true → All Mark mask

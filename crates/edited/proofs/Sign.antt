@@ -8,6 +8,7 @@ use lib.Dec.{eqb, leb, ltb}
 use lib.ListN.{length, getD, length-append}
 use lib.Seq.{getD-at, getD-append-add}
 use borrow.Author.Tests.{eq-eqb, ne-eqb, le-leb, lt-leb}
+use Rattle.lists.proofs.Logic.{or-true}
 use Rattle.lists.specs.Scan.{leftBy, joinBy, rightBy}
 use Rattle.value.specs.Field.{lastOf}
 use Rattle.value.proofs.Digits.{digit-below}
@@ -160,10 +161,6 @@ module _ (a : ℕ) (w : List ℕ) (hl : leftBy isBlank (a ∷ w) ≡ a ∷ w) (h
   trim-keeps xs =
       let l = left-keeps xs in
       record { rest = l .rest; is = ap (rightBy isBlank) (l .is) ∙ right-keeps (l .rest) }
-
-or-true : (b : Bool) → (b || true) ≡ true
-or-true true = refl
-or-true false = refl
 
 by-minus : (t : List ℕ) → minusAtAnEnd t ≡ true → negativeOf t ≡ true
 unfolding negativeOf

@@ -1,6 +1,6 @@
 -- The values that fit a scalar field of a width w, kind by kind: the scalar part of "Plain layouts, fitting lists". A Text's and a Hex's bytes are given beside it.
 use mathlib.Core.Path.{_≡_}
-use mathlib.Core.List.{List, [], _∷_}
+use mathlib.Core.List.{List}
 use mathlib.Core.Bool.{Bool, true, false}
 use Prim.Native.Nat.{ℕ, _-_, _*_, _/_, _%_, _^_, _<_, _≤_}
 use lib.ListN.{length}

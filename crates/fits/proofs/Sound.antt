@@ -7,6 +7,7 @@ use lib.Dec.{eqb, leb, ltb}
 use lib.ListN.{length}
 use lib.Ieee.{Float, binary64, fits, isNan, ofBits, toBits, nanBits}
 use borrow.Author.Tests.{lt-ltb, le-leb, eq-eqb, eqb-true, ltb-true, leb-true}
+use Rattle.lists.proofs.Logic.{both, and}
 use Rattle.value.specs.declared.Scalar.{Scalar}
 use Rattle.value.specs.declared.Scalar.the-variants.{Null, Text, Int, Decimal, Float as FloatV, FloatBits, Bool as BoolV}
 use Rattle.value.specs.Digits.{limit}
@@ -18,7 +19,7 @@ use Rattle.float.proofs.Back.{exact-true, true-exact, exact-lt}
 use Rattle.decode_scalar.specs.Decode.{flag}
 use Rattle.encode_scalar.specs.Fits.{Fits, text-fits, int-fits, binary-fits, float-fits, hex-fits, bool-fits, display-fits, packed-fits, zoned-fits, edited-fits}
 use Rattle.fits.specs.Decide.{textFits, hexFits, digitsFit, intFits, inRange, binaryFits, wordFits, signOk, displayFits, packedFits, zonedFits, decimalFits, editedMinusOk, maskFits, editedFits, fitsOf}
-use Rattle.fits.proofs.Tests.{both, and, text-sound, text-complete, hex-sound, hex-complete, sign-sound, sign-complete, digits-sound, digits-complete, range-sound, range-complete, plain-float, float-plain, edited-sound, edited-complete}
+use Rattle.fits.proofs.Tests.{text-sound, text-complete, hex-sound, hex-complete, sign-sound, sign-complete, digits-sound, digits-complete, range-sound, range-complete, plain-float, float-plain, edited-sound, edited-complete}
 
 module _ (p q r s : ℕ) (mask : List ℕ) (w : ℕ) (t : List ℕ) where
   text-so : (kind start count : ℕ) → cond (eqb kind 0) (textFits (flag p) (flag q) (r % 256) w t) (eqb kind 4 && hexFits w t) ≡ true → Fits p q r s mask w kind (Text start count) t

@@ -9,6 +9,7 @@ use lib.ListN.{length, getD}
 use lib.Ieee.{Float, nan, inf, fin, binary64, eq, ne, fits, isNan, toBits}
 use lib.Ieee.Compare.{differs-from-itself}
 use borrow.Author.Tests.{lt-ltb, le-ltb, le-leb, lt-leb, eq-eqb, ne-eqb, ltb-true, ltb-false, leb-true, leb-false}
+use Rattle.lists.proofs.Logic.{and}
 use Rattle.lists.proofs.Scan.{every-true}
 use Rattle.value.specs.Answer.{given}
 use Rattle.value.specs.Number.{number as whole-number}
@@ -22,7 +23,6 @@ use Rattle.binary.proofs.Integers.{width-low, width-high, half-twice, halfAt}
 use Rattle.hex.specs.Hex.{isLower}
 use Rattle.edited.specs.Edited.{judged, isLawful, isFloating, countOf, positions}
 use Rattle.fits.specs.Decide.{byteOk, isTextByte, untrimmedFits, minusOk, digitsFit, inRange, lastTwo, tells, maskFits, wordFits}
-use Rattle.fits.proofs.Tests.{and}
 
 -- ---- a test, and another where it passes
 

@@ -13,6 +13,7 @@ use lib.Ieee.Bits.{ofBits-toBits, ofBits-fits, nanBits-is, is-true}
 use borrow.Author.Tests.{lt-ltb, le-leb, eq-eqb, ne-eqb, eqb-true, ltb-true, leb-true, not-true}
 use Rattle.lists.specs.Scan.{everyBy}
 use Rattle.lists.proofs.Scan.{every-true, every-head, every-tail}
+use Rattle.lists.proofs.Logic.{both, and, or-right, or-else}
 use Rattle.value.specs.declared.Scalar.the-variants.{Float as FloatV}
 use Rattle.value.specs.Digits.{limit}
 use Rattle.value.specs.Field.{lastOf}
@@ -28,25 +29,6 @@ use Rattle.edited.specs.Fits.Tells.{first-plus, first-minus, last-plus, last-mi
 use Rattle.decode_scalar.specs.Decode.{flag}
 use Rattle.encode_scalar.specs.Fits.{Minus, Digits, plain, separate, InRange, unsigned, plus, minus, Signed}
 use Rattle.fits.specs.Decide.{byteOk, isTextByte, cutEndOk, textFits, hexFits, minusOk, digitsFit, inRange, signOk, lastTwo, tells, editedMinusOk, maskFits}
-
--- ---- two tests
-
-pub both : (a b : Bool) → (a && b) ≡ true → (a ≡ true) × (b ≡ true)
-both true true e = (refl, refl)
-both true false e = absurd (false≢true e)
-both false b e = absurd (false≢true e)
-
-pub and : {a b : Bool} → a ≡ true → b ≡ true → (a && b) ≡ true
-and {a} {b} p q = rw (p, q)
-
--- a test, and another where the first fails
-pub either : (a b : Bool) → (a || b) ≡ true → (a ≡ false → b ≡ true)
-either true b e f = absurd (false≢true (sym f))
-either false b e f = e
-
-or-right : (a b : Bool) → b ≡ true → (a || b) ≡ true
-or-right true b e = refl
-or-right false b e = e
 
 -- ---- Text
 
@@ -66,7 +48,7 @@ text-sound right true pad w t e =
       bytes = λ k h. ltb-true (getD t k 0) 256 (at k h .1);
       room = leb-true (length t) w (a .0);
       noZero = λ _ k h z. let p = ltb-true 0 (getD t k 0) (at k h .0) in omega arith;
-      noPad = λ _ h z. absurd (false≢true (sym (ap not (eq-eqb end pad z)) ∙ either (eqb (length t) 0) (not (eqb end pad)) (b .1) (ne-eqb (length t) 0 (λ q. omega arith))));
+      noPad = λ _ h z. absurd (false≢true (sym (ap not (eq-eqb end pad z)) ∙ or-else (eqb (length t) 0) (not (eqb end pad)) (ne-eqb (length t) 0 (λ q. omega arith)) (b .1)));
       whole = λ f. absurd (false≢true (sym f));
     }
 text-sound right false pad w t e =

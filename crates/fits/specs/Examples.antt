@@ -5,7 +5,6 @@ use mathlib.Core.List.{List, [], _∷_}
 use Prim.Native.Nat.{ℕ, _-_, _^_}
 use lib.Ieee.{inf, ofBits, toBits, nanBits, isNan, fits}
 use Rattle.lists.specs.Scan.{everyBy}
-use Rattle.value.specs.declared.Scalar.{Scalar}
 use Rattle.value.specs.declared.Scalar.the-variants.{Null, Text, Int, Float as FloatV, FloatBits, Bool as BoolV}
 use Rattle.value.specs.Scalar.{decimal}
 use Rattle.float.specs.Half.{halfWord}

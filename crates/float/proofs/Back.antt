@@ -12,6 +12,7 @@ use lib.Ieee.Bits.{ofBits-toBits, toBits-ofBits, toBits-lt, ofBits-fits, nanBits
 use lib.Ieee.Fits.{fits-widens, round-fits}
 use lib.Ieee.Exact.{HasValue, round-exact}
 use borrow.Author.Tests.{lt-leb, le-leb, leb-true, leb-false, eqb-true, eqb-false, ne-eqb, eq-eqb, lt-ltb, le-ltb, ltb-true, not-true}
+use Rattle.lists.proofs.Logic.{both}
 use Rattle.value.specs.Scalar.{floatOf}
 use Rattle.value.proofs.Nans.{no-nan-pattern}
 use Rattle.binary.proofs.Words.{word-back, bytes-length}
@@ -295,11 +296,6 @@ half-lt w = by (leb (2 ^ 63) w) (cut (singleWord w)) (cut-lt (singleWord w))
     by : (s : Bool) (n : ℕ) → n < 32768 → cond s 32768 0 + n < 2 ^ 16
     by true n h = omega arith
     by false n h = omega arith
-
-both : (a b : Bool) → (a && b) ≡ true → (a ≡ true) × (b ≡ true)
-both true true e = (refl, refl)
-both true false e = absurd (false≢true e)
-both false b e = absurd (false≢true e)
 
 pub exact-true : (bits w : ℕ) → exactIn bits w ≡ true → Exact bits w
 unfolding exactIn

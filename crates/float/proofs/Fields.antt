@@ -48,6 +48,10 @@ pub pattern-top : (f : Format) (b : ℕ) → b % top f / hid f ≡ ones f → of
 unfolding ofBits
 pattern-top f b h = fields-top f (leb (top f) b) (b % top f / hid f) (b % hid f) h
 
+-- a field that is not the highest, of an f64's word
+pub field-lt : (b : ℕ) → (b % 2 ^ 63 / 2 ^ 52 ≡ 2047 → ⊥) → b % 2 ^ 63 / 2 ^ 52 < 2047
+field-lt b n = omega arith
+
 -- ---- the significand
 pub sig-lt : (h e t : ℕ) → t < h → sig h e t < 2 * h
 sig-lt h e t l = go (eqb e 0)
@@ -58,3 +62,11 @@ sig-lt h e t l = go (eqb e 0)
 
 pub sig-ge : (h e t : ℕ) → (e ≡ 0 → ⊥) → h ≤ sig h e t
 sig-ge h e t n = subst (λ (b : Bool). h ≤ cond b t (h + t)) (sym (ne-eqb e 0 n)) (omega arith)
+
+-- an f64's, m being what a call answered for it
+module _ {m : ℕ} (x t : ℕ) (e : m ≡ sig (2 ^ 52) x t) where
+  pub m-lt : t < 2 ^ 52 → m < 2 ^ 53
+  m-lt l = subst (λ (n : ℕ). n < 2 ^ 53) (sym e) (sig-lt (2 ^ 52) x t l)
+
+  pub m-ge : (x ≡ 0 → ⊥) → 2 ^ 52 ≤ m
+  m-ge n = subst (λ (k : ℕ). 2 ^ 52 ≤ k) (sym e) (sig-ge (2 ^ 52) x t n)

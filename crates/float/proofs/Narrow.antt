@@ -18,25 +18,25 @@ use lib.Ieee.Scale.{round-same}
 use borrow.Author.Tests.{ltb-true, ltb-false, lt-ltb, le-leb, lt-leb, ne-eqb, eq-eqb}
 use Rattle.float.specs.Half.{sig}
 use Rattle.float.specs.Single.{narrow, singleWord, singleSize}
-use Rattle.float.proofs.Fields.{pattern-value, pattern-top}
+use Rattle.float.proofs.Fields.{pattern-value, pattern-top, field-lt}
 use Rattle.float.proofs.Values.{bitsAt, bits-of-value}
 
 -- ---- a number's digits
 size-exact : (a n : ℕ) → 2 ^ a ≤ n → n < 2 ^ suc a → size n ≡ suc a
 size-exact a n lo hi = le-antisymm (size-le n (suc a) hi) (lt-of-not-le (λ (g : size n ≤ a). lt-irrefl n (lt-of-lt-of-le (size-lt n) (le-trans (pow-mono g) lo))))
 
+past-24 : (k : ℕ) → suc (23 + k) - 24 ≡ k
+past-24 k = omega arith
+
 -- ---- the bits of q * 2 ^ k smallest values of binary32, below the infinity
 sized : (q k : ℕ) → 2 ^ 23 ≤ q → q < 2 ^ 24 → size (q * 2 ^ k) - 24 ≡ k
 sized q k lo hi =
     ap (λ (z : ℕ). z - 24)
     (size-exact (23 + k) (q * 2 ^ k) (le-trans (le-of-eq (pow-add 2 23 k)) (mul-le-mul-right (2 ^ k) lo)) (subst (λ (z : ℕ). q * 2 ^ k < 2 ^ z) (more k) (shl-lt 24 k hi)))
-    ∙ less k
+    ∙ past-24 k
   where
     more : (k : ℕ) → 24 + k ≡ suc (23 + k)
     more k = omega arith
-
-    less : (k : ℕ) → suc (23 + k) - 24 ≡ k
-    less k = omega arith
 
 bits-normal : (s : Bool) (q k : ℕ) → 2 ^ 23 ≤ q → q < 2 ^ 24 → bitsAt binary32 s (q * 2 ^ k) ≡ cond s (2 ^ 31) 0 + (k * 2 ^ 23 + q)
 bits-normal s q k lo hi =
@@ -140,13 +140,10 @@ digits m k lo hi =
     (le-div-iff-mul-le (pow-pos 29) .1 (le-trans (le-of-eq (ap (λ (z : ℕ). z * 2 ^ 29) (pow-add 2 23 k) ∙ mul-right-comm (2 ^ 23) (2 ^ k) (2 ^ 29))) (mul-le-mul-right (2 ^ k) lo)))
     (div-lt-iff-lt-mul (pow-pos 29) .1
     (lt-of-lt-of-le (mul-lt-mul-of-pos-right hi (pow-pos k)) (le-of-eq (sym (ap (λ (z : ℕ). 2 ^ z * 2 ^ 29) (more k) ∙ ap (λ (z : ℕ). z * 2 ^ 29) (pow-add 2 24 k) ∙ mul-right-comm (2 ^ 24) (2 ^ k) (2 ^ 29)))))))
-    ∙ less k
+    ∙ past-24 k
   where
     more : (k : ℕ) → suc (23 + k) ≡ 24 + k
     more k = omega arith
-
-    less : (k : ℕ) → suc (23 + k) - 24 ≡ k
-    less k = omega arith
 
 -- in the normal range, j = k + 896
 round-high : (s : Bool) (m k : ℕ) → 2 ^ 52 ≤ m → m < 2 ^ 53 → round binary32 s (m * 2 ^ (k + 896)) (2 ^ 1074) ≡ units binary32 s (closest m (2 ^ 29)) k
@@ -182,6 +179,13 @@ round-low s m j i hi e l =
     total : (j i : ℕ) → j + i ≡ 925 → j + 149 + i ≡ 1074
     total j i e = omega arith
 
+-- the 24 digits that are kept of 53
+kept-least : (m : ℕ) → 2 ^ 52 ≤ m → 2 ^ 23 ≤ m / 2 ^ 29
+kept-least m h = omega arith
+
+kept-most : (m : ℕ) → m < 2 ^ 53 → m / 2 ^ 29 < 2 ^ 24
+kept-most m h = omega arith
+
 -- ---- so, the pattern of m * 2 ^ j * 2 ^ -1074 at binary32
 closest-le : (m d b : ℕ) → m / d < b → closest m d ≤ b
 closest-le m d b h = le-trans (nearest-le (m / d) (compare (m % d * 2) d)) h
@@ -190,13 +194,7 @@ pub single-high : (s : Bool) (m j k : ℕ) → 2 ^ 52 ≤ m → m < 2 ^ 53 → j
 single-high s m j k lo hi e =
     ap (λ (i : ℕ). toBits binary32 (round binary32 s (m * 2 ^ i) (2 ^ 1074))) e
     ∙ ap (toBits binary32) (round-high s m k lo hi)
-    ∙ above s (closest m (2 ^ 29)) k (le-trans (least m lo) (nearest-ge (m / 2 ^ 29) (compare (m % 2 ^ 29 * 2) (2 ^ 29)))) (closest-le m (2 ^ 29) (2 ^ 24) (most m hi))
-  where
-    least : (m : ℕ) → 2 ^ 52 ≤ m → 2 ^ 23 ≤ m / 2 ^ 29
-    least m h = omega arith
-
-    most : (m : ℕ) → m < 2 ^ 53 → m / 2 ^ 29 < 2 ^ 24
-    most m h = omega arith
+    ∙ above s (closest m (2 ^ 29)) k (le-trans (kept-least m lo) (nearest-ge (m / 2 ^ 29) (compare (m % 2 ^ 29 * 2) (2 ^ 29)))) (closest-le m (2 ^ 29) (2 ^ 24) (kept-most m hi))
 
 pub single-low : (s : Bool) (m j i : ℕ) → m < 2 ^ 53 → j + i ≡ 925 → 30 ≤ i → toBits binary32 (round binary32 s (m * 2 ^ j) (2 ^ 1074)) ≡ pattern s (closest m (2 ^ i)) 0
 single-low s m j i hi e l =
@@ -272,10 +270,7 @@ low-size m j i hi e l =
     ∙ sym (single-low false m j i hi e l)
 
 pub high-le : (m : ℕ) → m < 2 ^ 53 → closest m (2 ^ 29) ≤ 2 ^ 24
-high-le m h = closest-le m (2 ^ 29) (2 ^ 24) (most m h)
-  where
-    most : (m : ℕ) → m < 2 ^ 53 → m / 2 ^ 29 < 2 ^ 24
-    most m h = omega arith
+high-le m h = closest-le m (2 ^ 29) (2 ^ 24) (kept-most m h)
 
 pub high-size : (m j k : ℕ) → 2 ^ 52 ≤ m → m < 2 ^ 53 → j ≡ k + 896 → k ≤ 253 → k * 2 ^ 23 + closest m (2 ^ 29) ≡ toBits binary32 (round binary32 false (m * 2 ^ j) (2 ^ 1074))
 high-size m j k lo hi e l = under (closest m (2 ^ 29)) k (high-le m hi) l ∙ sym (single-high false m j k lo hi e)
@@ -285,11 +280,8 @@ high-size m j k lo hi e l = under (closest m (2 ^ 29)) k (high-le m hi) l ∙ sy
 
 pub high-over : (m j k : ℕ) → 2 ^ 52 ≤ m → m < 2 ^ 53 → j ≡ k + 896 → 253 < k → 255 * 2 ^ 23 ≡ toBits binary32 (round binary32 false (m * 2 ^ j) (2 ^ 1074))
 high-over m j k lo hi e l =
-    over (closest m (2 ^ 29)) k (le-trans (least m lo) (nearest-ge (m / 2 ^ 29) (compare (m % 2 ^ 29 * 2) (2 ^ 29)))) l ∙ sym (single-high false m j k lo hi e)
+    over (closest m (2 ^ 29)) k (le-trans (kept-least m lo) (nearest-ge (m / 2 ^ 29) (compare (m % 2 ^ 29 * 2) (2 ^ 29)))) l ∙ sym (single-high false m j k lo hi e)
   where
-    least : (m : ℕ) → 2 ^ 52 ≤ m → 2 ^ 23 ≤ m / 2 ^ 29
-    least m h = omega arith
-
     over : (q k : ℕ) → 2 ^ 23 ≤ q → 253 < k → 255 * 2 ^ 23 ≡ 0 + min (k * 2 ^ 23 + q) (255 * 2 ^ 23)
     over q k h l = omega arith
 
@@ -316,9 +308,6 @@ pub single-finite : (w : ℕ) → (w % 2 ^ 63 / 2 ^ 52 ≡ 2047 → ⊥) → sin
 single-finite w n =
     ap (toBits binary32) (narrow-value (ofBits binary64 w) (leb (2 ^ 63) w) _ (2 ^ 1074) (pow-pos 1074) (pattern-value binary64 w (field-lt w n)))
     ∙ round-sign (leb (2 ^ 63) w) (sig (2 ^ 52) (w % 2 ^ 63 / 2 ^ 52) (w % 2 ^ 52) * 2 ^ (w % 2 ^ 63 / 2 ^ 52 - 1)) (2 ^ 1074)
-  where
-    field-lt : (b : ℕ) → (b % 2 ^ 63 / 2 ^ 52 ≡ 2047 → ⊥) → b % 2 ^ 63 / 2 ^ 52 < 2047
-    field-lt b n = omega arith
 
 -- at the highest field: by whether the digits are 0
 pub single-top : (w : ℕ) {s z : Bool} → w % 2 ^ 63 / 2 ^ 52 ≡ 2047 → leb (2 ^ 63) w ≡ s → eqb (w % 2 ^ 52) 0 ≡ z → toBits binary32 (cond z (inf s) nan) ≡ singleWord w

@@ -1,8 +1,7 @@
 -- A float by its own bit pattern, and the decimal that it makes.
 use mathlib.Core.Path.{_≡_, sym, ap, _∙_, subst}
 use mathlib.Core.Bool.{Bool, true, false, not, cond, true≢false}
-use Prim.Native.Nat.{ℕ, _-_, _*_, _/_, _%_, _^_, _<_}
-use native.Mathlib.Omega.{arith}
+use Prim.Native.Nat.{_-_, _*_, _/_, _%_, _^_}
 use lib.Dec.{T, eqb, leb}
 use lib.Ieee.{Float, nan, inf, fin, binary64, isNan, ne, fits, toBits}
 use lib.Ieee.Bits.{ofBits-toBits}
@@ -12,7 +11,7 @@ use Rattle.float.specs.Half.{sig}
 use Rattle.value.specs.Answer.{refused}
 use Rattle.value.specs.Number.{noNumber}
 use Rattle.float.specs.Decimal.{decimalOf}
-use Rattle.float.proofs.Fields.{pattern-value, pattern-top}
+use Rattle.float.proofs.Fields.{pattern-value, pattern-top, field-lt}
 
 -- what equals itself is no NaN
 pub equal-no-nan : (y : Float) → ne y y ≡ false → T (not (isNan y))
@@ -34,9 +33,6 @@ infinite y h n e =
     go : (t : Bool) → y ≡ cond t (inf (leb (2 ^ 63) (toBits binary64 y))) nan → (s : Bool) × (y ≡ inf s)
     go true q = (leb (2 ^ 63) (toBits binary64 y), q)
     go false q = absurd (no-nan y n q)
-
-field-lt : (b : ℕ) → (b % 2 ^ 63 / 2 ^ 52 ≡ 2047 → ⊥) → b % 2 ^ 63 / 2 ^ 52 < 2047
-field-lt b n = omega arith
 
 -- a lower one: the value of its fields
 pub own-value : (y : Float) → T (fits binary64 y) → let b = toBits binary64 y in

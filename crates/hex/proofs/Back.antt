@@ -1,6 +1,6 @@
 -- A text of lower-case digits that was written into a Hex field is read back.
 use mathlib.Core.Path.{_≡_, refl, ap, _∙_}
-use mathlib.Core.Bool.{Bool, true, false, _&&_, cond, false≢true}
+use mathlib.Core.Bool.{Bool, true, false, cond}
 use mathlib.Core.List.{List, [], _∷_, append-nil}
 use Prim.Native.Nat.{ℕ, _+_, _-_, _*_, _/_, _%_, _<_}
 use native.Mathlib.Omega.{arith}
@@ -10,17 +10,10 @@ use lib.ListN.{length, replicate, length-append, length-replicate}
 use borrow.Author.Tests.{eqb-true, ltb-true, lt-ltb, eq-eqb, ne-eqb, le-leb, lt-leb}
 use Rattle.lists.specs.Scan.{everyBy}
 use Rattle.lists.proofs.Scan.{keep-every, every-weaker, every-head, every-tail}
+use Rattle.lists.proofs.Logic.{and-left, and-right}
 use Rattle.value.proofs.Digits.{high-digit, low-digit}
 use Rattle.hex.specs.Hex.{hexDigit, hexPair, hexOf, nibbleIn, isHex, isInk, digitsIn, pairOf, pairUp, judgedOf, bytesOf, isLower, Fits}
 use Rattle.hex.proofs.Laws.{fine}
-
-both-left : (a b : Bool) → (a && b) ≡ true → a ≡ true
-both-left true b e = refl
-both-left false b e = absurd (false≢true e)
-
-both-right : (a b : Bool) → (a && b) ≡ true → b ≡ true
-both-right true b e = e
-both-right false b e = absurd (false≢true e)
 
 -- a digit is no blank
 ink : (x : ℕ) → isLower x ≡ true → isInk x ≡ true
@@ -29,7 +22,7 @@ ink x e = go (decLt x 48)
     go : Dec (x < 48) → isInk x ≡ true
     go (yes h) =
         let n : nibbleIn x ≡ 16 = rw (lt-ltb x 48 h) in
-        let l : nibbleIn x < 16 = ltb-true (nibbleIn x) 16 (both-left (isHex x) (eqb (hexDigit (nibbleIn x)) x) e) in
+        let l : nibbleIn x < 16 = ltb-true (nibbleIn x) 16 (and-left (isHex x) (eqb (hexDigit (nibbleIn x)) x) e) in
         absurd (omega arith)
     go (no h) = rw (ne-eqb x 32 (omega arith), le-leb 9 x (omega arith), lt-leb x 13 (omega arith))
 
@@ -38,10 +31,10 @@ unfolding digitsIn
 all-ink t h = keep-every isInk t (every-weaker isLower isInk ink t h)
 
 small : (x : ℕ) → isLower x ≡ true → nibbleIn x < 16
-small x e = ltb-true (nibbleIn x) 16 (both-left (isHex x) (eqb (hexDigit (nibbleIn x)) x) e)
+small x e = ltb-true (nibbleIn x) 16 (and-left (isHex x) (eqb (hexDigit (nibbleIn x)) x) e)
 
 same : (x : ℕ) → isLower x ≡ true → hexDigit (nibbleIn x) ≡ x
-same x e = eqb-true (hexDigit (nibbleIn x)) x (both-right (isHex x) (eqb (hexDigit (nibbleIn x)) x) e)
+same x e = eqb-true (hexDigit (nibbleIn x)) x (and-right (isHex x) (eqb (hexDigit (nibbleIn x)) x) e)
 
 pair-back : (order a b : ℕ) → isLower a ≡ true → isLower b ≡ true → hexPair order (pairOf order a b) ≡ a ∷ b ∷ []
 pair-back order a b p q = by (eqb order 0)
@@ -78,7 +71,7 @@ unfolding judgedOf
 hex-fits w t f =
     let l = f .long in
     let e : length t % 2 ≡ 0 = omega arith in
-    rw (all-ink t (f .lower), every-weaker isLower isHex (λ x q. both-left (isHex x) (eqb (hexDigit (nibbleIn x)) x) q) t (f .lower), eq-eqb (length t % 2) 0 e, le-leb (length t) (2 * w) (omega arith))
+    rw (all-ink t (f .lower), every-weaker isLower isHex (λ x q. and-left (isHex x) (eqb (hexDigit (nibbleIn x)) x) q) t (f .lower), eq-eqb (length t % 2) 0 e, le-leb (length t) (2 * w) (omega arith))
 
 pairs-length : (order : ℕ) (t : List ℕ) → length (pairUp order t) ≡ length t / 2
 pairs-length order [] = refl

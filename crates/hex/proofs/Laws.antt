@@ -111,6 +111,9 @@ judged-bad width text i n h e x j =
     let b : everyBy isHex (digitsIn text) ≡ false = j .lawful ∙ rw (keep text i h e, x) in
     rw b
 
+even : (n : ℕ) → (n % 2 ≡ 1 → ⊥) → n % 2 ≡ 0
+even n o = omega arith
+
 module _ (width : ℕ) (text : List ℕ) (i n : ℕ) (h : length text ≤ i) (j : Judged text i n) where
   all-lawful : everyBy isHex (digitsIn text) ≡ true
   unfolding everyBy
@@ -126,16 +129,10 @@ module _ (width : ℕ) (text : List ℕ) (i n : ℕ) (h : length text ≤ i) (j 
   pub judged-long : (n % 2 ≡ 1 → ⊥) → width < n / 2 → 14 ≡ judgedOf width text
   unfolding judgedOf
   judged-long o l = rw (all-lawful, all-seen, eq-eqb (n % 2) 0 (even n o), lt-leb n (2 * width) (omega arith))
-    where
-      even : (n : ℕ) → (n % 2 ≡ 1 → ⊥) → n % 2 ≡ 0
-      even n o = omega arith
 
   pub judged-fine : (n % 2 ≡ 1 → ⊥) → n / 2 ≤ width → 0 ≡ judgedOf width text
   unfolding judgedOf
   judged-fine o l = let e : n % 2 ≡ 0 = even n o in rw (all-lawful, all-seen, eq-eqb (n % 2) 0 e, le-leb n (2 * width) (omega arith))
-    where
-      even : (n : ℕ) → (n % 2 ≡ 1 → ⊥) → n % 2 ≡ 0
-      even n o = omega arith
 
 -- what a text that is not refused has
 pub fine : (width : ℕ) (text : List ℕ) → judgedOf width text ≡ 0 → (everyBy isHex (digitsIn text) ≡ true) × ((length (digitsIn text) % 2 ≡ 0) × (length (digitsIn text) ≤ 2 * width))

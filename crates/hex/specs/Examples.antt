@@ -1,6 +1,6 @@
 -- Worked examples, by computation.
 use mathlib.Core.Path.{_≡_, refl}
-use mathlib.Core.List.{List, [], _∷_}
+use mathlib.Core.List.{[], _∷_}
 use Rattle.lists.specs.Scan.{keepBy, everyBy}
 use Rattle.hex.specs.Hex.{hexOf, digitsIn, judgedOf, bytesOf}
 

@@ -5,11 +5,8 @@ use Prim.Native.Nat.{ℕ, zero, suc, _+_, _*_, _/_, _%_, max}
 use lib.Dec.{eqb, leb}
 use lib.ListN.{length, getD}
 use Rattle.layout.specs.declared.Entry.{Entry}
+pub use Rattle.lists.specs.Absent.{absent}
 use Rattle.spans.specs.Tree.{Tree, none, node, tree, nested}
-
--- "occurs and depending may be 4294967295, absent"
-abbrev pub absent : ℕ
-absent = 4294967295
 
 abbrev pub present : ℕ → Bool
 present n = not (eqb n absent)

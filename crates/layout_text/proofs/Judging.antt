@@ -18,15 +18,11 @@ use Rattle.layout_text.specs.declared.Said.{Said}
 use Rattle.layout_text.specs.declared.Number.{Number}
 use Rattle.layout_text.specs.declared.Judged.{Judged}
 use Rattle.layout_text.specs.Form.{linesOf, ended, isNumber, says, lineIn, countOf, kindSaid, all, entryLawful, lawful, pageWord, spanWord}
-use Rattle.layout_text.specs.Reading.{numberSaid, scaleOf, precisionOf, masksBelow}
+use Rattle.layout_text.specs.Reading.{numberSaid, scaleOf, precisionOf, maskWordOf, masksBelow}
 use Rattle.layout_text.specs.Walk.{Here, PageTold, Told, Tells, entryWith, fineAlone, bareSaid, fineIn, notLawful, Finds}
 use Rattle.layout_text.proofs.Place.{here-end, here-more}
 
 -- ---- question 2 of one entry
-
-same-zero : (t : Bool) → _≡_ {A = ℕ} (cond t 0 0) 0
-same-zero true = refl
-same-zero false = refl
 
 bare-is : (text : List ℕ) (k at : ℕ) (s : Said) → Told text k at s → entryWith s 0 0 0 ≡ bareSaid (linesOf text) k
 unfolding entryWith bareSaid
@@ -42,7 +38,7 @@ bare-is text k at s t = λ i. record {
   q = t .q i;
   r = scaleOf (t .kind i) (t .r i);
   s = precisionOf (t .kind i) (t .r i);
-  mask = same-zero (eqb (s .kind) 8) i;
+  mask = maskWordOf (t .kind i) 0;
 }
 
 fine-is : (text : List ℕ) (k at : ℕ) (s : Said) → Told text k at s → fineAlone s ≡ fineIn (linesOf text) k

@@ -3,7 +3,7 @@ use mathlib.Core.Path.{_≡_, refl, sym, ap, _∙_, subst}
 use mathlib.Core.Bool.{Bool, true, false, _&&_, _||_, not, cond, false≢true}
 use mathlib.Core.List.{List, [], _∷_, map}
 use Prim.Native.Nat.{ℕ, zero, suc, _+_, _-_, _*_, _≤_, _<_}
-use native.Mathlib.Nat.{le-trans, suc-ne-zero}
+use native.Mathlib.Nat.{suc-ne-zero}
 use native.Mathlib.Omega.{arith}
 use lib.Dec.{eqb, leb, ltb}
 use lib.ListN.{length, take, drop, length-drop}
@@ -15,8 +15,9 @@ use Rattle.value.specs.Digits.{valueFrom, isDigit, digitIn}
 use Rattle.lists.proofs.Logic.{and-left, and-right}
 use Rattle.layout.specs.Layout.{absent}
 use Rattle.value.specs.Answer.{Answer, refused, given}
-use Rattle.lines.specs.Lines.{Place, place, valueAt, leads, bound, numberOf, inName, nameOk, maskOk}
+use Rattle.lines.specs.Lines.{Place, place, valueAt, leads, numberOf, inName, nameOk, maskOk}
 use Rattle.lines.proofs.Inside.{value-inside, Inside}
+use Rattle.lines.proofs.Laws.{grows}
 use Rattle.layout_text.specs.declared.Part.{Part}
 use Rattle.layout_text.specs.Form.{isNone, isValue, worth, isNumber, optional, maskFor}
 use Rattle.layout_text.specs.Walk.{failed, partOf, lineAt, bytesOf, Within, numberWith, numberIn, optionIn, nameIn, dependingIn, maskIn}
@@ -141,10 +142,6 @@ name-is text p e = rw e refl
 
 -- ---- lengths
 
-grows : (v : ℕ) (s : List ℕ) → v ≤ valueFrom v (map digitIn s)
-grows v [] = omega arith
-grows v (x ∷ s) = le-trans {m = v * 10 + digitIn x} (omega arith) (grows (v * 10 + digitIn x) s)
-
 -- ten digits behind another that is not 0 make a number of 10^10 or more
 ten-more : (v : ℕ) (s : List ℕ) → 1 ≤ v → valueFrom v (map digitIn s) < 10000000000 → length s ≤ 9
 ten-more v [] h k = omega arith
@@ -174,18 +171,18 @@ lead-digit x d e = by (eqb x 0x30) refl e
 -- "Numbers are below 4294967295", and have no leading zero: so they have at most ten digits
 pub number-short : (s : List ℕ) → isNumber s ≡ true → length s ≤ 10
 unfolding numberOf
-number-short s e = by (leads s && (everyBy isDigit s && ltb (valueFrom 0 (map digitIn s)) bound)) refl e
+number-short s e = by (leads s && (everyBy isDigit s && ltb (valueFrom 0 (map digitIn s)) absent)) refl e
   where
-    by : (t : Bool) → (leads s && (everyBy isDigit s && ltb (valueFrom 0 (map digitIn s)) bound)) ≡ t → isValue (cond t (given (valueFrom 0 (map digitIn s))) (refused 17)) ≡ true → length s ≤ 10
+    by : (t : Bool) → (leads s && (everyBy isDigit s && ltb (valueFrom 0 (map digitIn s)) absent)) ≡ t → isValue (cond t (given (valueFrom 0 (map digitIn s))) (refused 17)) ≡ true → length s ≤ 10
     by false q r = absurd (false≢true r)
-    by true q r = go s (and-left (leads s) (everyBy isDigit s && ltb (valueFrom 0 (map digitIn s)) bound) q) (and-right (leads s) (everyBy isDigit s && ltb (valueFrom 0 (map digitIn s)) bound) q)
+    by true q r = go s (and-left (leads s) (everyBy isDigit s && ltb (valueFrom 0 (map digitIn s)) absent) q) (and-right (leads s) (everyBy isDigit s && ltb (valueFrom 0 (map digitIn s)) absent) q)
       where
-        go : (s : List ℕ) → leads s ≡ true → (everyBy isDigit s && ltb (valueFrom 0 (map digitIn s)) bound) ≡ true → length s ≤ 10
+        go : (s : List ℕ) → leads s ≡ true → (everyBy isDigit s && ltb (valueFrom 0 (map digitIn s)) absent) ≡ true → length s ≤ 10
         go [] l m = omega arith
         go (x ∷ []) l m = omega arith
         go (x ∷ y ∷ s) l m =
-            let d : everyBy isDigit (x ∷ y ∷ s) ≡ true = and-left (everyBy isDigit (x ∷ y ∷ s)) (ltb (valueFrom 0 (map digitIn (x ∷ y ∷ s))) bound) m in
-            let b : valueFrom 0 (map digitIn (x ∷ y ∷ s)) < bound = ltb-true (valueFrom 0 (map digitIn (x ∷ y ∷ s))) bound (and-right (everyBy isDigit (x ∷ y ∷ s)) (ltb (valueFrom 0 (map digitIn (x ∷ y ∷ s))) bound) m) in
+            let d : everyBy isDigit (x ∷ y ∷ s) ≡ true = and-left (everyBy isDigit (x ∷ y ∷ s)) (ltb (valueFrom 0 (map digitIn (x ∷ y ∷ s))) absent) m in
+            let b : valueFrom 0 (map digitIn (x ∷ y ∷ s)) < absent = ltb-true (valueFrom 0 (map digitIn (x ∷ y ∷ s))) absent (and-right (everyBy isDigit (x ∷ y ∷ s)) (ltb (valueFrom 0 (map digitIn (x ∷ y ∷ s))) absent) m) in
             let f : 1 ≤ digitIn x = lead-digit x (every-head isDigit x (y ∷ s) d) l in
             let t : length (y ∷ s) ≤ 9 = ten-more (0 * 10 + digitIn x) (y ∷ s) (omega arith) (omega arith) in
             omega arith

@@ -89,22 +89,26 @@ precisionOf kind r = cond (eqb kind 7) (r / 32) 0
 abbrev pub maskWordOf : ℕ → ℕ → ℕ
 maskWordOf kind n = cond (eqb kind 8) n 0
 
--- the k-th entry
-unfoldable pub entrySaid : List (List ℕ) → ℕ → Entry
-entrySaid l k = record {
-  name = numberIn (namesOf l) (nameSaid l k);
+-- the k-th entry, by the numbers of its names and its mask's start
+abbrev pub entryBy : ℕ → ℕ → ℕ → List (List ℕ) → ℕ → Entry
+entryBy name depending mask l k = record {
+  name = name;
   offset = numberSaid offsetWord (lineIn l k 1);
   width = widthSaid l k;
   kind = kindSaid l k;
   occurs = orAbsent (occursSaid l k) (numberSaid occursWord (lineIn l k 4));
-  depending = orAbsent (dependingSaid l k) (numberIn (namesOf l) (dependingSaid l k));
+  depending = depending;
   span = numberSaid spanWord (lineIn l k 6);
   p = numberSaid pWord (lineIn l k 7);
   q = numberSaid qWord (lineIn l k 8);
   r = scaleOf (kindSaid l k) (rSaid l k);
   s = precisionOf (kindSaid l k) (rSaid l k);
-  mask = maskWordOf (kindSaid l k) (length (masksBelow l k));
+  mask = maskWordOf (kindSaid l k) mask;
 }
+
+unfoldable pub entrySaid : List (List ℕ) → ℕ → Entry
+entrySaid l k =
+    entryBy (numberIn (namesOf l) (nameSaid l k)) (orAbsent (dependingSaid l k) (numberIn (namesOf l) (dependingSaid l k))) (length (masksBelow l k)) l k
 
 -- "name .., offset, width, kind, occurs, depending .., span .., p, q, r, s, mask"
 unfoldable pub twelve : Entry → List ℕ

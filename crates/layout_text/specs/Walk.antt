@@ -18,7 +18,7 @@ use Rattle.layout_text.specs.declared.Judged.{Judged}
 use Rattle.layout_text.specs.Form.{linesOf, ended, isNone, isNumber, says, lineIn, valueStart, countOf, kindSaid, entryLawful, lawful, pageWord}
 use Rattle.layout_text.specs.Form.{nameWord, dependingWord, offsetWord, occursWord, spanWord, pWord, qWord}
 use Rattle.layout_text.specs.Reading.{numberSaid, orAbsent, nameSaid, occursSaid, dependingSaid, widthSaid, rSaid, maskSaid}
-use Rattle.layout_text.specs.Reading.{scaleOf, precisionOf, maskWordOf, masksOf, maskLong, pageOf}
+use Rattle.layout_text.specs.Reading.{entryBy, scaleOf, precisionOf, maskWordOf, masksOf, maskLong, pageOf}
 
 -- position `at` is where the i-th line of a text starts, or its end behind the last
 pub record Here (text : List ℕ) (i at : ℕ) : Type 0 where
@@ -132,20 +132,7 @@ fineAlone said = entryOk (entryWith said 0 0 0) (said .length) && (not (eqb (sai
 
 -- the k-th entry without the numbers of its names and its mask's start: these pass question 2 wherever the text is lawful and has at most 512 entries
 unfoldable pub bareSaid : List (List ℕ) → ℕ → Entry
-bareSaid l k = record {
-  name = 0;
-  offset = numberSaid offsetWord (lineIn l k 1);
-  width = widthSaid l k;
-  kind = kindSaid l k;
-  occurs = orAbsent (occursSaid l k) (numberSaid occursWord (lineIn l k 4));
-  depending = 0;
-  span = numberSaid spanWord (lineIn l k 6);
-  p = numberSaid pWord (lineIn l k 7);
-  q = numberSaid qWord (lineIn l k 8);
-  r = scaleOf (kindSaid l k) (rSaid l k);
-  s = precisionOf (kindSaid l k) (rSaid l k);
-  mask = 0;
-}
+bareSaid l k = entryBy 0 0 0 l k
 
 unfoldable pub fineIn : List (List ℕ) → ℕ → Bool
 fineIn l k = entryOk (bareSaid l k) (length (maskSaid l k)) && maskLong l k

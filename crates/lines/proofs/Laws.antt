@@ -1,6 +1,6 @@
 -- One turn of each loop over a line or its value, and its ends.
 use mathlib.Core.Path.{_≡_, refl, sym, ap, _∙_, subst}
-use mathlib.Core.Bool.{Bool, true, false, not, _&&_, cond, false≢true}
+use mathlib.Core.Bool.{Bool, true, false, not, _&&_, cond, and-false, false≢true}
 use mathlib.Core.List.{List, [], _∷_, map}
 use Prim.Native.Nat.{ℕ, _+_, _-_, _*_, _≤_, _<_, zero-le, suc-le-suc}
 use native.Mathlib.Nat.{not-suc-le-zero, le-of-suc-le-suc, le-trans, le-refl, suc-ne-zero, le-of-lt, sub-zero}
@@ -11,18 +11,12 @@ use lib.ListN.{length, getD, take, drop, drop-of-length-le}
 use lib.Seq.{drop-cons, length-take-le}
 use borrow.Author.Tests.{eq-eqb, ne-eqb, lt-ltb, le-ltb, le-leb, lt-leb, leb-true}
 use Rattle.lists.specs.Scan.{beforeBy, everyBy}
+use Rattle.lists.specs.Absent.{absent}
 use Rattle.lists.proofs.Scan.{tail-part}
+use Rattle.lists.proofs.Logic.{and-right}
 use Rattle.value.specs.Digits.{valueFrom, isDigit, digitIn}
-use Rattle.lines.specs.Lines.{place, isEnd, lineFrom, startIn, startsWith, valueAt, leads, bound, numberOf}
+use Rattle.lines.specs.Lines.{place, isEnd, lineFrom, startIn, startsWith, valueAt, leads, numberOf}
 use Rattle.value.specs.Answer.{Answer, refused, given}
-
-pub and-false : (b : Bool) → (b && false) ≡ false
-and-false true = refl
-and-false false = refl
-
-and-right : (a b : Bool) → (a && b) ≡ true → b ≡ true
-and-right true b q = q
-and-right false b q = absurd (false≢true q)
 
 -- ---- a word at the front
 
@@ -111,7 +105,7 @@ leads-more (x ∷ y ∷ s) h k = refl
 
 -- what the bytes make of a number that is read already
 abbrev pub numberFrom : ℕ → List ℕ → Answer ℕ
-numberFrom v s = cond (everyBy isDigit s && ltb (valueFrom v (map digitIn s)) bound) (given (valueFrom v (map digitIn s))) (refused 17)
+numberFrom v s = cond (everyBy isDigit s && ltb (valueFrom v (map digitIn s)) absent) (given (valueFrom v (map digitIn s))) (refused 17)
 
 pub number-start : (s : List ℕ) → leads s ≡ true → numberOf s ≡ numberFrom 0 s
 unfolding numberOf
@@ -121,12 +115,12 @@ pub number-lead : (s : List ℕ) → leads s ≡ false → refused 17 ≡ number
 unfolding numberOf
 number-lead s e = rw e
 
-grows : (v : ℕ) (s : List ℕ) → v ≤ valueFrom v (map digitIn s)
+pub grows : (v : ℕ) (s : List ℕ) → v ≤ valueFrom v (map digitIn s)
 grows v [] = le-refl v
 grows v (x ∷ s) = le-trans {m = v * 10 + digitIn x} (omega arith) (grows (v * 10 + digitIn x) s)
 
-over : (v : ℕ) (s : List ℕ) → bound ≤ v → numberFrom v s ≡ refused 17
-over v s h = rw (le-ltb (valueFrom v (map digitIn s)) bound (le-trans h (grows v s)), and-false (everyBy isDigit s))
+over : (v : ℕ) (s : List ℕ) → absent ≤ v → numberFrom v s ≡ refused 17
+over v s h = rw (le-ltb (valueFrom v (map digitIn s)) absent (le-trans h (grows v s)), and-false (everyBy isDigit s))
 
 module _ (s : List ℕ) (i v : ℕ) (h : i < length s) where
   pub number-go : isDigit (getD s i 0) ≡ true → numberFrom v (drop i s) ≡ numberFrom (v * 10 + (getD s i 0 - 48)) (drop (i + 1) s)
@@ -137,12 +131,12 @@ module _ (s : List ℕ) (i v : ℕ) (h : i < length s) where
   unfolding everyBy
   number-stop e = rw (drop-cons s i 0, e)
 
-  pub number-over : isDigit (getD s i 0) ≡ true → bound ≤ v * 10 + (getD s i 0 - 48) → numberFrom v (drop i s) ≡ refused 17
+  pub number-over : isDigit (getD s i 0) ≡ true → absent ≤ v * 10 + (getD s i 0 - 48) → numberFrom v (drop i s) ≡ refused 17
   number-over e c = number-go e ∙ over (v * 10 + (getD s i 0 - 48)) (drop (i + 1) s) c
 
-pub number-end : (s : List ℕ) (i v : ℕ) → length s ≤ i → v < bound → numberFrom v (drop i s) ≡ given v
+pub number-end : (s : List ℕ) (i v : ℕ) → length s ≤ i → v < absent → numberFrom v (drop i s) ≡ given v
 unfolding everyBy
-number-end s i v h k = rw (drop-of-length-le s h, lt-ltb v bound k)
+number-end s i v h k = rw (drop-of-length-le s h, lt-ltb v absent k)
 
 pub digit-least : (x : ℕ) → isDigit x ≡ true → 0x30 ≤ x
 digit-least x e = by (leb 0x30 x) refl e

@@ -1,6 +1,6 @@
 -- Names that are the same but for letter case, and their numbers: one turn of each loop, its ends, and what a number tells.
 use mathlib.Core.Path.{_≡_, refl, sym, ap, _∙_, subst}
-use mathlib.Core.Bool.{Bool, true, false, _&&_, cond, false≢true}
+use mathlib.Core.Bool.{Bool, true, false, _&&_, cond, false≢true, and-false}
 use mathlib.Core.List.{List, [], _∷_, _++_, map, map-append}
 use Prim.Native.Nat.{ℕ, zero, suc, _+_, _-_, _≤_, _<_, zero-le, suc-le-suc, min}
 use native.Mathlib.Nat.{not-suc-le-zero, le-of-suc-le-suc, suc-ne-zero, suc-add, add-suc, add-zero, le-of-lt, le-refl, le-trans}
@@ -12,7 +12,6 @@ use lib.Seq.{drop-cons, getD-take, take-suc-set, length-take-le}
 use borrow.Author.Tests.{eq-eqb, ne-eqb, lt-ltb, le-ltb, eqb-true, ltb-true, ltb-false}
 use Rattle.lines.specs.Lines.{lineFrom}
 use Rattle.lines.specs.Names.{foldOf, equal, sameName, indexIn, see, seeAll, distinct, numberIn, namesAt, seeAt, numberAt, countAfter, startsAfter}
-use Rattle.lines.proofs.Laws.{and-false}
 
 pub same-short : (a b : List ℕ) → (length a ≡ length b → ⊥) → sameName a b ≡ false
 unfolding equal

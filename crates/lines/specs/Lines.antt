@@ -5,6 +5,7 @@ use mathlib.Core.List.{List, [], _∷_, map}
 use lib.ListN.{length, drop}
 use lib.Dec.{eqb, leb, ltb}
 use Rattle.lists.specs.Scan.{beforeBy, everyBy}
+use Rattle.lists.specs.Absent.{absent}
 use Rattle.value.specs.Digits.{valueOf, isDigit, digitIn}
 use Rattle.value.specs.Answer.{Answer, refused, given}
 use Rattle.lines.specs.declared.Found.{Found}
@@ -55,16 +56,13 @@ leads [] = false
 leads (x ∷ []) = true
 leads (x ∷ y ∷ s) = not (eqb x 0x30)
 
--- "Numbers are below 4294967295."
-abbrev pub bound : ℕ
-bound = 4294967295
-
 -- the number that the digits of a text spell
 abbrev pub spelled : List ℕ → ℕ
 spelled s = valueOf (map digitIn s)
 
+-- "Numbers are below 4294967295."
 unfoldable pub numberOf : List ℕ → Answer ℕ
-numberOf s = cond (leads s && (everyBy isDigit s && ltb (spelled s) bound)) (given (spelled s)) (refused 17)
+numberOf s = cond (leads s && (everyBy isDigit s && ltb (spelled s) absent)) (given (spelled s)) (refused 17)
 
 abbrev pub parsedAs : Parsed → Answer ℕ
 parsedAs (Value v) = given v

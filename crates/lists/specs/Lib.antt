@@ -1,3 +1,4 @@
--- Definitions on lists and slices that all crates share.
+-- Definitions that all crates share: on lists and slices, and the word for what is absent.
 pub mod Scan
 pub mod Part
+pub mod Absent

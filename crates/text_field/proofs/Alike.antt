@@ -13,7 +13,7 @@ use Rattle.layout.specs.declared.Entry.{Entry}
 use Rattle.decode_scalar.specs.Decode.{flag, text, says}
 use Rattle.text_field.specs.Single.{entryOf, fieldOf, roomOf, askedOf, translateAsks, textAsks, scratchOf, sourceOf, fieldText, sayOf, ReadAlike, ReadPlain}
 use Rattle.text_field.proofs.Questions.{passed, page-known, text-known, room-known, pad-known, kind-text}
-use Rattle.text_field.proofs.Parts.{page-zero}
+use Rattle.ebcdic.proofs.Laws.{page-zero}
 use Rattle.text_field.proofs.Scratch.{field-length}
 
 front-of : (t u : List ℕ) → take (length t) (t ++ u) ≡ t

@@ -1,7 +1,7 @@
 -- The part that is a field's text: its bytes, and where it starts.
 use mathlib.Core.Path.{_≡_, refl, sym, ap, _∙_}
 use mathlib.Core.Bool.{Bool, true, false, cond}
-use mathlib.Core.List.{List, [], _∷_, map}
+use mathlib.Core.List.{List, [], map}
 use Prim.Native.Nat.{ℕ, _+_, _-_, _%_, _≤_}
 use native.Mathlib.Nat.{le-trans, le-of-eq, min-le-left}
 use native.Mathlib.Omega.{arith}
@@ -11,18 +11,13 @@ use denote.Ref.{RefT, ptr, now}
 use borrow.Author.Tests.{eq-eqb, ne-eqb}
 use Rattle.lists.specs.Scan.{leftCount}
 use Rattle.ebcdic.specs.Ebcdic.{fromPage}
+use Rattle.ebcdic.proofs.Laws.{page-zero}
 use Rattle.lists.specs.Part.{placeIn}
 use Rattle.lists.proofs.Part.{place-add}
 use Rattle.text.specs.Text.{isByte, cut, cutFrom, readText}
 use Rattle.layout.specs.declared.Entry.{Entry}
 use Rattle.decode_scalar.specs.Decode.{flag}
 use Rattle.text_field.specs.Single.{entryOf, askedOf, fieldText, startOf, placeOf}
-
--- page 0 keeps each byte
-pub page-zero : (s : List ℕ) → map (fromPage 0) s ≡ s
-unfolding fromPage
-page-zero [] = refl
-page-zero (x ∷ s) = ap (λ (t : List ℕ). x ∷ t) (page-zero s)
 
 -- a place k bytes further
 abbrev onward : ℕ → ℕ × ℕ → ℕ × ℕ

@@ -1,6 +1,6 @@
 -- Numbers in base 10: what a list of digits spells, and the digits of a number, over any count of digits.
 use mathlib.Core.List.{List, [], _∷_, _++_, map}
-use mathlib.Core.Bool.{Bool, true, false, _&&_, cond}
+use mathlib.Core.Bool.{Bool, true, _&&_, cond}
 use Prim.Native.Nat.{ℕ, zero, suc, _+_, _-_, _*_, _/_, _%_, _^_, min}
 use lib.Dec.{ltb, leb}
 use lib.IntN.{ℤ, pos, negℤ}

@@ -1,6 +1,6 @@
 -- "a scalar is Null, Text, Int, Decimal, Float or Bool (tags 0 to 5)", with its tag and its two words.
 use mathlib.Core.List.{List, [], _∷_, _++_}
-use mathlib.Core.Bool.{Bool, true, false, cond}
+use mathlib.Core.Bool.{Bool, cond}
 use Prim.Native.Nat.{ℕ}
 use lib.Dec.{leb, eqb}
 use lib.ListN.{length, drop}
@@ -49,7 +49,7 @@ unfoldable pub scalarOf : ℕ → ℕ → ℕ → Scalar
 scalarOf tag a b =
     cond (eqb tag 1) (Text a b)
     (cond (eqb tag 2) (Int (minusIn a) (sizeIn a))
-    (cond (eqb tag 3) (Decimal (minusIn a) (sizeIn a) b)
+    (cond (eqb tag 3) (decimal (minusIn a) (sizeIn a) b)
     (cond (eqb tag 4) (floatOf a)
     (cond (eqb tag 5) (BoolV (eqb a 1))
     Null))))

@@ -1,6 +1,6 @@
 -- Two's complement at 64 bits: "Int two's complement".
 use Prim.Native.Nat.{ℕ, _-_, _^_}
-use mathlib.Core.Bool.{Bool, true, false, _&&_, cond}
+use mathlib.Core.Bool.{Bool, _&&_, cond}
 use lib.Dec.{leb, ltb}
 
 -- the word of a sign and a size, which is below 2^63, or 2^63 itself with a minus; 0 has no sign

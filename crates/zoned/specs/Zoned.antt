@@ -1,6 +1,6 @@
 -- What a zoned field of any width says, over bytes as ASCII, and the bytes of a number in one.
 use mathlib.Core.List.{List, [], _∷_, _++_}
-use mathlib.Core.Bool.{Bool, true, false, _&&_, _||_, cond}
+use mathlib.Core.Bool.{Bool, true, _&&_, _||_, cond}
 use Prim.Native.Nat.{ℕ, _+_, _-_, _/_}
 use lib.Dec.{ltb, leb, eqb}
 use Rattle.value.specs.Digits.{digitAt, digitText, limit, roomFor}

@@ -1,4 +1,5 @@
-use mathlib.Core.Path.{_≡_, refl, sym, ap, _∙_, subst}
+-- `float::whole_size` meets its contract: where there is a fraction it is rounded half away, elsewhere the significand is shifted, and a size past the limit stops counting.
+use mathlib.Core.Path.{_≡_, refl, sym, ap, _∙_}
 use Prim.Native.Nat.{ℕ, _+_, _-_, _*_, _≤_, _<_}
 use native.Mathlib.Omega.{arith}
 use Prim.Native.Nat.{_%_, _^_}
@@ -8,20 +9,13 @@ use lib.Pow.{pow-mono, shl-exact}
 use Rattle.value.specs.Digits.{limit, capped}
 use Rattle.value.specs.Rounding.{rounded, floatRule}
 use Rattle.float.specs.Half.{sig}
-use Rattle.float.proofs.Fields.{sig-lt, sig-ge}
+use Rattle.float.proofs.Fields.{m-lt, m-ge}
 use Rattle.float.proofs.Rounding.{size-low, size-high, cap-below, cap-above}
 use borrow.Author.Needs.{needs}
 use Rattle.float.proofs.whole_size.Statement.{statement}
 use Rattle.float.proofs.whole_size.Tie as tie
 
--- the significand, as the call of `significand` gave it
 module _ (c : tie.After-significand) where
-  m-lt : c .significand .result < 2 ^ 53
-  m-lt = subst (λ (n : ℕ). n < 2 ^ 53) (sym (c .significand .ensures)) (sig-lt (2 ^ 52) (c .before .args .x) (c .before .args .t) (c .before .pre))
-
-  m-ge : (c .before .args .x ≡ 0 → ⊥) → 2 ^ 52 ≤ c .significand .result
-  m-ge n = subst (λ (k : ℕ). 2 ^ 52 ≤ k) (sym (c .significand .ensures)) (sig-ge (2 ^ 52) (c .before .args .x) (c .before .args .t) n)
-
   -- a size of m is that of the contract
   done : {r : ℕ} → r ≡ capped (rounded floatRule (c .significand .result * 2 ^ (c .before .args .x - 1)) (2 ^ 1074))
       → r ≡ capped (rounded floatRule (sig (2 ^ 52) (c .before .args .x) (c .before .args .t) * 2 ^ (c .before .args .x - 1)) (2 ^ 1074))
@@ -31,7 +25,7 @@ module _ (c : tie.After-significand) where
   high n = size-high (c .significand .result) (c .before .args .x - 1) (c .before .args .x - 1075) (omega arith)
 
   kept : c .before .args .x - 1075 ≤ 10 → c .significand .result * 2 ^ (c .before .args .x - 1075) % 2 ^ 64 ≡ c .significand .result * 2 ^ (c .before .args .x - 1075)
-  kept h = shl-exact 53 (c .before .args .x - 1075) 64 m-lt (omega arith)
+  kept h = shl-exact 53 (c .before .args .x - 1075) 64 (m-lt (c .before .args .x) (c .before .args .t) (c .significand .ensures) (c .before .pre)) (omega arith)
 
   -- a size that stops counting, from a whole number that is the contract's
   small : 1075 ≤ c .before .args .x → (n : ℕ) → n ≡ c .significand .result * 2 ^ (c .before .args .x - 1075) → n < limit → n ≡ capped (rounded floatRule (c .significand .result * 2 ^ (c .before .args .x - 1)) (2 ^ 1074))
@@ -47,28 +41,38 @@ significand-requires : tie.Need-significand-requires
 significand-requires c κs = search needs
 
 round-half-away-requires : tie.Need-round-half-away-requires
-round-half-away-requires c κs = m-lt (c .before)
+round-half-away-requires c κs = let z = c .before in m-lt (z .before .args .x) (z .before .args .t) (z .significand .ensures) (z .before .pre)
 
 returns : tie.Need-returns
 returns c =
     let z = c .before .before in
-    done z (c .round-half-away .ensures ∙ size-low (c .before .before .significand .result) (c .before .before .before .args .x - 1) 1074 (m-lt z) (omega arith))
+    let x = z .before .args .x in
+    let t = z .before .args .t in
+    let m = z .significand .result in
+    let lt = m-lt x t (z .significand .ensures) (z .before .pre) in
+    done z (c .round-half-away .ensures ∙ size-low m (x - 1) 1074 lt (omega arith))
 
 sub-round-half-away : tie.Need-sub-round-half-away
 sub-round-half-away c = search needs
 
 round-half-away-requires-2 : tie.Need-round-half-away-requires-2
-round-half-away-requires-2 c κs = m-lt (c .before .before)
+round-half-away-requires-2 c κs = let z = c .before .before in m-lt (z .before .args .x) (z .before .args .t) (z .significand .ensures) (z .before .pre)
 
 returns-2 : tie.Need-returns-2
 returns-2 c =
     let z = c .before .before .before in
-    done z (c .round-half-away2 .ensures ∙ size-low (c .before .before .before .significand .result) (c .before .before .before .before .args .x - 1) (1075 - c .before .before .before .before .args .x) (m-lt z) (low-sum (c .before .before .before .before .args .x) (c .before .before .if1 .left) (c .before .if2 .taken)))
+    let x = z .before .args .x in
+    let t = z .before .args .t in
+    let m = z .significand .result in
+    let lt = m-lt x t (z .significand .ensures) (z .before .pre) in
+    done z (c .round-half-away2 .ensures ∙ size-low m (x - 1) (1075 - x) lt (low-sum x (c .before .before .if1 .left) (c .before .if2 .taken)))
 
 returns-3 : tie.Need-returns-3
 returns-3 c =
     let z = c .before .before .before in
-    done z (large z (c .before .if2 .left) _ refl (le-trans (lit≤ tt) (mul-le-mul (m-ge z (c .before .before .if1 .left)) (pow-mono (c .if3 .taken)))))
+    let x = z .before .args .x in
+    let t = z .before .args .t in
+    done z (large z (c .before .if2 .left) _ refl (le-trans (lit≤ tt) (mul-le-mul (m-ge x t (z .significand .ensures) (c .before .before .if1 .left)) (pow-mono (c .if3 .taken)))))
 
 shl-n : tie.Need-shl-n
 shl-n c = search needs

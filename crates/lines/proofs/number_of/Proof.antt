@@ -5,13 +5,14 @@ use native.Mathlib.Omega.{arith}
 use lib.ListN.{length, take, drop, getD}
 use borrow.Author.Needs.{needs}
 use borrow.Author.Tests.{not-true, not-false}
-use Rattle.lines.specs.Lines.{bound, numberOf}
+use Rattle.lists.specs.Absent.{absent}
+use Rattle.lines.specs.Lines.{numberOf}
 use Rattle.lines.proofs.Laws.{numberFrom, number-start, number-lead, number-go, number-stop, number-over, number-end, digit-least, digit-most}
 use Rattle.lines.proofs.number_of.Statement.{statement}
 use Rattle.lines.proofs.number_of.Tie as tie
 
 abbrev Inv-loop : tie.InvT-loop
-Inv-loop part v₀ i₀ v i = (i ≤ length part) × ((v < bound) × (numberOf part ≡ numberFrom v (drop i part)))
+Inv-loop part v₀ i₀ v i = (i ≤ length part) × ((v < absent) × (numberOf part ≡ numberFrom v (drop i part)))
 
 abbrev μ-loop : tie.MeasureT-loop
 μ-loop part v₀ i₀ v i = length part - i

@@ -1,4 +1,3 @@
--- One scalar field of any kind, written; the values that fit; and the table of starred records.
+-- One scalar field of any kind, written; and the table of starred records.
 pub mod Encode
-pub mod Fits
 pub mod Worked

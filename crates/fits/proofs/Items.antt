@@ -17,8 +17,8 @@ use Rattle.value.proofs.Items.{float-tag, float-first}
 use Rattle.binary.specs.Binary.{widthOk}
 use Rattle.binary.proofs.Integers.{width-high}
 use Rattle.float.proofs.Back.{exact-lt}
-use Rattle.encode_scalar.specs.Fits.{Minus, InRange, unsigned, plus, minus, Fits, text-fits, int-fits, binary-fits, float-fits, hex-fits, bool-fits, display-fits, packed-fits, zoned-fits, edited-fits}
-use Rattle.encode_scalar.proofs.Back.{minus-is, digits-minus}
+use Rattle.fits.specs.Fits.{Minus, InRange, unsigned, plus, minus, Fits, text-fits, int-fits, binary-fits, float-fits, hex-fits, bool-fits, display-fits, packed-fits, zoned-fits, edited-fits}
+use Rattle.fits.proofs.Back.{minus-is, digits-minus}
 use Rattle.fits.specs.Decide.{tagFor}
 
 -- "Text for Text and Hex, Int for Int and Binary, Decimal for Decimal and Edited, Float for Float, Bool for Bool"

@@ -18,8 +18,8 @@ use Rattle.zoned.specs.Zoned as Zoned
 use Rattle.edited.proofs.Round as EditedRound
 use Rattle.decode_scalar.specs.Decode.{flag}
 use Rattle.encode_scalar.specs.Encode.{decimalFit, bytesOf, numberBytes}
-use Rattle.encode_scalar.specs.Fits.{Fits, text-fits, int-fits, binary-fits, float-fits, hex-fits, bool-fits, display-fits, packed-fits, zoned-fits, edited-fits}
-use Rattle.encode_scalar.proofs.Back.{minus-is, digits-minus, digits-fit, same-scale, floated}
+use Rattle.fits.specs.Fits.{Fits, text-fits, int-fits, binary-fits, float-fits, hex-fits, bool-fits, display-fits, packed-fits, zoned-fits, edited-fits}
+use Rattle.fits.proofs.Back.{minus-is, digits-minus, digits-fit, same-scale, floated}
 use Rattle.encode_scalar.proofs.Parts.{int-length, binary-length, float-length, decimal-length}
 
 pub bytes-long : {p q r s : ℕ} {mask : List ℕ} {w kind : ℕ} {v : Scalar} {t : List ℕ} (page : ℕ) → Fits p q r s mask w kind v t → length (bytesOf kind p q r mask page w v t) ≡ w

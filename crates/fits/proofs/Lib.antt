@@ -1,3 +1,4 @@
+pub mod Back
 pub mod Tests
 pub mod Sound
 pub mod Items

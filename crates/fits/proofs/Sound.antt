@@ -17,7 +17,7 @@ use Rattle.binary.specs.Binary.{widthOk}
 use Rattle.float.specs.Field.{Exact, exactIn}
 use Rattle.float.proofs.Back.{exact-true, true-exact, exact-lt}
 use Rattle.decode_scalar.specs.Decode.{flag}
-use Rattle.encode_scalar.specs.Fits.{Fits, text-fits, int-fits, binary-fits, float-fits, hex-fits, bool-fits, display-fits, packed-fits, zoned-fits, edited-fits}
+use Rattle.fits.specs.Fits.{Fits, text-fits, int-fits, binary-fits, float-fits, hex-fits, bool-fits, display-fits, packed-fits, zoned-fits, edited-fits}
 use Rattle.fits.specs.Decide.{textFits, hexFits, digitsFit, intFits, inRange, binaryFits, wordFits, signOk, displayFits, packedFits, zonedFits, decimalFits, editedMinusOk, maskFits, editedFits, fitsOf}
 use Rattle.fits.proofs.Tests.{text-sound, text-complete, hex-sound, hex-complete, sign-sound, sign-complete, digits-sound, digits-complete, range-sound, range-complete, plain-float, float-plain, edited-sound, edited-complete}
 

@@ -27,7 +27,7 @@ use Rattle.edited.specs.Edited.{isLawful, isFloating, countOf, positions}
 use Rattle.edited.specs.Fits as Edited
 use Rattle.edited.specs.Fits.Tells.{first-plus, first-minus, last-plus, last-minus, credit, debit}
 use Rattle.decode_scalar.specs.Decode.{flag}
-use Rattle.encode_scalar.specs.Fits.{Minus, Digits, plain, separate, InRange, unsigned, plus, minus, Signed}
+use Rattle.fits.specs.Fits.{Minus, Digits, plain, separate, InRange, unsigned, plus, minus, Signed}
 use Rattle.fits.specs.Decide.{byteOk, isTextByte, cutEndOk, textFits, hexFits, minusOk, digitsFit, inRange, signOk, lastTwo, tells, editedMinusOk, maskFits}
 
 -- ---- Text

@@ -1,3 +1,4 @@
--- Whether a value fits a scalar field, as a test.
+-- The values that fit a scalar field, and the test that decides it.
+pub mod Fits
 pub mod Decide
 pub mod Examples

@@ -19,8 +19,8 @@ use Rattle.text.specs.Text.{padded}
 use Rattle.text.proofs.Back.{padded-length}
 use Rattle.decode_scalar.specs.Decode.{value, text}
 use Rattle.encode_scalar.specs.Encode.{judgedOf, bytesOf}
-use Rattle.encode_scalar.specs.Fits.{saidOf}
-use Rattle.encode_scalar.proofs.Back.{Kept, field-kept}
+use Rattle.fits.specs.Fits.{saidOf}
+use Rattle.fits.proofs.Back.{Kept, field-kept}
 use Rattle.fits.proofs.Length.{bytes-long}
 use Rattle.walks.specs.Walk.{bytes, leaf}
 use Rattle.layout.specs.Layout.{isPad}

@@ -10,7 +10,7 @@ use Rattle.layout.specs.Layout.{isGroup, isPad, unrepeated, entries}
 use Rattle.spans.specs.Tree.{Tree, none, node, size}
 use Rattle.items.specs.declared.Item.{Item}
 use Rattle.items.specs.Items.{Values, itemCount, header, scalarIn, textOf, values, count, scalarOk, wellFormed}
-use Rattle.encode_scalar.specs.Fits as Scalar
+use Rattle.fits.specs.Fits as Scalar
 use Rattle.walks.specs.Walk.{Many, times, howMany}
 use Rattle.walks.specs.Kinds.{State, start, noted, said, held, maskOf}
 

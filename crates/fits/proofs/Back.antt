@@ -38,8 +38,8 @@ use Rattle.edited.specs.Edited as Edited
 use Rattle.edited.specs.Fits as EditedFits
 use Rattle.edited.proofs.Round as EditedRound
 use Rattle.decode_scalar.specs.Decode.{Says, value, text, says, flag, intSays, decimalSays}
 use Rattle.encode_scalar.specs.Encode.{numberJudged, numberBytes, judgedOf, bytesOf}
-use Rattle.encode_scalar.specs.Fits.{Minus, Digits, plain, separate, InRange, unsigned, plus, minus, Fits, text-fits, int-fits, binary-fits, float-fits, hex-fits, bool-fits, display-fits, packed-fits, zoned-fits, edited-fits, saidOf}
+use Rattle.fits.specs.Fits.{Minus, Digits, plain, separate, InRange, unsigned, plus, minus, Fits, text-fits, int-fits, binary-fits, float-fits, hex-fits, bool-fits, display-fits, packed-fits, zoned-fits, edited-fits, saidOf}
 
 -- a value is accepted, and what is written for it says it
 pub record Kept (kind p q r s : ℕ) (mask : List ℕ) (page w : ℕ) (v : Scalar) (t : List ℕ) : Type 0 where

@@ -59,7 +59,7 @@ abbrev pub saidOf : Scalar → List ℕ → Says
 saidOf Null t = value Null
 saidOf (Text start count) t = text t
 saidOf (Int negative size) t = value (Int negative size)
-saidOf (Decimal negative size scale) t = value (Decimal negative size scale)
+saidOf (Decimal negative size scale) t = value (decimal negative size scale)
 saidOf (FloatV x) t = value (FloatV x)
 saidOf (FloatBits x) t = value (FloatBits x)
 saidOf (BoolV b) t = value (BoolV b)

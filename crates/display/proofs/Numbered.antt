@@ -8,7 +8,7 @@ use lib.ListN.{length, getD, drop}
 use Rattle.value.specs.declared.Scalar.{Scalar}
 use Rattle.value.specs.declared.Scalar.the-variants.{Null, Text, Int, Decimal, Float, FloatBits, Bool as BoolV}
 use Rattle.value.specs.Answer.{Answer, refused, given}
-use Rattle.value.specs.Digits.{valueOf, isDigit, digitIn}
+use Rattle.value.specs.Digits.{valueOf, isDigit, digitIn, limit}
 use Rattle.value.specs.Number.{Whole, some, readIn, unlawful, noNumber}
 use Rattle.value.proofs.Answers.{Numbered, numbered-cond, numbered-in}
 use Rattle.lists.specs.Scan.{everyBy}
@@ -39,7 +39,7 @@ int-numbered sign s = in-numbered sign (trimmed s) (trimmed (restOf sign (trimme
 
 pub decimal-numbered : (sign : ℕ) (s : List ℕ) → Numbered (decimalOf sign s)
 unfolding decimalOf
-decimal-numbered sign s = kept-numbered (eqb (signAt sign (trimmed s)) 45) (restOf sign (trimmed s))
+decimal-numbered sign s = kept-numbered limit (eqb (signAt sign (trimmed s)) 45) (restOf sign (trimmed s))
 
 or-numbered : (n : Answer Whole) → Numbered (orRefused n)
 or-numbered (refused question) = λ e. omega arith

@@ -10,6 +10,7 @@ use lib.ListN.{length, getD, take, drop, length-map}
 use borrow.Author.Tests.{eq-eqb, ne-eqb}
 use Rattle.lists.proofs.Lists.{getD-map, map-take, map-drop}
 use Rattle.lists.proofs.Scan.{tail-part}
+use Rattle.value.specs.Digits.{limit}
 use Rattle.value.specs.Number.{some, unlawful, withSign}
 use Rattle.numerals.specs.Numerals.{trimmed, keptOf, isSign}
 use Rattle.numerals.proofs.Reading.{kept-signed}
@@ -90,7 +91,7 @@ module _ (g : ℕ → ℕ) (s : List ℕ) (some : 0 < length s) where
 module _ (g : ℕ → ℕ) (sign : ℕ) (s t rest : List ℕ) (et : map g t ≡ trimmed (map g s)) (er : map g rest ≡ restOf sign (map g t)) where
   pub decimal-is : withSign (eqb (signAt sign (map g t)) 45) (keptOf false (map g rest)) ≡ decimalOf sign (map g s)
   unfolding decimalOf
-  decimal-is = kept-signed (eqb (signAt sign (map g t)) 45) (map g rest) ∙ rw (er, et)
+  decimal-is = kept-signed limit (eqb (signAt sign (map g t)) 45) (map g rest) ∙ rw (er, et)
 
   module _ (u : List ℕ) (eu : map g u ≡ trimmed (map g rest)) where
     int-is : intIn sign (map g t) (map g u) ≡ intOf sign (map g s)

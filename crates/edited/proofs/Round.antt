@@ -47,9 +47,9 @@ page-byte page negative size mask h k b =
 -- ---- a number that fits
 
 module _ (signed negative : Bool) (size : ℕ) (mask : List ℕ) (f : Fits signed negative size mask) where
-  pub fits-judged : judged mask (given (number negative size)) ≡ 0
+  pub fits-judged : size < limit → judged mask (given (number negative size)) ≡ 0
   unfolding judged
-  fits-judged = rw (f .fixed, lt-ltb size limit (f .small), lt-ltb 0 (positions mask) (f .some), lt-ltb size (10 ^ positions mask) (f .enough), f .lawful)
+  fits-judged l = rw (f .fixed, lt-ltb size limit l, lt-ltb 0 (positions mask) (f .some), lt-ltb size (10 ^ positions mask) (f .enough), f .lawful)
 
   sign : (signed && negativeOf (trimmed (edited negative size mask))) ≡ negative
   sign = by negative signed (f .has-sign) (f .tells)
@@ -68,10 +68,13 @@ module _ (signed negative : Bool) (size : ℕ) (mask : List ℕ) (f : Fits signe
       every-true isAscii (edited negative size mask) (λ k b. lt-ltb (getD (edited negative size mask) k 0) 128 (edited-ascii negative size mask (f .lawful) k b)) in
       rw (bytes-back page (edited negative size mask) (edited-byte negative size mask (f .lawful)), sign, a, edited-spells negative size l (f .no-zero) (f .enough))
 
-  -- so a size below the limit is read back
-  pub decoded : (page : ℕ) → decodedOf signed (map (fromPage page) (map (ontoPage page) (edited negative size mask))) ≡ some negative size
+  -- so a size below a bound is read back within it; the limit is one
+  pub within : (bound page : ℕ) → size < bound → editedBy (readIn bound) unlawful signed (map (fromPage page) (map (ontoPage page) (edited negative size mask))) ≡ some negative size
+  within bound page l = round (readIn bound) unlawful page ∙ numberIn-fits 9 bound negative size l
+
+  pub decoded : (page : ℕ) → size < limit → decodedOf signed (map (fromPage page) (map (ontoPage page) (edited negative size mask))) ≡ some negative size
   unfolding decodedOf
-  decoded page = round (readIn limit) unlawful page ∙ numberIn-fits 9 limit negative size (f .small)
+  decoded page l = within limit page l
 
 -- ---- a part keeps its length
 
@@ -108,4 +111,4 @@ decode-small signed s n w e = by (everyBy isAscii s) e
 
 pub decode-numbered : (signed : Bool) (s : List ℕ) → Numbered (decodedOf signed s)
 unfolding decodedOf
-decode-numbered signed s = kept-numbered (signed && negativeOf (trimmed s)) s
+decode-numbered signed s = kept-numbered limit (signed && negativeOf (trimmed s)) s

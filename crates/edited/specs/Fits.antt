@@ -3,7 +3,6 @@ use mathlib.Core.Path.{_≡_}
 use mathlib.Core.Bool.{Bool, true, false}
 use mathlib.Core.List.{List, [], _∷_, _++_}
 use Prim.Native.Nat.{ℕ, _^_, _<_}
-use Rattle.value.specs.Digits.{limit}
 use Rattle.edited.specs.Edited.{countOf, positions, isFloating, isLawful}
 
 -- "a + or - first or last, or CR or DB last"
@@ -21,6 +20,5 @@ pub record Fits (signed negative : Bool) (size : ℕ) (mask : List ℕ) : Type 0
   pub no-zero : countOf 48 mask ≡ 0
   pub some : 0 < positions mask
   pub enough : size < 10 ^ positions mask
-  pub small : size < limit
   pub has-sign : negative ≡ true → signed ≡ true
   pub tells : negative ≡ true → Tells mask

@@ -115,13 +115,13 @@ module _ (p q r s : ℕ) (mask : List ℕ) (page w : ℕ) (t : List ℕ) where
   bool-kept true e = record { accepted = refl; said = refl }
   bool-kept false e = record { accepted = refl; said = refl }
 
-  edited-kept : (negative : Bool) (size : ℕ) → length mask ≡ w → EditedFits.Fits (flag p) negative size mask → Minus negative size → Kept 8 p q r s mask page w (decimal negative size r) t
+  edited-kept : (negative : Bool) (size : ℕ) → length mask ≡ w → EditedFits.Fits (flag p) negative size mask → size < limit → Minus negative size → Kept 8 p q r s mask page w (decimal negative size r) t
   unfolding judgedOf numberJudged bytesOf numberBytes says
-  edited-kept negative size e f m =
-      let n = same-scale negative size r (f .small) m in
+  edited-kept negative size e f l m =
+      let n = same-scale negative size r l m in
       record {
-        accepted = rw (n, EditedRound.fits-judged (flag p) negative size mask f, eq-eqb w (length mask) (sym e));
-        said = rw n (ap (decimalSays r) (EditedRound.decoded (flag p) negative size mask f page ∙ ap (λ (b : Bool). given (number b size)) (minus-is negative size m)));
+        accepted = rw (n, EditedRound.fits-judged (flag p) negative size mask f l, eq-eqb w (length mask) (sym e));
+        said = rw n (ap (decimalSays r) (EditedRound.decoded (flag p) negative size mask f page l ∙ ap (λ (b : Bool). given (number b size)) (minus-is negative size m)));
       }
 
   decimal-said : (negative : Bool) (size : ℕ) (n : Answer Whole) → n ≡ given (number negative size) → decimalSays r n ≡ value (decimal negative size r)
@@ -203,4 +203,4 @@ field-kept p q r s mask page w (bool-fits b t e) = bool-kept p q r s mask page w
 field-kept p q r s mask page w (display-fits negative size t e d k l) = display-kept p q r s mask page w t negative size e d k l
 field-kept p q r s mask page w (packed-fits negative size t e h k l g) = packed-kept p q r s mask page w t negative size e h k l (g .0) (g .1)
 field-kept p q r s mask page w (zoned-fits negative size t e h k l g) = zoned-kept p q r s mask page w t negative size e h k l (g .0) (g .1)
-field-kept p q r s mask page w (edited-fits negative size t e f m) = edited-kept p q r s mask page w t negative size e f m
+field-kept p q r s mask page w (edited-fits negative size t e f l m) = edited-kept p q r s mask page w t negative size e f l m

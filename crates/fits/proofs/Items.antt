@@ -32,7 +32,7 @@ kind-scalar (bool-fits b t e) = refl
 kind-scalar (display-fits negative size t e d k l) = refl
 kind-scalar (packed-fits negative size t e h k l g) = refl
 kind-scalar (zoned-fits negative size t e h k l g) = refl
-kind-scalar (edited-fits negative size t e f m) = refl
+kind-scalar (edited-fits negative size t e f l m) = refl
 
 -- ---- the words of a number
 
@@ -92,4 +92,4 @@ item-back (bool-fits false t e) = refl
 item-back {r = r} (display-fits negative size t e d k l) = decimal-words r (small negative size (digits-minus d) (below-limit size l))
 item-back {r = r} (packed-fits negative size t e h k l g) = decimal-words r (small negative size (g .1) (below-limit size l))
 item-back {r = r} (zoned-fits negative size t e h k l g) = decimal-words r (small negative size (g .1) (below-limit size l))
-item-back {r = r} (edited-fits negative size t e f m) = decimal-words r (small negative size m (below-limit size (f .small)))
+item-back {r = r} (edited-fits negative size t e f l m) = decimal-words r (small negative size m (below-limit size l))

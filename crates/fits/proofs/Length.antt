@@ -40,5 +40,5 @@ bytes-long {p} {q} {r} {s} {mask} {w} page (packed-fits negative size t e h k l 
 bytes-long {p} {q} {r} {s} {mask} {w} page (zoned-fits negative size t e h k l g) =
     let f : decimalFit p q s w negative size ≡ true = rw e (room-fits w size h k) in
     rw (same-scale negative size r l (g .1)) (decimal-length p q s page w negative size f)
-bytes-long {p} {q} {r} {s} {mask} {w} page (edited-fits negative size t e f m) =
-    rw (same-scale negative size r (f .small) m) (EditedRound.page-length page negative size mask ∙ e)
+bytes-long {p} {q} {r} {s} {mask} {w} page (edited-fits negative size t e f l m) =
+    rw (same-scale negative size r l m) (EditedRound.page-length page negative size mask ∙ e)

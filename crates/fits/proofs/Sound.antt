@@ -69,7 +69,7 @@ module _ (p q r s : ℕ) (mask : List ℕ) (w : ℕ) (t : List ℕ) where
       let a = both (eqb (length mask) w) (maskFits size mask && editedMinusOk (flag p) negative size mask) e in
       let b = both (maskFits size mask) (editedMinusOk (flag p) negative size mask) (a .1) in
       let f = edited-sound (flag p) negative size mask (b .0) (b .1) in
-      edited-fits negative size t (eqb-true (length mask) w (a .0)) (f .0) (f .1)
+      edited-fits negative size t (eqb-true (length mask) w (a .0)) (f .0) (f .1 .0) (f .1 .1)
 
   number-so : (kind : ℕ) (negative : Bool) (size : ℕ) → cond (eqb kind 7) (decimalFits p q s w negative size) (eqb kind 8 && editedFits (flag p) w negative size mask) ≡ true
       → Fits p q r s mask w kind (decimal negative size r) t
@@ -138,6 +138,6 @@ fits-complete {q = q} {r = r} {w = w} (packed-fits negative size t e h k l g) =
     rw (eq-eqb r r refl, lt-ltb size limit l, e) (and (lt-ltb 0 w h) (and (lt-ltb size (10 ^ (2 * w - 1)) k) (sign-complete q negative size g)))
 fits-complete {q = q} {r = r} {w = w} (zoned-fits negative size t e h k l g) =
     rw (eq-eqb r r refl, lt-ltb size limit l, e) (and (lt-ltb 0 w h) (and (lt-ltb size (10 ^ w) k) (sign-complete q negative size g)))
-fits-complete {p} {r = r} {mask = mask} {w = w} (edited-fits negative size t e f m) =
-    let a = edited-complete (flag p) negative size mask f m in
+fits-complete {p} {r = r} {mask = mask} {w = w} (edited-fits negative size t e f l m) =
+    let a = edited-complete (flag p) negative size mask f l m in
     rw (eq-eqb r r refl, eq-eqb (length mask) w e) (and (a .0) (a .1))

@@ -9,7 +9,7 @@ use lib.Dec.{ltb}
 use lib.ListN.{length, getD, take, drop, drop-of-length-le}
 use lib.Seq.{drop-cons}
 use borrow.Author.Tests.{lt-ltb, le-ltb}
-use Rattle.value.specs.Digits.{valueFrom, valueOf, isDigit, digitIn, limit}
+use Rattle.value.specs.Digits.{valueFrom, valueOf, isDigit, digitIn}
 use Rattle.value.specs.Answer.{refused}
 use Rattle.value.specs.Number.{some, readIn, unlawful, withSign}
 use Rattle.value.proofs.Digits.{cap-answer}
@@ -17,7 +17,7 @@ use Rattle.value.proofs.Answers.{Numbered, numbered-cond, numbered-in}
 use Rattle.lists.specs.Scan.{leftBy, leftCount, rightBy, keepBy, everyBy}
 use Rattle.lists.proofs.Scan.{left-count, map-left, map-count, map-right, both-ends}
 use Rattle.ebcdic.specs.Ebcdic.{fromPage}
-use Rattle.numerals.specs.Numerals.{isBlank, trimmed, isAscii, keptBy, keptOf}
+use Rattle.numerals.specs.Numerals.{isBlank, trimmed, isAscii, keptBy}
 
 -- the blanks of a page
 abbrev pub blankOn : ℕ → ℕ → Bool
@@ -66,9 +66,9 @@ module _ {X : Type 0} (answer : ℕ → X) (bad : X) where
   kept-end g s i v h = rw (drop-of-length-le s h)
 
 -- the sign is given afterwards
-pub kept-signed : (negative : Bool) (s : List ℕ) → withSign negative (keptOf false s) ≡ keptOf negative s
+pub kept-signed : (bound : ℕ) (negative : Bool) (s : List ℕ) → withSign negative (keptBy (readIn bound false) unlawful s) ≡ keptBy (readIn bound negative) unlawful s
 unfolding keptBy
-kept-signed negative s = by (everyBy isAscii s)
+kept-signed bound negative s = by (everyBy isAscii s)
   where
     v : ℕ
     v = valueOf (map digitIn (keepBy isDigit s))
@@ -77,12 +77,12 @@ kept-signed negative s = by (everyBy isAscii s)
     small true = refl
     small false = refl
 
-    by : (t : Bool) → withSign negative (cond t (readIn limit false v) unlawful) ≡ cond t (readIn limit negative v) unlawful
-    by true = small (ltb v limit)
+    by : (t : Bool) → withSign negative (cond t (readIn bound false v) unlawful) ≡ cond t (readIn bound negative v) unlawful
+    by true = small (ltb v bound)
     by false = refl
 
 -- the digits kept are refused by a question alone
-pub kept-numbered : (negative : Bool) (s : List ℕ) → Numbered (keptOf negative s)
+pub kept-numbered : (bound : ℕ) (negative : Bool) (s : List ℕ) → Numbered (keptBy (readIn bound negative) unlawful s)
 unfolding keptBy
-kept-numbered negative s =
-    numbered-cond (everyBy isAscii s) (readIn limit negative (valueOf (map digitIn (keepBy isDigit s)))) unlawful (numbered-in 9 limit negative (valueOf (map digitIn (keepBy isDigit s))) (λ e. omega arith)) (λ e. omega arith)
+kept-numbered bound negative s =
+    numbered-cond (everyBy isAscii s) (readIn bound negative (valueOf (map digitIn (keepBy isDigit s)))) unlawful (numbered-in 9 bound negative (valueOf (map digitIn (keepBy isDigit s))) (λ e. omega arith)) (λ e. omega arith)

@@ -114,10 +114,14 @@ round answer bad (suc k) negative size signed h =
     rw (encoded-is k negative size signed (sign-small signed negative), ← sign-read signed negative)
     (field-read size (signOf signed negative) (sign-small signed negative) answer bad k f (sign-lawful signed negative))
 
--- so a size below the limit is read back
+-- so a size below a bound is read back within it; the limit is one
+pub within : (bound w : ℕ) (negative : Bool) (size : ℕ) (signed : Bool) → fitsOf w size ≡ true → size < bound
+    → packedBy (readIn bound) unlawful (encodedOf w negative size signed) ≡ some (signed && negative) size
+within bound w negative size signed h l = round (readIn bound) unlawful w negative size signed h ∙ numberIn-fits 9 bound (signed && negative) size l
+
 pub decoded : (w : ℕ) (negative : Bool) (size : ℕ) (signed : Bool) → fitsOf w size ≡ true → size < limit → decodeOf (encodedOf w negative size signed) ≡ some (signed && negative) size
 unfolding decodeOf
-decoded w negative size signed h l = round (readIn limit) unlawful w negative size signed h ∙ numberIn-fits 9 limit (signed && negative) size l
+decoded w negative size signed h l = within limit w negative size signed h l
 
 -- each byte but the last holds the two digits of its place, and the last one the units and the sign
 pub by-place : (w : ℕ) (negative : Bool) (size : ℕ) (signed : Bool) (i : ℕ) → i < w - 1

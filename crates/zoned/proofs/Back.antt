@@ -129,8 +129,12 @@ zoned-back answer bad page w negative size signed f =
     ap (zonedBy answer bad) (bytes-back page (encodedOf w negative size signed) (encoded-byte w negative size signed h))
     ∙ field-read (w - 1) negative size signed answer bad k
 
--- so a size below the limit is read back
+-- so a size below a bound is read back within it; the limit is one
+pub within : (bound page w : ℕ) (negative : Bool) (size : ℕ) (signed : Bool) → fitsOf w size ≡ true → size < bound
+    → zonedBy (readIn bound) unlawful (map (fromPage page) (map (ontoPage page) (encodedOf w negative size signed))) ≡ some (signed && negative) size
+within bound page w negative size signed f l = zoned-back (readIn bound) unlawful page w negative size signed f ∙ numberIn-fits 9 bound (signed && negative) size l
+
 pub decoded : (page w : ℕ) (negative : Bool) (size : ℕ) (signed : Bool) → fitsOf w size ≡ true → size < limit
     → decodeOf (map (fromPage page) (map (ontoPage page) (encodedOf w negative size signed))) ≡ some (signed && negative) size
 unfolding decodeOf
-decoded page w negative size signed f l = zoned-back (readIn limit) unlawful page w negative size signed f ∙ numberIn-fits 9 limit (signed && negative) size l
+decoded page w negative size signed f l = within limit page w negative size signed f l

@@ -2,6 +2,7 @@
 use mathlib.Core.Path.{_≡_, ap, _∙_}
 use mathlib.Core.Bool.{false}
 use mathlib.Core.List.{map}
+use Rattle.value.specs.Digits.{limit}
 use Rattle.value.specs.Number.{withSign}
 use Rattle.ebcdic.specs.Ebcdic.{fromPage}
 use Rattle.numerals.specs.Numerals.{trimmed}
@@ -30,7 +31,7 @@ returns c =
     let a = kept .before .before .args in
     let ascii = map (fromPage (a .page)) (a .part .now) in
     let minus : c .before .is-negative .result ≡ negativeOf (trimmed ascii) = c .before .is-negative .ensures ∙ ap negativeOf (c .before .before .trim .ensures .0) in
-    rw (c .before .before .before .if1 .taken) (c .with-sign .ensures ∙ (λ i. withSign (minus i) (kept .kept-digits .ensures i)) ∙ kept-signed (negativeOf (trimmed ascii)) ascii)
+    rw (c .before .before .before .if1 .taken) (c .with-sign .ensures ∙ (λ i. withSign (minus i) (kept .kept-digits .ensures i)) ∙ kept-signed limit (negativeOf (trimmed ascii)) ascii)
 
 with-sign-requires-2 : tie.Need-with-sign-requires-2
 with-sign-requires-2 c κs = search needs
@@ -39,7 +40,7 @@ returns-2 : tie.Need-returns-2
 unfolding decodedOf
 returns-2 c =
     let a = c .before .before .before .before .args in
-    rw (c .before .if1 .left) (c .with-sign2 .ensures ∙ ap (withSign false) (c .before .before .kept-digits .ensures) ∙ kept-signed false (map (fromPage (a .page)) (a .part .now)))
+    rw (c .before .if1 .left) (c .with-sign2 .ensures ∙ ap (withSign false) (c .before .before .kept-digits .ensures) ∙ kept-signed limit false (map (fromPage (a .page)) (a .part .now)))
 
 pub decode-spec : {M : Type 1} → statement M
 decode-spec =

@@ -6,6 +6,8 @@ use native.Mathlib.Omega.{arith}
 use lib.ListN.{length, take}
 use borrow.Author.Needs.{needs}
 use Rattle.ebcdic.specs.Ebcdic.{fromPage}
+use Rattle.value.specs.Number.{readIn, unlawful}
+use Rattle.value.proofs.Answers.{numberIn-capped}
 use Rattle.value.proofs.Field.{Read}
 use Rattle.zoned.specs.Zoned.{zone}
 use Rattle.zoned.proofs.Reading as Reading
@@ -19,7 +21,7 @@ abbrev μ-loop : tie.MeasureT-loop
 μ-loop part page bound n last size₀ i₀ size i = last - i
 
 returns : tie.Need-returns Inv-loop μ-loop
-returns c = let a = c .before .before .args in Reading.none (a .bound) (a .page) (a .part .now) (c .if1 .taken)
+returns c = let a = c .before .before .args in Reading.bad-empty (a .page) (a .part .now) (readIn (a .bound)) unlawful (c .if1 .taken)
 
 sub-last : tie.Need-sub-last Inv-loop μ-loop
 sub-last c = search needs
@@ -41,7 +43,7 @@ returns-2 c =
     let read = c .before .before in
     let here = read .before .before .before in
     let a = here .before .before .before .args in
-    Reading.bad (a .bound) (a .page) (a .part .now) (here .loop .i) (read .from-page .result) (c .before .digit .result) (read .before .before .loop-test .taken) (read .from-page .ensures)
+    Reading.bad-body (a .page) (a .part .now) (readIn (a .bound)) unlawful (here .loop .i) (read .from-page .result) (c .before .digit .result) (read .before .before .loop-test .taken) (read .from-page .ensures)
     (c .before .digit .ensures) (c .if2 .taken)
 
 push-digit-requires : tie.Need-push-digit-requires Inv-loop μ-loop
@@ -59,7 +61,7 @@ loop-again c =
     let here = read .before .before .before in
     let a = here .before .before .before .args in (
       search needs,
-      Reading.more (a .bound) (a .page) (a .part .now) (here .loop .i) (here .loop .size) (read .from-page .result) (c .before .before .digit .result) (c .push-digit .result)
+      Reading.more (a .page) (a .part .now) (a .bound) (here .loop .i) (here .loop .size) (read .from-page .result) (c .before .before .digit .result) (c .push-digit .result)
           (read .before .before .loop-test .taken) (here .loop .inv .1) (read .from-page .ensures) (c .before .before .digit .ensures) (c .before .if2 .left) (c .push-digit .ensures),
     )
 
@@ -76,7 +78,7 @@ returns-3 : tie.Need-returns-3 Inv-loop μ-loop
 returns-3 c =
     let read = c .before .before in
     let a = read .before .before .before .before .before .before .args in
-    Reading.bad-last (a .bound) (a .page) (a .part .now) (read .from-page2 .result) (c .before .decode-overpunch .result) (omega arith) (read .from-page2 .ensures)
+    Reading.bad-last (a .page) (a .part .now) (readIn (a .bound)) unlawful (read .from-page2 .result) (c .before .decode-overpunch .result) (omega arith) (read .from-page2 .ensures)
     (c .before .decode-overpunch .ensures) (c .if3 .taken)
 
 push-digit-requires-2 : tie.Need-push-digit-requires-2 Inv-loop μ-loop
@@ -96,7 +98,7 @@ returns-4 c =
     let a = here .before .before .before .args in
     let e : here .loop .i ≡ length (a .part .now) - 1 = omega arith in
     c .number-in .ensures
-    ∙ Reading.all (a .bound) (a .page) (a .part .now) (here .loop .i) (here .loop .size) (read .from-page2 .result) (over .decode-overpunch .result) (c .before .before .push-digit2 .result)
+    ∙ Reading.read-all (a .page) (a .part .now) (readIn (a .bound)) unlawful (a .bound) (λ n v. numberIn-capped 9 (a .bound) n v (a .bound) (omega arith)) (here .loop .i) (here .loop .size) (read .from-page2 .result) (over .decode-overpunch .result) (c .before .before .push-digit2 .result)
     (c .before .is-minus .result) (omega arith) e (here .loop .inv .1) (read .from-page2 .ensures) (over .decode-overpunch .ensures) (c .before .before .before .if3 .left)
     (c .before .before .push-digit2 .ensures) (c .before .is-minus .ensures)
 

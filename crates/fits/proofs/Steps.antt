@@ -4,6 +4,7 @@ use mathlib.Core.List.{List, [], _∷_}
 use mathlib.Core.Bool.{Bool, true, false, not, _&&_, cond, and-true, and-false, false≢true, true≢false}
 use Prim.Native.Nat.{ℕ, _+_, _-_, _*_, _/_, _%_, _^_, _<_, _≤_}
 use native.Mathlib.Omega.{arith}
+use native.Mathlib.Decide.{decLt}
 use lib.Dec.{eqb, leb, ltb, T}
 use lib.ListN.{length, getD}
 use lib.Ieee.{Float, nan, inf, fin, binary64, eq, ne, fits, isNan, toBits}
@@ -64,33 +65,44 @@ pub untrimmed-long : (w : ℕ) (t : List ℕ) → ((k : ℕ) → k < length t �
 untrimmed-long w t h = rw (every-true byteOk t (λ k b. lt-ltb (getD t k 0) 256 (h k b)), and-true)
 
 pub lower-none : (x : ℕ) → x < 48 → false ≡ isLower x
-lower-none x h = rw (lt-ltb x 48 h)
+lower-none x h = rw (lt-leb 48 x h, lt-leb 65 x (omega arith), lt-leb 97 x (omega arith))
 
 pub lower-digit : (x : ℕ) → 48 ≤ x → x < 58 → true ≡ isLower x
 lower-digit x l h =
     let e : 48 + (x - 48) ≡ x = omega arith in
-    rw (le-ltb x 48 l, lt-ltb x 58 h, lt-ltb (x - 48) 16 (omega arith), lt-ltb (x - 48) 10 (omega arith), e, eq-eqb x x refl)
+    rw (le-leb 48 x l, le-leb x 57 (omega arith), lt-ltb (x - 48) 16 (omega arith), lt-ltb (x - 48) 10 (omega arith), e, eq-eqb x x refl)
 
 pub lower-gap : (x : ℕ) → 58 ≤ x → x < 97 → false ≡ isLower x
-lower-gap x l h = by (ltb x 65) (ltb x 71) refl refl
+lower-gap x l h = by (decLt x 65) (decLt x 71)
   where
-    by : (a b : Bool) → ltb x 65 ≡ a → ltb x 71 ≡ b → false ≡ isLower x
-    by true b p q = rw (le-ltb x 48 (omega arith), le-ltb x 58 l, p)
-    by false true p q =
-        let k = ltb-false x 65 p in
-        let m = ltb-true x 71 q in
-        rw (le-ltb x 48 (omega arith), le-ltb x 58 l, p, q, lt-ltb (x - 55) 16 (omega arith), le-ltb (x - 55) 10 (omega arith)) (sym (ne-eqb (87 + (x - 55)) x (λ e. omega arith)))
-    by false false p q = rw (le-ltb x 48 (omega arith), le-ltb x 58 l, p, q, lt-ltb x 97 h)
+    by : Dec (x < 65) → Dec (x < 71) → false ≡ isLower x
+    by (yes p) q = rw (le-leb 48 x (omega arith), lt-leb x 57 l, lt-leb 65 x p, lt-leb 97 x h)
+    by (no p) (yes q) =
+        rw (le-leb 48 x (omega arith), lt-leb x 57 l, le-leb 65 x (omega arith), le-leb x 70 (omega arith), lt-ltb (x - 55) 16 (omega arith), le-ltb (x - 55) 10 (omega arith))
+        (sym (ne-eqb (87 + (x - 55)) x (λ e. omega arith)))
+    by (no p) (no q) = rw (le-leb 48 x (omega arith), lt-leb x 57 l, le-leb 65 x (omega arith), lt-leb x 70 (omega arith), lt-leb 97 x h)
 
 pub lower-letter : (x : ℕ) → 97 ≤ x → ltb x 103 ≡ isLower x
-lower-letter x l = by (ltb x 103) refl
+lower-letter x l = by (decLt x 103)
   where
-    by : (a : Bool) → ltb x 103 ≡ a → ltb x 103 ≡ isLower x
-    by true p =
-        let m = ltb-true x 103 p in
+    by : Dec (x < 103) → ltb x 103 ≡ isLower x
+    by (yes p) =
         let e : 87 + (x - 87) ≡ x = omega arith in
-        rw (le-ltb x 48 (omega arith), le-ltb x 58 (omega arith), le-ltb x 65 (omega arith), le-ltb x 71 (omega arith), le-ltb x 97 l, p, lt-ltb (x - 87) 16 (omega arith), le-ltb (x - 87) 10 (omega arith), e, eq-eqb x x refl)
-    by false p = rw (le-ltb x 48 (omega arith), le-ltb x 58 (omega arith), le-ltb x 65 (omega arith), le-ltb x 71 (omega arith), le-ltb x 97 l, p)
+        rw (
+          le-leb 48 x (omega arith),
+          lt-leb x 57 (omega arith),
+          le-leb 65 x (omega arith),
+          lt-leb x 70 (omega arith),
+          le-leb 97 x l,
+          le-leb x 102 (omega arith),
+          lt-ltb x 103 p,
+          lt-ltb (x - 87) 16 (omega arith),
+          le-ltb (x - 87) 10 (omega arith),
+          e,
+          eq-eqb x x refl,
+        )
+    by (no p) =
+        rw (le-leb 48 x (omega arith), lt-leb x 57 (omega arith), le-leb 65 x (omega arith), lt-leb x 70 (omega arith), le-leb 97 x l, lt-leb x 102 (omega arith), le-ltb x 103 (omega arith))
 
 -- twice a width, by halves
 pub odd-length : (n w : ℕ) → n % 2 ≡ 1 → eqb n (2 * w) ≡ false

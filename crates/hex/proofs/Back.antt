@@ -7,7 +7,7 @@ use native.Mathlib.Omega.{arith}
 use lib.Dec.{eqb, leb, ltb}
 use native.Mathlib.Decide.{decLt}
 use lib.ListN.{length, replicate, length-append, length-replicate}
-use borrow.Author.Tests.{eqb-true, ltb-true, lt-ltb, eq-eqb, ne-eqb, le-leb, lt-leb}
+use borrow.Author.Tests.{eqb-true, ltb-true, eq-eqb, ne-eqb, le-leb, lt-leb}
 use Rattle.lists.specs.Scan.{everyBy}
 use Rattle.lists.proofs.Scan.{keep-every, every-weaker, every-head, every-tail}
 use Rattle.lists.proofs.Logic.{and-left, and-right}
@@ -21,7 +21,7 @@ ink x e = go (decLt x 48)
   where
     go : Dec (x < 48) → isInk x ≡ true
     go (yes h) =
-        let n : nibbleIn x ≡ 16 = rw (lt-ltb x 48 h) in
+        let n : nibbleIn x ≡ 16 = rw (lt-leb 48 x h, lt-leb 65 x (omega arith), lt-leb 97 x (omega arith)) in
         let l : nibbleIn x < 16 = ltb-true (nibbleIn x) 16 (and-left (isHex x) (eqb (hexDigit (nibbleIn x)) x) e) in
         absurd (omega arith)
     go (no h) = rw (ne-eqb x 32 (omega arith), le-leb 9 x (omega arith), lt-leb x 13 (omega arith))

@@ -6,7 +6,7 @@ use Prim.Native.Nat.{ℕ, _+_, _-_, _*_, _/_, _%_}
 use lib.Dec.{eqb, leb, ltb}
 use lib.ListN.{length, replicate}
 use Rattle.lists.specs.Scan.{keepBy, everyBy}
-use Rattle.value.specs.Digits.{spread}
+use Rattle.value.specs.Digits.{isDigit, digitIn, spread}
 use Rattle.numerals.specs.Numerals.{isBlank}
 
 -- ---- reading: lower-case digits
@@ -22,15 +22,9 @@ hexOf order s = spread (hexPair order) s
 
 -- ---- writing: digits of either case, blanks skipped
 
--- the value of a digit; 16 for any other byte
+-- the value of a digit, 0-9, A-F or a-f; 16 for any other byte
 abbrev pub nibbleIn : ℕ → ℕ
-nibbleIn x =
-    cond (ltb x 48) 16
-    (cond (ltb x 58) (x - 48)
-    (cond (ltb x 65) 16
-    (cond (ltb x 71) (x - 55)
-    (cond (ltb x 97) 16
-    (cond (ltb x 103) (x - 87) 16)))))
+nibbleIn x = cond (isDigit x) (digitIn x) (cond (leb 65 x && leb x 70) (x - 55) (cond (leb 97 x && leb x 102) (x - 87) 16))
 
 abbrev pub isHex : ℕ → Bool
 isHex x = ltb (nibbleIn x) 16

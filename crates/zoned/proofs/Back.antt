@@ -8,10 +8,10 @@ use native.Mathlib.Decide.{decLt}
 use lib.Dec.{eqb, leb, ltb, lit<}
 use lib.ListN.{length, getD, length-append, List·getD-append}
 use lib.Seq.{getD-at}
-use borrow.Author.Tests.{lt-ltb, le-ltb, le-leb, lt-leb, ne-eqb}
+use borrow.Author.Tests.{le-ltb, le-leb, lt-leb, ne-eqb}
 use Rattle.ebcdic.specs.Ebcdic.{fromPage, ontoPage}
 use Rattle.ebcdic.proofs.Laws.{bytes-back}
-use Rattle.value.specs.Digits.{digitAt, digitsOf, digitText, spread, limit}
+use Rattle.value.specs.Digits.{digitIn, digitAt, digitsOf, digitText, spread, limit}
 use Rattle.value.specs.Number.{some, readIn, unlawful}
 use Rattle.value.specs.Field.{digitsBy}
 use Rattle.value.proofs.Digits.{ok-digits, value-of-digits, digit-below, digits-snoc, length-digitText}
@@ -26,12 +26,19 @@ use Rattle.zoned.specs.Zoned.{digitOf, zone, lastDigit, minus, anySign, 
 plus-digit : (d : ℕ) → 0 < d → d < 10 → lastDigit (0x40 + d) ≡ d
 plus-digit d l h =
     let e : 0x40 + d - 0x40 ≡ d = omega arith in
-    rw (le-ltb (0x40 + d) 0x3A (omega arith), le-ltb (0x40 + d) 0x41 (omega arith), lt-ltb (0x40 + d) 0x4A (omega arith)) e
+    rw (le-leb 48 (0x40 + d) (omega arith), lt-leb (0x40 + d) 57 (omega arith), le-leb 0x41 (0x40 + d) (omega arith), le-leb (0x40 + d) 0x49 (omega arith)) e
 
 minus-digit : (d : ℕ) → 0 < d → d < 10 → lastDigit (0x49 + d) ≡ d
 minus-digit d l h =
     let e : 0x49 + d - 0x49 ≡ d = omega arith in
-    rw (le-ltb (0x49 + d) 0x3A (omega arith), le-ltb (0x49 + d) 0x41 (omega arith), le-ltb (0x49 + d) 0x4A (omega arith), lt-ltb (0x49 + d) 0x53 (omega arith)) e
+    rw (
+      le-leb 48 (0x49 + d) (omega arith),
+      lt-leb (0x49 + d) 57 (omega arith),
+      le-leb 0x41 (0x49 + d) (omega arith),
+      lt-leb (0x49 + d) 0x49 (omega arith),
+      le-leb 0x4A (0x49 + d) (omega arith),
+      le-leb (0x49 + d) 0x52 (omega arith),
+    ) e
 
 plain-digit : (d : ℕ) → d < 10 → digitOf (48 + d) ≡ d
 plain-digit d h = let e : 48 + d - 0x30 ≡ d = omega arith in rw (le-ltb (48 + d) 0x30 (omega arith)) e
@@ -46,13 +53,15 @@ over-minus : (d : ℕ) (negative : Bool) → d < 10 → minus (overpunch d negat
 over-minus zero true h = refl
 over-minus zero false h = refl
 over-minus (suc d) true h =
-    rw (ne-eqb (suc d) 0 (omega arith), le-leb 0x4A (0x49 + suc d) (omega arith), lt-ltb (0x49 + suc d) 0x53 (omega arith))
+    rw (ne-eqb (suc d) 0 (omega arith), le-leb 0x4A (0x49 + suc d) (omega arith), le-leb (0x49 + suc d) 0x52 (omega arith))
 over-minus (suc d) false h =
     rw (ne-eqb (suc d) 0 (omega arith), lt-leb 0x4A (0x40 + suc d) (omega arith), ne-eqb (0x40 + suc d) 0x7D (omega arith))
 
 last-digit : (d : ℕ) (negative signed : Bool) → d < 10 → lastDigit (cond signed (overpunch d negative) (48 + d)) ≡ d
 last-digit d negative true h = over-digit d negative h
-last-digit d negative false h = rw (lt-ltb (48 + d) 0x3A (omega arith)) (plain-digit d h)
+last-digit d negative false h =
+    let e : digitIn (48 + d) ≡ d = omega arith in
+    rw (le-leb 48 (48 + d) (omega arith), le-leb (48 + d) 57 (omega arith)) e
 
 last-minus : (d : ℕ) (negative signed : Bool) → d < 10 → minus (cond signed (overpunch d negative) (48 + d)) ≡ (signed && negative)
 last-minus d negative true h = over-minus d negative h

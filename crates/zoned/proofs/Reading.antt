@@ -5,7 +5,8 @@ use mathlib.Core.Bool.{Bool}
 use Prim.Native.Nat.{ℕ, _+_, _-_, _*_, _<_, _≤_, min}
 use native.Mathlib.Omega.{arith}
 use lib.ListN.{length, getD, length-map}
-use borrow.Author.Tests.{le-ltb}
+use native.Mathlib.Decide.{decLt}
+use borrow.Author.Tests.{lt-ltb, le-ltb, le-leb, lt-leb, ne-eqb}
 use Rattle.lists.proofs.Lists.{getD-map}
 use Rattle.ebcdic.specs.Ebcdic.{fromPage}
 use Rattle.value.specs.Number.{readIn, unlawful}
@@ -66,6 +67,15 @@ module _ (page : ℕ) (part : List ℕ) where
         let p : i ≡ length ascii - 1 = omega arith in
         rw (m, ← y)
         (Field.read-all zone lastDigit anySign lawful bad ascii cap (λ b v. same (minus b) v) size total (omega arith) (rw p at r) (rw (y, ← f) k) refl (rw (y, ← f) t))
+
+-- below a colon the last byte has a digit as the others have one
+pub low-last : (b : ℕ) → b < 0x3A → digitOf b ≡ lastDigit b
+low-last b h = go (decLt b 0x30)
+  where
+    go : Dec (b < 0x30) → digitOf b ≡ lastDigit b
+    go (yes k) =
+        rw (lt-ltb b 0x30 k, lt-leb 48 b k, lt-leb 0x41 b (omega arith), lt-leb 0x4A b (omega arith), ne-eqb b 0x7B (omega arith), ne-eqb b 0x7D (omega arith))
+    go (no k) = rw (le-ltb b 0x30 (omega arith), le-leb 48 b (omega arith), le-leb b 57 (omega arith))
 
 pub decode-numbered : (part : List ℕ) → Numbered (decodeOf part)
 unfolding decodeOf

@@ -3,7 +3,7 @@ use mathlib.Core.List.{List, [], _∷_, _++_}
 use mathlib.Core.Bool.{Bool, true, _&&_, _||_, cond}
 use Prim.Native.Nat.{ℕ, _+_, _-_, _/_}
 use lib.Dec.{ltb, leb, eqb}
-use Rattle.value.specs.Digits.{digitAt, digitText, limit, roomFor}
+use Rattle.value.specs.Digits.{isDigit, digitIn, digitAt, digitText, limit, roomFor}
 use Rattle.value.specs.Answer.{Answer}
 use Rattle.value.specs.Number.{Whole, readIn, unlawful}
 use Rattle.value.specs.Field.{fieldOf}
@@ -18,16 +18,14 @@ zone b = digitOf b ∷ []
 -- "last byte 0-9, { A-I positive, } J-R negative": its digit
 abbrev pub lastDigit : ℕ → ℕ
 lastDigit b =
-    cond (ltb b 0x3A) (digitOf b)
-    (cond (ltb b 0x41) 10
-    (cond (ltb b 0x4A) (b - 0x40)
-    (cond (ltb b 0x53) (b - 0x49)
-    (cond (eqb b 0x7B) 0
-    (cond (eqb b 0x7D) 0 10)))))
+    cond (isDigit b) (digitIn b)
+    (cond (leb 0x41 b && leb b 0x49) (b - 0x40)
+    (cond (leb 0x4A b && leb b 0x52) (b - 0x49)
+    (cond (eqb b 0x7B || eqb b 0x7D) 0 10)))
 
 -- and its sign
 abbrev pub minus : ℕ → Bool
-minus b = (leb 0x4A b && ltb b 0x53) || eqb b 0x7D
+minus b = (leb 0x4A b && leb b 0x52) || eqb b 0x7D
 
 -- a last byte that has a digit has a sign
 abbrev pub anySign : ℕ → Bool

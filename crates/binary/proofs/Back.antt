@@ -1,6 +1,6 @@
 -- Reading a Binary field that was written gives its number back.
 use mathlib.Core.Path.{_≡_, refl, sym, ap, _∙_}
-use mathlib.Core.Bool.{Bool, true, false, _&&_, cond}
+use mathlib.Core.Bool.{Bool, true, false, _&&_, cond, and-false}
 use Prim.Native.Nat.{ℕ, zero, suc, _+_, _-_, _*_, _/_, _%_, _^_, _≤_, _<_}
 use native.Mathlib.Nat.{mod-eq-of-lt}
 use native.Mathlib.Omega.{arith}
@@ -37,7 +37,7 @@ module _ (order n : ℕ) (ok : widthOk n ≡ true) where
   -- unsigned: below 256^n and 2^63
   pub unsigned-back : (size : ℕ) → size < 256 ^ n → size < 2 ^ 63 → integerOf order false (integerBytes order n false size) ≡ given (number false size)
   unfolding integerOf
-  unsigned-back size h l = rw (long false size, ok, written false size, plain size, mod-eq-of-lt h, lt-ltb size (2 ^ 63) l)
+  unsigned-back size h l = rw (long false size, ok, written false size, plain size, mod-eq-of-lt h, lt-ltb size (2 ^ 63) l, and-false (ltb 0 size))
 
   -- signed: not negative and below half of 256^n, or negative and at most half of it
   pub plus-back : (size : ℕ) → 2 * size < 256 ^ n → integerOf order true (integerBytes order n false size) ≡ given (number false size)
@@ -46,7 +46,7 @@ module _ (order n : ℕ) (ok : widthOk n ≡ true) where
       let t = half-twice n (width-low n ok) (width-high n ok) in
       let e = half-is n (width-high n ok) in
       let s : size < 256 ^ n = omega arith in
-      rw (long false size, ok, written false size, plain size, mod-eq-of-lt s, lt-leb (256 ^ n / 2) size (rw (← e) (omega arith)))
+      rw (long false size, ok, written false size, plain size, mod-eq-of-lt s, lt-leb (256 ^ n / 2) size (rw (← e) (omega arith)), and-false (ltb 0 size))
 
   -- 2^64 is a multiple of 256^n
   low-part : (size : ℕ) → 0 < size → size ≤ 256 ^ n → (2 ^ 64 - size) % 256 ^ n ≡ 256 ^ n - size
@@ -68,4 +68,4 @@ module _ (order n : ℕ) (ok : widthOk n ≡ true) where
       let e = half-is n (width-high n ok) in
       let m : (2 ^ 64 - size) % 256 ^ n ≡ 256 ^ n - size = low-part size z (omega arith) in
       let b : 256 ^ n - (256 ^ n - size) ≡ size = omega arith in
-      rw (long true size, ok, written true size, lt-ltb 0 size z, m, le-leb (256 ^ n / 2) (256 ^ n - size) (rw (← e) (omega arith)), b)
+      rw (long true size, ok, written true size, lt-ltb 0 size z, m, le-leb (256 ^ n / 2) (256 ^ n - size) (rw (← e) (omega arith)), b, lt-ltb 0 size z)

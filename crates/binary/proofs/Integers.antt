@@ -1,7 +1,7 @@
 -- Two's complement by the width.
 use mathlib.Core.Path.{_≡_, refl, sym, ap, _∙_, subst}
 use mathlib.Core.List.{List, [], _∷_}
-use mathlib.Core.Bool.{Bool, true, false, _&&_, false≢true}
+use mathlib.Core.Bool.{Bool, true, false, _&&_, and-false, false≢true}
 use Prim.Native.Nat.{ℕ, zero, suc, _+_, _-_, _*_, _/_, _%_, _^_, _≤_, _<_}
 use native.Mathlib.Nat.{mod-eq-of-lt, lt-of-lt-of-le, pow-le-pow-right}
 use native.Mathlib.Numerals.{add-one}
@@ -11,8 +11,8 @@ use lib.ListN.{length, getD}
 use borrow.Author.Tests.{le-leb, lt-leb, leb-true, lt-ltb, le-ltb}
 use Rattle.lists.proofs.Table.{at}
 use Rattle.value.specs.Answer.{Answer, refused, given}
-use Rattle.value.specs.Number.{Whole, number, unlawful}
-use Rattle.value.proofs.Answers.{Numbered, numbered-cond}
+use Rattle.value.specs.Number.{Whole, number, some, unlawful}
+use Rattle.value.proofs.Answers.{Numbered, numbered-cond, numbered-in}
 use Rattle.binary.specs.Binary.{halfOf, widthOk, signedWord, unsignedWord, integerOf}
 use Rattle.binary.proofs.Words.{word-below}
 use Rattle.binary.specs.Bytes.{wordIn}
@@ -59,13 +59,13 @@ half-twice zero l h = absurd (omega arith)
 half-twice (suc n) l h = eqb→eq (2 * getD behind n 0) (256 ^ (n + 1)) (at even behind tt n (omega arith)) ∙ ap (λ (k : ℕ). 256 ^ k) (add-one n)
 
 pub below-half : (n v : ℕ) → n ≤ 8 → v < halfAt n → given (number false v) ≡ signedWord n v
-below-half n v h l = rw (lt-leb (256 ^ n / 2) v (rw (half-is n h) at l))
+below-half n v h l = rw (lt-leb (256 ^ n / 2) v (rw (half-is n h) at l), and-false (ltb 0 v))
 
 pub from-half : (n v : ℕ) → 1 ≤ n → n ≤ 8 → v < 256 ^ n → halfAt n ≤ v → given (number true (halfAt n - (v - halfAt n))) ≡ signedWord n v
 from-half n v k h b l =
     let t : 2 * halfAt n ≡ 256 ^ n = half-twice n k h in
     let e : halfAt n - (v - halfAt n) ≡ 256 ^ n - v = omega arith in
-    rw (le-leb (256 ^ n / 2) v (rw (half-is n h) at l), e)
+    rw (le-leb (256 ^ n / 2) v (rw (half-is n h) at l), e, lt-ltb 0 (256 ^ n - v) (omega arith))
 
 -- a word of at most eight bytes is read whole
 pub whole-word : (n v : ℕ) → n ≤ 8 → v < 256 ^ n → v % 2 ^ 64 ≡ v
@@ -88,7 +88,7 @@ module _ (order : ℕ) (s : List ℕ) (bytes : (k : ℕ) → k < length s → ge
 
   pub read-plain : (signed : Bool) → signed ≡ false → v < 2 ^ 63 → given (number false v) ≡ integerOf order signed s
   unfolding integerOf
-  read-plain signed t h = rw (ok, t, ← word-is, lt-ltb v (2 ^ 63) h)
+  read-plain signed t h = rw (ok, t, ← word-is, lt-ltb v (2 ^ 63) h, and-false (ltb 0 v))
 
   pub read-big : (signed : Bool) → signed ≡ false → 2 ^ 63 ≤ v → refused 9 ≡ integerOf order signed s
   unfolding integerOf
@@ -103,6 +103,6 @@ unfolding integerOf
 integer-numbered order signed s =
     numbered-cond (widthOk (length s)) _ unlawful
     (numbered-cond signed (signedWord (length s) (wordIn order s)) (unsignedWord (wordIn order s))
-    (numbered-cond (leb (256 ^ length s / 2) (wordIn order s)) (given (number true (256 ^ length s - wordIn order s))) (given (number false (wordIn order s))) tt tt)
-    (numbered-cond (ltb (wordIn order s) (2 ^ 63)) (given (number false (wordIn order s))) (refused 9) tt (λ e. omega arith)))
+    (numbered-cond (leb (256 ^ length s / 2) (wordIn order s)) (some true (256 ^ length s - wordIn order s)) (some false (wordIn order s)) tt tt)
+    (numbered-in 9 (2 ^ 63) false (wordIn order s) (λ e. omega arith)))
     (λ e. omega arith)

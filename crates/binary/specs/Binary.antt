@@ -2,11 +2,11 @@
 use mathlib.Core.List.{List}
 use mathlib.Core.Bool.{Bool, true, false, not, _&&_, _||_, cond}
 use Prim.Native.Nat.{ℕ, _-_, _/_, _^_}
-use lib.Dec.{eqb, leb, ltb}
+use lib.Dec.{eqb, leb}
 use lib.ListN.{length}
 use Rattle.lists.specs.Scan.{everyBy}
-use Rattle.value.specs.Answer.{Answer, refused, given}
-use Rattle.value.specs.Number.{Whole, number, unlawful}
+use Rattle.value.specs.Answer.{Answer}
+use Rattle.value.specs.Number.{Whole, some, readIn, unlawful}
 use Rattle.value.specs.Word.{wordOf}
 use Rattle.binary.specs.Bytes.{wordIn, bytesOf}
 
@@ -19,11 +19,11 @@ halfOf n = cond (widthOk n) (256 ^ n / 2) 0
 
 -- two's complement over n bytes: from half of 256^n on, the number less 256^n
 abbrev pub signedWord : ℕ → ℕ → Answer Whole
-signedWord n v = cond (leb (256 ^ n / 2) v) (given (number true (256 ^ n - v))) (given (number false v))
+signedWord n v = cond (leb (256 ^ n / 2) v) (some true (256 ^ n - v)) (some false v)
 
 -- "unsigned Binary from 2^63 (9)"
 abbrev pub unsignedWord : ℕ → Answer Whole
-unsignedWord v = cond (ltb v (2 ^ 63)) (given (number false v)) (refused 9)
+unsignedWord v = readIn (2 ^ 63) false v
 
 unfoldable pub integerOf : ℕ → Bool → List ℕ → Answer Whole
 integerOf order signed s =

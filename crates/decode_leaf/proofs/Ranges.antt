@@ -29,12 +29,15 @@ by false x y f g = g refl
 number-small : (bound : ℕ) (negative : Bool) (v : ℕ) → bound ≤ 9223372036854775808 → Small (readIn bound negative v)
 number-small bound negative v h = by (ltb v bound) (some negative v) (refused 9) (λ e _. omega (arith, ltb-true v bound e, h)) (λ _. tt)
 
-minus-small : (bound v : ℕ) → Small (readIn bound true v)
-minus-small bound v = by (ltb v bound) (some true v) (refused 9) (λ e. go (ltb 0 v) refl) (λ _. tt)
+minus-some : (v : ℕ) → Small (some true v)
+minus-some v = go (ltb 0 v) refl
   where
     go : (b : Bool) → ltb 0 v ≡ b → ((b && true) && b) ≡ false → v < 9223372036854775808
     go true e f = absurd (true≢false f)
     go false e f = omega (arith, ltb-false 0 v e)
+
+minus-small : (bound v : ℕ) → Small (readIn bound true v)
+minus-small bound v = by (ltb v bound) (some true v) (refused 9) (λ e. minus-some v) (λ _. tt)
 
 digits-small : (bound : ℕ) (negative : Bool) (t : List ℕ) → bound ≤ 9223372036854775808 → Small (digitsIn bound negative t)
 unfolding digitsIn
@@ -75,8 +78,8 @@ binary-small order signed s = by (widthOk (length s)) (cond signed (signedWord (
     (λ w. by signed (signedWord (length s) (wordIn order s)) (unsignedWord (wordIn order s)) (λ _. sign w) (λ _. plain)) (λ _. tt)
   where
     sign : widthOk (length s) ≡ true → Small (signedWord (length s) (wordIn order s))
-    sign w = by (leb (256 ^ length s / 2) (wordIn order s)) (given (number true (256 ^ length s - wordIn order s))) (given (number false (wordIn order s)))
-        (λ _ f. omega (arith, ltb-false 0 (256 ^ length s - wordIn order s) f)) (λ e _. omega (arith, leb-false (256 ^ length s / 2) (wordIn order s) e, half-small (length s) (width-high (length s) w)))
+    sign w = by (leb (256 ^ length s / 2) (wordIn order s)) (some true (256 ^ length s - wordIn order s)) (some false (wordIn order s))
+        (λ _. minus-some (256 ^ length s - wordIn order s)) (λ e _. omega (arith, leb-false (256 ^ length s / 2) (wordIn order s) e, half-small (length s) (width-high (length s) w)))
 
     plain : Small (unsignedWord (wordIn order s))
-    plain = by (ltb (wordIn order s) (2 ^ 63)) (given (number false (wordIn order s))) (refused 9) (λ e _. omega (arith, ltb-true (wordIn order s) (2 ^ 63) e)) (λ _. tt)
+    plain = number-small (2 ^ 63) false (wordIn order s) (omega arith)

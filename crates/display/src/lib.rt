@@ -6,7 +6,7 @@ ghost use mathlib.Core.Path.{_≡_};
 ghost use mathlib.Core.List.{map, []};
 ghost use mathlib.Core.Bool.{Bool, _&&_, not};
 ghost use lib.ListN.{length};
-ghost use Rattle.value.specs.declared.Scalar.the-variants.{Decimal};
+ghost use Rattle.value.specs.Scalar.{decimal};
 ghost use Rattle.value.specs.Number.{readAs, writtenAs};
 ghost use Rattle.ebcdic.specs.Ebcdic.{fromPage};
 ghost use Rattle.numerals.specs.Numerals.{trimmed};
@@ -151,7 +151,7 @@ fn text_whole(text: &[u8]) -> Number
 }
 
 fn decimal_whole(negative: bool, size: u64, scale: u64) -> Number
-    ensures { λ r. ⌜ writtenAs r ≡ wholeIn (Decimal negative size scale) [] ⌝ }
+    ensures { λ r. ⌜ writtenAs r ≡ wholeIn (decimal negative size scale) [] ⌝ }
 {
     if scale == 0 {
         return value::signed_size(negative, size);

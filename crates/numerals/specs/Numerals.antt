@@ -3,9 +3,7 @@ use mathlib.Core.List.{List, map}
 use mathlib.Core.Bool.{Bool, _&&_, _||_, cond}
 use Prim.Native.Nat.{ℕ}
 use lib.Dec.{ltb, leb, eqb}
-use Rattle.value.specs.Digits.{valueOf, isDigit, digitIn, limit}
-use Rattle.value.specs.Answer.{Answer}
-use Rattle.value.specs.Number.{Whole, readIn, unlawful}
+use Rattle.value.specs.Digits.{valueOf, isDigit, digitIn}
 use Rattle.lists.specs.Scan.{leftBy, rightBy, keepBy, everyBy}
 
 -- "blanks (0x09-0x0D, 0x20)"
@@ -23,9 +21,6 @@ isAscii x = ltb x 128
 -- "digits kept, others skipped": the answer for the size that the digits among the bytes spell; none spell 0. bad: what an unlawful byte answers
 unfoldable pub keptBy : {X : Type 0} → (ℕ → X) → X → List ℕ → X
 keptBy answer bad s = cond (everyBy isAscii s) (answer (valueOf (map digitIn (keepBy isDigit s)))) bad
-
-abbrev pub keptOf : Bool → List ℕ → Answer Whole
-keptOf negative s = keptBy (readIn limit negative) unlawful s
 
 -- whether a byte is a sign; a sign's byte
 abbrev pub isSign : ℕ → Bool

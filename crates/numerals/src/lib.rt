@@ -9,10 +9,10 @@ ghost use lib.ListN.{length, take, drop};
 ghost use denote.Ref.{ptr};
 ghost use Rattle.lists.specs.Part.{placeIn};
 ghost use Rattle.lists.specs.Scan.{leftBy, leftCount, rightBy};
-ghost use Rattle.value.specs.Digits.{digitText, isDigit, digitIn};
-ghost use Rattle.value.specs.Number.{readAs};
+ghost use Rattle.value.specs.Digits.{digitText, isDigit, digitIn, limit};
+ghost use Rattle.value.specs.Number.{readAs, readIn, unlawful};
 ghost use Rattle.ebcdic.specs.Ebcdic.{fromPage, ontoPage};
-ghost use Rattle.numerals.specs.Numerals.{isBlank, trimmed, keptOf, isSign, signByte};
+ghost use Rattle.numerals.specs.Numerals.{isBlank, trimmed, keptBy, isSign, signByte};
 
 // ---- reading
 
@@ -95,7 +95,7 @@ pub fn digit_in(x: u8) -> u8
 
 // The size that the digits of a text spell, other bytes skipped.
 pub fn kept_digits(part: &[u8], page: u32) -> Number
-    ensures { λ r. ⌜ readAs r ≡ keptOf false (map (fromPage page) (now (part .entry))) ⌝ }
+    ensures { λ r. ⌜ readAs r ≡ keptBy (readIn limit false) unlawful (map (fromPage page) (now (part .entry))) ⌝ }
 {
     let mut size: u64 = 0;
     let mut i = 0;

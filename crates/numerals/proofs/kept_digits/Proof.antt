@@ -10,12 +10,12 @@ use Rattle.value.specs.Digits.{isDigit, limit}
 use Rattle.value.specs.Number.{readIn, unlawful}
 use Rattle.value.proofs.Answers.{numberIn-capped}
 use Rattle.ebcdic.specs.Ebcdic.{fromPage}
-use Rattle.numerals.specs.Numerals.{keptOf}
+use Rattle.numerals.specs.Numerals.{keptBy}
 use Rattle.numerals.proofs.Reading.{keptFrom, kept-is, kept-high, kept-skip, kept-go, kept-end}
 use Rattle.numerals.proofs.kept_digits.Statement.{statement}
 use Rattle.numerals.proofs.kept_digits.Tie as tie
 
-whole : (page : ℕ) (part : List ℕ) → keptOf false (map (fromPage page) part) ≡ keptFrom (readIn limit false) unlawful 0 (map (fromPage page) part)
+whole : (page : ℕ) (part : List ℕ) → keptBy (readIn limit false) unlawful (map (fromPage page) part) ≡ keptFrom (readIn limit false) unlawful 0 (map (fromPage page) part)
 whole page part = sym (kept-is (readIn limit false) unlawful (map (fromPage page) part))
 
 abbrev Inv-loop : tie.InvT-loop

@@ -3,7 +3,6 @@ use mathlib.Core.Path.{_≡_, sym, ap}
 use mathlib.Core.List.{List, map}
 use mathlib.Core.Bool.{Bool, true, false, cond}
 use Prim.Native.Nat.{ℕ, suc, _+_, _*_, _<_, _≤_, min}
-use native.Mathlib.Omega.{arith}
 use native.Mathlib.Numerals.{add-one}
 use lib.ListN.{length, getD, drop, drop-of-length-le, length-map}
 use lib.Seq.{drop-cons}
@@ -12,7 +11,7 @@ use Rattle.value.specs.Answer.{Answer}
 use Rattle.value.specs.Digits.{valueFrom, isDigit, digitIn}
 use Rattle.value.specs.Number.{Whole, readIn, unlawful}
 use Rattle.value.proofs.Digits.{cap-answer}
-use Rattle.value.proofs.Answers.{numberIn-capped}
+use Rattle.value.proofs.Answers.{read-capped}
 use Rattle.lists.specs.Scan.{everyBy}
 use Rattle.display.specs.Display.{digitsIn}
 
@@ -40,7 +39,7 @@ module _ (g : ℕ → ℕ) (s : List ℕ) (bound : ℕ) (negative : Bool) where
   whole-go i v next below e n =
       rw (add-one, n, drop-cons s i 0 below, e)
       (ap (λ (m : Answer Whole). cond (everyBy isDigit (map g (drop (suc i) s))) m unlawful)
-      (sym (cap-answer (readIn bound negative) bound (λ n. numberIn-capped 9 bound negative n bound (omega arith)) (v * 10 + digitIn (g (getD s i 0))) (map digitIn (map g (drop (suc i) s))))))
+      (sym (cap-answer (readIn bound negative) bound (read-capped bound negative) (v * 10 + digitIn (g (getD s i 0))) (map digitIn (map g (drop (suc i) s))))))
 
   pub whole-end : (i v : ℕ) → length s ≤ i → wholeFrom bound negative v (map g (drop i s)) ≡ readIn bound negative v
   unfolding wholeFrom everyBy

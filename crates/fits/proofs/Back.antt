@@ -39,7 +39,8 @@ use Rattle.edited.specs.Fits as EditedFits
 use Rattle.edited.proofs.Round as EditedRound
 use Rattle.decode_scalar.specs.Decode.{Says, value, text, says, flag, intSays, decimalSays}
 use Rattle.encode_scalar.specs.Encode.{numberJudged, numberBytes, judgedOf, bytesOf}
-use Rattle.fits.specs.Fits.{Minus, Digits, plain, separate, InRange, unsigned, plus, minus, Fits, text-fits, int-fits, binary-fits, float-fits, hex-fits, bool-fits, display-fits, packed-fits, zoned-fits, edited-fits, saidOf}
+use Rattle.fits.specs.Fits.{Minus, Digits, plain, separate, InRange, unsigned, plus, minus, Fits, text-fits}
+use Rattle.fits.specs.Fits.{int-fits, binary-fits, float-fits, hex-fits, bool-fits, display-fits, packed-fits, zoned-fits, edited-fits, saidOf}
 
 -- a value is accepted, and what is written for it says it
 pub record Kept (kind p q r s : ℕ) (mask : List ℕ) (page w : ℕ) (v : Scalar) (t : List ℕ) : Type 0 where
@@ -115,7 +116,8 @@ module _ (p q r s : ℕ) (mask : List ℕ) (page w : ℕ) (t : List ℕ) where
   bool-kept true e = record { accepted = refl; said = refl }
   bool-kept false e = record { accepted = refl; said = refl }
 
-  edited-kept : (negative : Bool) (size : ℕ) → length mask ≡ w → EditedFits.Fits (flag p) negative size mask → size < limit → Minus negative size → Kept 8 p q r s mask page w (decimal negative size r) t
+  edited-kept : (negative : Bool) (size : ℕ) → length mask ≡ w → EditedFits.Fits (flag p) negative size mask → size < limit → Minus negative size
+      → Kept 8 p q r s mask page w (decimal negative size r) t
   unfolding judgedOf numberJudged bytesOf numberBytes says
   edited-kept negative size e f l m =
       let n = same-scale negative size r l m in

@@ -19,7 +19,8 @@ use Rattle.float.proofs.Back.{exact-true, true-exact, exact-lt}
 use Rattle.decode_scalar.specs.Decode.{flag}
 use Rattle.fits.specs.Fits.{Fits, text-fits, int-fits, binary-fits, float-fits, hex-fits, bool-fits, display-fits, packed-fits, zoned-fits, edited-fits}
 use Rattle.fits.specs.Decide.{textFits, hexFits, digitsFit, intFits, inRange, binaryFits, wordFits, signOk, displayFits, packedFits, zonedFits, decimalFits, editedMinusOk, maskFits, editedFits, fitsOf}
-use Rattle.fits.proofs.Tests.{text-sound, text-complete, hex-sound, hex-complete, sign-sound, sign-complete, digits-sound, digits-complete, range-sound, range-complete, plain-float, float-plain, edited-sound, edited-complete}
+use Rattle.fits.proofs.Tests.{text-sound, text-complete, hex-sound, hex-complete, sign-sound, sign-complete, digits-sound}
+use Rattle.fits.proofs.Tests.{digits-complete, range-sound, range-complete, plain-float, float-plain, edited-sound, edited-complete}
 
 module _ (p q r s : ℕ) (mask : List ℕ) (w : ℕ) (t : List ℕ) where
   text-so : (kind start count : ℕ) → cond (eqb kind 0) (textFits (flag p) (flag q) (r % 256) w t) (eqb kind 4 && hexFits w t) ≡ true → Fits p q r s mask w kind (Text start count) t

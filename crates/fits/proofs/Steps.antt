@@ -12,6 +12,7 @@ use lib.Ieee.Compare.{differs-from-itself}
 use borrow.Author.Tests.{lt-ltb, le-ltb, le-leb, lt-leb, eq-eqb, ne-eqb, ltb-true, ltb-false, leb-true, leb-false}
 use Rattle.lists.proofs.Logic.{and}
 use Rattle.lists.proofs.Scan.{every-true}
+use Rattle.value.proofs.Digits.{past}
 use Rattle.value.specs.Answer.{given}
 use Rattle.value.specs.Number.{number as whole-number}
 use Rattle.value.specs.Digits.{limit}
@@ -76,11 +77,11 @@ pub lower-gap : (x : ℕ) → 58 ≤ x → x < 97 → false ≡ isLower x
 lower-gap x l h = by (decLt x 65) (decLt x 71)
   where
     by : Dec (x < 65) → Dec (x < 71) → false ≡ isLower x
-    by (yes p) q = rw (le-leb 48 x (omega arith), lt-leb x 57 l, lt-leb 65 x p, lt-leb 97 x h)
+    by (yes p) q = rw (past 48 57 x l, lt-leb 65 x p, lt-leb 97 x h)
     by (no p) (yes q) =
-        rw (le-leb 48 x (omega arith), lt-leb x 57 l, le-leb 65 x (omega arith), le-leb x 70 (omega arith), lt-ltb (x - 55) 16 (omega arith), le-ltb (x - 55) 10 (omega arith))
+        rw (past 48 57 x l, le-leb 65 x (omega arith), le-leb x 70 (omega arith), lt-ltb (x - 55) 16 (omega arith), le-ltb (x - 55) 10 (omega arith))
         (sym (ne-eqb (87 + (x - 55)) x (λ e. omega arith)))
-    by (no p) (no q) = rw (le-leb 48 x (omega arith), lt-leb x 57 l, le-leb 65 x (omega arith), lt-leb x 70 (omega arith), lt-leb 97 x h)
+    by (no p) (no q) = rw (past 48 57 x l, past 65 70 x (omega arith), lt-leb 97 x h)
 
 pub lower-letter : (x : ℕ) → 97 ≤ x → ltb x 103 ≡ isLower x
 lower-letter x l = by (decLt x 103)
@@ -88,21 +89,10 @@ lower-letter x l = by (decLt x 103)
     by : Dec (x < 103) → ltb x 103 ≡ isLower x
     by (yes p) =
         let e : 87 + (x - 87) ≡ x = omega arith in
-        rw (
-          le-leb 48 x (omega arith),
-          lt-leb x 57 (omega arith),
-          le-leb 65 x (omega arith),
-          lt-leb x 70 (omega arith),
-          le-leb 97 x l,
-          le-leb x 102 (omega arith),
-          lt-ltb x 103 p,
-          lt-ltb (x - 87) 16 (omega arith),
-          le-ltb (x - 87) 10 (omega arith),
-          e,
-          eq-eqb x x refl,
-        )
+        rw (past 48 57 x (omega arith), past 65 70 x (omega arith), le-leb 97 x l, le-leb x 102 (omega arith), lt-ltb x 103 p, lt-ltb (x - 87) 16 (omega arith), le-ltb (x - 87) 10 (omega arith), e)
+        (sym (eq-eqb x x refl))
     by (no p) =
-        rw (le-leb 48 x (omega arith), lt-leb x 57 (omega arith), le-leb 65 x (omega arith), lt-leb x 70 (omega arith), le-leb 97 x l, lt-leb x 102 (omega arith), le-ltb x 103 (omega arith))
+        rw (past 48 57 x (omega arith), past 65 70 x (omega arith), past 97 102 x (omega arith), le-ltb x 103 (omega arith))
 
 -- twice a width, by halves
 pub odd-length : (n w : ℕ) → n % 2 ≡ 1 → eqb n (2 * w) ≡ false

@@ -251,7 +251,8 @@ tells-complete (debit m) =
     let t = m ++ (68 ∷ 66 ∷ []) in
     or-right (isSign (getD t 0 0)) _ (or-right (isSign (lastOf t)) _ (or-right (lastTwo 67 82 t) _ (two-last 68 66 m)))
 
-pub edited-sound : (signed negative : Bool) (size : ℕ) (mask : List ℕ) → maskFits size mask ≡ true → editedMinusOk signed negative size mask ≡ true → Edited.Fits signed negative size mask × ((size < limit) × Minus negative size)
+pub edited-sound : (signed negative : Bool) (size : ℕ) (mask : List ℕ) → maskFits size mask ≡ true → editedMinusOk signed negative size mask ≡ true
+    → Edited.Fits signed negative size mask × ((size < limit) × Minus negative size)
 edited-sound signed negative size mask e f =
     let a = both (isLawful mask) (not (isFloating mask) && (eqb (countOf 48 mask) 0 && (ltb 0 (positions mask) && (ltb size (10 ^ positions mask) && ltb size limit)))) e in
     let b = both (not (isFloating mask)) (eqb (countOf 48 mask) 0 && (ltb 0 (positions mask) && (ltb size (10 ^ positions mask) && ltb size limit))) (a .1) in
@@ -278,7 +279,8 @@ edited-sound signed negative size mask e f =
         (ltb-true 0 size (p .0), (q .0, tells-sound mask (q .1)))
     sign false f e = absurd (false≢true e)
 
-pub edited-complete : (signed negative : Bool) (size : ℕ) (mask : List ℕ) → Edited.Fits signed negative size mask → size < limit → Minus negative size → (maskFits size mask ≡ true) × (editedMinusOk signed negative size mask ≡ true)
+pub edited-complete : (signed negative : Bool) (size : ℕ) (mask : List ℕ) → Edited.Fits signed negative size mask → size < limit → Minus negative size
+    → (maskFits size mask ≡ true) × (editedMinusOk signed negative size mask ≡ true)
 edited-complete signed negative size mask f l m = (
   rw (f .lawful, f .fixed, f .no-zero, lt-ltb 0 (positions mask) (f .some), lt-ltb size (10 ^ positions mask) (f .enough), lt-ltb size limit l),
   sign negative (f .has-sign) (f .tells) m,

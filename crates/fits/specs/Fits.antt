@@ -52,7 +52,8 @@ pub data Fits (p q r s : ℕ) (mask : List ℕ) (w : ℕ) : ℕ → Scalar → L
   -- "Packed, zoned: below 10^(2w−1), 10^w"
   packed-fits : (negative : Bool) (size : ℕ) (t : List ℕ) → p ≡ 1 → 0 < w → size < 10 ^ (2 * w - 1) → size < limit → Signed q negative size → Fits p q r s mask w 7 (decimal negative size r) t
   zoned-fits : (negative : Bool) (size : ℕ) (t : List ℕ) → p ≡ 2 → 0 < w → size < 10 ^ w → size < limit → Signed q negative size → Fits p q r s mask w 7 (decimal negative size r) t
-  edited-fits : (negative : Bool) (size : ℕ) (t : List ℕ) → length mask ≡ w → Edited.Fits (flag p) negative size mask → size < limit → Minus negative size → Fits p q r s mask w 8 (decimal negative size r) t
+  edited-fits : (negative : Bool) (size : ℕ) (t : List ℕ) → length mask ≡ w → Edited.Fits (flag p) negative size mask → size < limit → Minus negative size
+      → Fits p q r s mask w 8 (decimal negative size r) t
 
 -- what a field that holds the value says: a text says its bytes
 abbrev pub saidOf : Scalar → List ℕ → Says

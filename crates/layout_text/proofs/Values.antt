@@ -182,7 +182,8 @@ number-short s e = by (leads s && (everyBy isDigit s && ltb (valueFrom 0 (map di
         go (x ∷ []) l m = omega arith
         go (x ∷ y ∷ s) l m =
             let d : everyBy isDigit (x ∷ y ∷ s) ≡ true = and-left (everyBy isDigit (x ∷ y ∷ s)) (ltb (valueFrom 0 (map digitIn (x ∷ y ∷ s))) absent) m in
-            let b : valueFrom 0 (map digitIn (x ∷ y ∷ s)) < absent = ltb-true (valueFrom 0 (map digitIn (x ∷ y ∷ s))) absent (and-right (everyBy isDigit (x ∷ y ∷ s)) (ltb (valueFrom 0 (map digitIn (x ∷ y ∷ s))) absent) m) in
+            let b : valueFrom 0 (map digitIn (x ∷ y ∷ s)) < absent =
+            ltb-true (valueFrom 0 (map digitIn (x ∷ y ∷ s))) absent (and-right (everyBy isDigit (x ∷ y ∷ s)) (ltb (valueFrom 0 (map digitIn (x ∷ y ∷ s))) absent) m) in
             let f : 1 ≤ digitIn x = lead-digit x (every-head isDigit x (y ∷ s) d) l in
             let t : length (y ∷ s) ≤ 9 = ten-more (0 * 10 + digitIn x) (y ∷ s) (omega arith) (omega arith) in
             omega arith

@@ -85,4 +85,5 @@ kept-signed bound negative s = by (everyBy isAscii s)
 pub kept-numbered : (bound : ℕ) (negative : Bool) (s : List ℕ) → Numbered (keptBy (readIn bound negative) unlawful s)
 unfolding keptBy
 kept-numbered bound negative s =
-    numbered-cond (everyBy isAscii s) (readIn bound negative (valueOf (map digitIn (keepBy isDigit s)))) unlawful (numbered-in 9 bound negative (valueOf (map digitIn (keepBy isDigit s))) (λ e. omega arith)) (λ e. omega arith)
+    numbered-cond (everyBy isAscii s) (readIn bound negative (valueOf (map digitIn (keepBy isDigit s)))) unlawful
+    (numbered-in 9 bound negative (valueOf (map digitIn (keepBy isDigit s))) (λ e. omega arith)) (λ e. omega arith)

@@ -7,7 +7,7 @@ use native.Mathlib.Decide.{decLt}
 use lib.Dec.{ltb}
 use borrow.Author.Tests.{lt-ltb, le-ltb}
 use Rattle.value.specs.Answer.{Answer, refused, given}
-use Rattle.value.specs.Number.{Whole, number, some, numberIn}
+use Rattle.value.specs.Number.{Whole, number, some, numberIn, readIn}
 
 module _ (question bound : ℕ) (negative : Bool) (v : ℕ) where
   -- nothing is lost by a size that stops counting at the bound or past it
@@ -28,6 +28,9 @@ module _ (question bound : ℕ) (negative : Bool) (v : ℕ) where
 
   pub numberIn-fits : v < bound → numberIn question bound negative v ≡ some negative v
   numberIn-fits h = rw (lt-ltb v bound h)
+
+pub read-capped : (bound : ℕ) (negative : Bool) (v : ℕ) → readIn bound negative (min v bound) ≡ readIn bound negative v
+read-capped bound negative v = numberIn-capped 9 bound negative v bound (omega arith)
 
 -- ---- a refusal has the number of a question, which is no 0
 

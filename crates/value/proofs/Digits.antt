@@ -8,11 +8,15 @@ use native.Mathlib.Nat.{not-suc-le-zero, le-of-suc-le-suc}
 use native.Mathlib.Numerals.{add-one}
 use native.Mathlib.Omega.{arith}
 use lib.Arith.{mod-mul}
-use lib.Dec.{ltb, lit<}
+use lib.Dec.{ltb, leb, lit<}
 use lib.ListN.{length, getD, take, length-map}
 use lib.Seq.{take-suc}
-use borrow.Author.Tests.{lt-ltb}
+use borrow.Author.Tests.{lt-ltb, lt-leb}
 use Rattle.value.specs.Digits.{valueFrom, valueOf, digitsOk, digitAt, digitsOf, asciiOf, digitText, spread}
+
+-- a byte past a range of characters
+pub past : (x y b : ℕ) → y < b → (leb x b && leb b y) ≡ false
+past x y b h = rw (lt-leb b y h) (and-false (leb x b))
 
 pub value-append : (acc : ℕ) (xs ys : List ℕ) → valueFrom acc (xs ++ ys) ≡ valueFrom (valueFrom acc xs) ys
 value-append acc [] ys = refl

@@ -14,7 +14,7 @@ use Rattle.ebcdic.proofs.Laws.{bytes-back}
 use Rattle.value.specs.Digits.{digitIn, digitAt, digitsOf, digitText, spread, limit}
 use Rattle.value.specs.Number.{some, readIn, unlawful}
 use Rattle.value.specs.Field.{digitsBy}
-use Rattle.value.proofs.Digits.{ok-digits, value-of-digits, digit-below, digits-snoc, length-digitText}
+use Rattle.value.proofs.Digits.{ok-digits, value-of-digits, digit-below, digits-snoc, length-digitText, past}
 use Rattle.value.proofs.Answers.{numberIn-fits}
 use Rattle.value.proofs.Field.{read-lawful, last-snoc, front-snoc}
 use Rattle.value.proofs.Room.{room-some, room-below}
@@ -26,19 +26,12 @@ use Rattle.zoned.specs.Zoned.{digitOf, zone, lastDigit, minus, anySign, 
 plus-digit : (d : ℕ) → 0 < d → d < 10 → lastDigit (0x40 + d) ≡ d
 plus-digit d l h =
     let e : 0x40 + d - 0x40 ≡ d = omega arith in
-    rw (le-leb 48 (0x40 + d) (omega arith), lt-leb (0x40 + d) 57 (omega arith), le-leb 0x41 (0x40 + d) (omega arith), le-leb (0x40 + d) 0x49 (omega arith)) e
+    rw (past 48 57 (0x40 + d) (omega arith), le-leb 0x41 (0x40 + d) (omega arith), le-leb (0x40 + d) 0x49 (omega arith)) e
 
 minus-digit : (d : ℕ) → 0 < d → d < 10 → lastDigit (0x49 + d) ≡ d
 minus-digit d l h =
     let e : 0x49 + d - 0x49 ≡ d = omega arith in
-    rw (
-      le-leb 48 (0x49 + d) (omega arith),
-      lt-leb (0x49 + d) 57 (omega arith),
-      le-leb 0x41 (0x49 + d) (omega arith),
-      lt-leb (0x49 + d) 0x49 (omega arith),
-      le-leb 0x4A (0x49 + d) (omega arith),
-      le-leb (0x49 + d) 0x52 (omega arith),
-    ) e
+    rw (past 48 57 (0x49 + d) (omega arith), past 0x41 0x49 (0x49 + d) (omega arith), le-leb 0x4A (0x49 + d) (omega arith), le-leb (0x49 + d) 0x52 (omega arith)) e
 
 plain-digit : (d : ℕ) → d < 10 → digitOf (48 + d) ≡ d
 plain-digit d h = let e : 48 + d - 0x30 ≡ d = omega arith in rw (le-ltb (48 + d) 0x30 (omega arith)) e

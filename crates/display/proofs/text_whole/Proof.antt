@@ -17,7 +17,9 @@ or-refused-requires : tie.Need-or-refused-requires
 or-refused-requires c κs = search needs
 
 returns : tie.Need-returns
-returns c = c .or-refused .ensures ∙ ap orRefused (c .before .whole-of .ensures ∙ ap wholeOf (c .before .before .trim .ensures .0 ∙ ap trimmed (page-zero (c .before .before .before .before .args .text .now))))
+returns c =
+    let text = c .before .before .before .before .args .text .now in
+    c .or-refused .ensures ∙ ap orRefused (c .before .whole-of .ensures ∙ ap wholeOf (c .before .before .trim .ensures .0 ∙ ap trimmed (page-zero text)))
 
 pub text-whole-spec : {M : Type 1} → statement M
 text-whole-spec = tie.close (tie.spec trim-requires whole-of-requires or-refused-requires returns)

@@ -8,7 +8,7 @@ use lib.ListN.{length, take, drop, getD}
 use borrow.Author.Needs.{needs}
 use Rattle.value.specs.Digits.{isDigit, limit}
 use Rattle.value.specs.Number.{readIn, unlawful}
-use Rattle.value.proofs.Answers.{numberIn-capped}
+use Rattle.value.proofs.Answers.{read-capped}
 use Rattle.ebcdic.specs.Ebcdic.{fromPage}
 use Rattle.numerals.specs.Numerals.{keptBy}
 use Rattle.numerals.proofs.Reading.{keptFrom, kept-is, kept-high, kept-skip, kept-go, kept-end}
@@ -64,7 +64,7 @@ loop-again c =
     let h : fromPage (a .page) (getD (a .part .now) (here .loop .i) 0) < 128 = rw x at (c .before .before .before .before .if1 .left) in (
       omega arith,
       here .loop .inv .1
-          ∙ kept-go (readIn limit false) unlawful (fromPage (a .page)) (a .part .now) (here .loop .i) (here .loop .size) (read .before .before .loop-test .taken) limit (λ n. numberIn-capped 9 limit false n limit (omega arith)) (c .push-digit .result) h
+          ∙ kept-go (readIn limit false) unlawful (fromPage (a .page)) (a .part .now) (here .loop .i) (here .loop .size) (read .before .before .loop-test .taken) limit (read-capped limit false) (c .push-digit .result) h
           (ap isDigit (sym x) ∙ sym (c .before .before .before .is-digit .ensures) ∙ c .before .before .if2 .taken) (rw (c .before .digit-in .ensures, x) at (c .push-digit .ensures)),
     )
 

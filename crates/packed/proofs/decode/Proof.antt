@@ -6,7 +6,7 @@ use lib.ListN.{length, take}
 use borrow.Author.Needs.{needs}
 use Rattle.value.specs.Digits.{limit}
 use Rattle.value.specs.Number.{readIn, unlawful}
-use Rattle.value.proofs.Answers.{numberIn-capped}
+use Rattle.value.proofs.Answers.{read-capped}
 use Rattle.value.proofs.Field.{Read, read-two}
 use Rattle.packed.specs.Packed.{nibbles, decodeOf}
 use Rattle.packed.proofs.Reading.{read-all, bad-empty, bad-high, bad-low, bad-last, bad-sign}
@@ -78,7 +78,8 @@ returns-6 c =
     let here = c .before .before .before .before .before .before .before in
     let e : here .loop .i ≡ length (here .before .before .before .args .part .now) - 1 = omega arith in
     c .number-in .ensures
-    ∙ rw (c .before .is-negative .ensures) (read-all (readIn limit) unlawful _ limit (λ negative v. numberIn-capped 9 limit negative v limit (omega arith)) _ _ (omega arith) (rw e at (here .loop .inv .1)) (c .before .before .before .before .if4 .left) (c .before .before .before .if5 .left) (c .before .before .push-digit .ensures))
+    ∙ rw (c .before .is-negative .ensures)
+    (read-all (readIn limit) unlawful _ limit (read-capped limit) _ _ (omega arith) (rw e at (here .loop .inv .1)) (c .before .before .before .before .if4 .left) (c .before .before .before .if5 .left) (c .before .before .push-digit .ensures))
 
 pub decode-spec : {M : Type 1} → statement M
 decode-spec =

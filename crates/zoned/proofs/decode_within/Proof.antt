@@ -7,7 +7,7 @@ use lib.ListN.{length, take}
 use borrow.Author.Needs.{needs}
 use Rattle.ebcdic.specs.Ebcdic.{fromPage}
 use Rattle.value.specs.Number.{readIn, unlawful}
-use Rattle.value.proofs.Answers.{numberIn-capped}
+use Rattle.value.proofs.Answers.{read-capped}
 use Rattle.value.proofs.Field.{Read}
 use Rattle.zoned.specs.Zoned.{zone}
 use Rattle.zoned.proofs.Reading as Reading
@@ -43,7 +43,8 @@ returns-2 c =
     let read = c .before .before in
     let here = read .before .before .before in
     let a = here .before .before .before .args in
-    Reading.bad-body (a .page) (a .part .now) (readIn (a .bound)) unlawful (here .loop .i) (read .from-page .result) (c .before .digit .result) (read .before .before .loop-test .taken) (read .from-page .ensures)
+    Reading.bad-body (a .page) (a .part .now) (readIn (a .bound)) unlawful
+    (here .loop .i) (read .from-page .result) (c .before .digit .result) (read .before .before .loop-test .taken) (read .from-page .ensures)
     (c .before .digit .ensures) (c .if2 .taken)
 
 push-digit-requires : tie.Need-push-digit-requires Inv-loop μ-loop
@@ -98,7 +99,8 @@ returns-4 c =
     let a = here .before .before .before .args in
     let e : here .loop .i ≡ length (a .part .now) - 1 = omega arith in
     c .number-in .ensures
-    ∙ Reading.read-all (a .page) (a .part .now) (readIn (a .bound)) unlawful (a .bound) (λ n v. numberIn-capped 9 (a .bound) n v (a .bound) (omega arith)) (here .loop .i) (here .loop .size) (read .from-page2 .result) (over .decode-overpunch .result) (c .before .before .push-digit2 .result)
+    ∙ Reading.read-all (a .page) (a .part .now) (readIn (a .bound)) unlawful (a .bound) (read-capped (a .bound))
+    (here .loop .i) (here .loop .size) (read .from-page2 .result) (over .decode-overpunch .result) (c .before .before .push-digit2 .result)
     (c .before .is-minus .result) (omega arith) e (here .loop .inv .1) (read .from-page2 .ensures) (over .decode-overpunch .ensures) (c .before .before .before .if3 .left)
     (c .before .before .push-digit2 .ensures) (c .before .is-minus .ensures)
 

@@ -96,7 +96,7 @@ module _ (D : Decoded) (items text : List ℕ) (counts : List ℤ) where
       → RecordRead D n 0 0 items is text ts counts cs
   refused-all n e i t a b p q c = record {
     numbered = rw e refl;
-    itemWords = rw e refl;
+    wordsRead = rw e refl;
     textBytes = rw e refl;
     itemsLeft = rw e (p ∙ ap (λ m. replicate (m - 0) 0) a);
     textLeft = rw e (q ∙ ap (λ m. replicate (m - 0) 0) b);
@@ -112,7 +112,7 @@ module _ (D : Decoded) (items text : List ℕ) (counts : List ℤ) where
       let v : length (take told t) ≡ told = length-take-le told t h in
       record {
         numbered = rw e refl;
-        itemWords = rw e (sym u);
+        wordsRead = rw e (sym u);
         textBytes = rw e (sym v);
         itemsLeft = rw e (p ∙ ap₂ (λ m k. take used i ++ replicate (m - k) 0) a (sym u));
         textLeft = rw e (q ∙ ap₂ (λ m k. take told t ++ replicate (m - k) 0) b (sym v));

@@ -105,7 +105,7 @@ module _ (l masks : List ℕ) (page : ℕ) (items text behind : List ℕ) (room 
           accepts = a .writes ∙ ap refusalOf (writing-is ∙ written);
           long = a .recordBytes ∙ ap (λ e. length (bytesOf e)) (writing-is ∙ written) ∙ k .long;
           reads = a .reads .numbered ∙ ap numberOf read-is;
-          manyItems = a .reads .itemWords ∙ ap (λ d. length (itemsOf d)) read-is;
+          manyItems = a .reads .wordsRead ∙ ap (λ d. length (itemsOf d)) read-is;
           manyBytes = a .reads .textBytes ∙ ap (λ d. length (textsOf d)) read-is;
           sameItems = a .reads .itemsLeft ∙ ap₂ (λ n d. filled n (itemsOf d)) (sym b) read-is;
           sameText = a .reads .textLeft ∙ ap₂ (λ n d. filled n (textsOf d)) (sym t) read-is;
@@ -136,7 +136,7 @@ module _ (l masks : List ℕ) (page : ℕ) (items text behind : List ℕ) (room 
           recordLeft = w .recordLeft ∙ ap (filled (length rec)) (e ∙ sym (stands-no number n f));
           reads = record {
             numbered = sym (ap numberOf d);
-            itemWords = sym (ap (λ w. length (itemsOf w)) d);
+            wordsRead = sym (ap (λ w. length (itemsOf w)) d);
             textBytes = sym (ap (λ w. length (textsOf w)) d);
             itemsLeft = u .0 ∙ ap (λ w. filled (length back) (itemsOf w)) (sym d);
             textLeft = v .0 ∙ ap (λ w. filled (length said) (textsOf w)) (sym d);
@@ -160,7 +160,7 @@ module _ (l masks : List ℕ) (page : ℕ) (items text behind : List ℕ) (room 
           recordLeft = p ∙ ap₂ filled (sym roomy) (sym (stands-yes number n z));
           reads = record {
             numbered = g .numbered ∙ ap numberOf e;
-            itemWords = g .itemWords ∙ ap (λ k. length (itemsOf k)) e;
+            wordsRead = g .wordsRead ∙ ap (λ k. length (itemsOf k)) e;
             textBytes = g .textBytes ∙ ap (λ k. length (textsOf k)) e;
             itemsLeft = g .itemsLeft ∙ ap (λ k. filled (length back) (itemsOf k)) e;
             textLeft = g .textLeft ∙ ap (λ k. filled (length said) (textsOf k)) e;

@@ -75,7 +75,7 @@ readInto l masks page r items text counts = decodeRecord l masks page r (length 
 -- work space. "A call that refuses returns its number and length 0; all output buffers hold zeros. After success unused output is zero. Work space ends as zeros."
 pub record RecordRead (d : Decoded) (number words bytes : ℕ) (items items′ text text′ : List ℕ) (counts counts′ : List ℤ) : Type 0 where
   pub numbered : number ≡ numberOf d
-  pub itemWords : words ≡ length (itemsOf d)
+  pub wordsRead : words ≡ length (itemsOf d)
   pub textBytes : bytes ≡ length (textsOf d)
   pub itemsLeft : items′ ≡ filled (length items) (itemsOf d)
   pub textLeft : text′ ≡ filled (length text) (textsOf d)

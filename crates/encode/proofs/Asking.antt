@@ -112,14 +112,6 @@ module _ (v : List ℕ) (e : Entry) (next to : ℕ) where
     unfolding isPad
     sought-there f r g = rw (ne-eqb (e .kind) 6 k, sym y ∙ f) (sym g)
 
-pub passed-pad : (v : List ℕ) (e : Entry) (j to : ℕ) → e .kind ≡ 6 → values v j to ≡ valuesAfter e (values v j to)
-unfolding isPad
-passed-pad v e j to k = rw (eq-eqb (e .kind) 6 k) refl
-
-pub passed-item : (v : List ℕ) (e : Entry) (j to : ℕ) → (e .kind ≡ 6 → ⊥) → (r : ℕ) → r ≡ endOf (Items.spanOf (headOf (values v j to))) j to → values v r to ≡ valuesAfter e (values v j to)
-unfolding isPad
-passed-item v e j to k r q = rw (ne-eqb (e .kind) 6 k) (sym (rest-is v j to (headOf (values v j to)) (Items.spanOf (headOf (values v j to))) r refl refl q))
-
 -- ---- the first question that fails
 
 -- on the list

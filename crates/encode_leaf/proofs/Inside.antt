@@ -5,14 +5,15 @@ use mathlib.Core.List.{List}
 use Prim.Native.Nat.{ℕ, _+_, min}
 use native.Mathlib.Omega.{arith}
 use lib.Dec.{eqb}
-use borrow.Author.Tests.{eqb-true}
+use borrow.Author.Tests.{eqb-true, eq-eqb, ne-eqb}
 use Rattle.spans.specs.Tree.{none, endOf}
 use Rattle.layout.specs.declared.Entry.{Entry}
 use Rattle.items.specs.declared.Item.{Item}
 use Rattle.items.specs.Items as Items
 use Rattle.items.specs.Items.{Values, values, headOf, membersOf}
-use Rattle.items.proofs.Items.{members-is, members-null}
-use Rattle.layout.specs.Layout.{unrepeated}
+use Rattle.items.proofs.Items.{members-is, members-null, rest-is}
+use Rattle.layout.specs.Layout.{unrepeated, isPad}
+use Rattle.walks.specs.Walk.{valuesAfter}
 use Rattle.walks.specs.Writing.{tableLength}
 use Rattle.encode_leaf.specs.declared.Run.{Run}
 use Rattle.encode_leaf.specs.Laying.{Laid, refused, container}
@@ -38,6 +39,16 @@ module _ (tag : ℕ) (f : Values → Laid) (v : List ℕ) (i to : ℕ) (it : Ite
       go true y z h = ap f (members-is v i to (headOf (values v i to)) (Items.spanOf (headOf (values v i to))) en refl refl q m r)
       go false true z h = ap f (sym (members-null v i to (headOf (values v i to)) (Items.spanOf (headOf (values v i to))) en refl refl q m r (ap (λ (x : Item). x .tag) (sym p) ∙ eqb-true (it .tag) 0 z)))
       go false false z h = absurd (false≢true h)
+
+-- ---- the values behind an entry's own
+
+pub after-pad : (v : List ℕ) (e : Entry) (j to : ℕ) → e .kind ≡ 6 → values v j to ≡ valuesAfter e (values v j to)
+unfolding isPad
+after-pad v e j to k = rw (eq-eqb (e .kind) 6 k) refl
+
+pub after-item : (v : List ℕ) (e : Entry) (j to : ℕ) → (e .kind ≡ 6 → ⊥) → (r : ℕ) → r ≡ endOf (Items.spanOf (headOf (values v j to))) j to → values v r to ≡ valuesAfter e (values v j to)
+unfolding isPad
+after-item v e j to k r q = rw (ne-eqb (e .kind) 6 k) (sym (rest-is v j to (headOf (values v j to)) (Items.spanOf (headOf (values v j to))) r refl refl q))
 
 -- ---- the elements of an entry
 

@@ -9,7 +9,8 @@ use Rattle.layout.specs.declared.Entry.{Entry}
 use Rattle.layout.specs.Layout.{isGroup, reservedWidth, unrepeated}
 use Rattle.spans.specs.Tree.{Tree, none, node}
 use Rattle.items.specs.declared.Item.{Item}
-use Rattle.items.specs.Items.{Values, headOf, membersOf, restOf, lookup}
+use Rattle.items.specs.Items.{Values, headOf, membersOf, restOf, lookup, missing}
+use Rattle.positions.specs.Positions.{sat}
 use Rattle.walks.specs.Walk.{Coded, unfit, bytes, Codec}
 use Rattle.walks.specs.Writing.{lay, tableLength}
 

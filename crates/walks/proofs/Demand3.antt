@@ -21,7 +21,7 @@ use Rattle.walks.specs.Kinds.{State, start, held, kinds}
 use Rattle.walks.specs.Reading as R
 use Rattle.walks.specs.Writing as W
 use Rattle.walks.specs.Writing.{reach, apply}
-use Rattle.walks.specs.Records.{most, decodeRecord, decoded, found, supplied, encodeRecord, encoded}
+use Rattle.walks.specs.Records.{most, decodeRecord, decoded, found, supplied, writerAsks, encodeRecord, encoded}
 use Rattle.walks.specs.Plain.{plain}
 use Rattle.walks.specs.Fitting.{holder, sequence, Fits, done, pads, scalar, group, table, Fitting}
 use Rattle.walks.specs.Needs as N
@@ -113,7 +113,7 @@ module _ (l masks : List ℕ) (page : ℕ) (items text : List ℕ) (p : plain l 
   bytes-are = apply-length ps (replicate size 0) (omega (arith, zeros-long)) ∙ zeros-long
 
   writes : (room work : ℕ) → needed l items ≤ room → workFor l ≤ work → encodeRecord l masks page items text room work ≡ encoded record-bytes
-  unfolding encodeRecord
+  unfolding encodeRecord writerAsks
   writes room work h k =
       rw (
         lawful-asked l masks page work (plain-lawful l masks page p) k,

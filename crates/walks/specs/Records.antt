@@ -109,12 +109,15 @@ listAsks l items text room =
     (cond (supplied (entries l) (values items 0 (itemCount items)))
     (cond (leb (recordLength l) (min room most)) 0 16) 12) 11
 
+-- the questions before the walk, on the layout and then on the list: the number of the first that fails, or 0
+unfoldable pub writerAsks : List ℕ → List ℕ → ℕ → List ℕ → List ℕ → ℕ → ℕ → ℕ
+writerAsks l masks page items text room work = asking (λ n. n) (layoutAsks l masks page work) (listAsks l items text room)
+
 -- the layout, its masks and its page, the value list and its texts; the bytes of the record buffer, the words of the work space
 unfoldable pub encodeRecord : List ℕ → List ℕ → ℕ → List ℕ → List ℕ → ℕ → ℕ → Encoded
 encodeRecord l masks page items text room work =
-    asking refused (layoutAsks l masks page work)
-    (asking refused (listAsks l items text room)
-    (finish (recordLength l) (W.seq (kinds masks page text 0) (min room most) (entries l) (values items 0 (itemCount items)) 0 0)))
+    asking refused (writerAsks l masks page items text room work)
+    (finish (recordLength l) (W.seq (kinds masks page text 0) (min room most) (entries l) (values items 0 (itemCount items)) 0 0))
 
 abbrev pub refusalOf : Encoded → ℕ
 refusalOf (refused n) = n

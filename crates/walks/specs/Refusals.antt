@@ -33,7 +33,7 @@ use Rattle.walks.specs.Walk.{howMany}
 use Rattle.walks.specs.Kinds.{look, enc, dec}
 use Rattle.walks.specs.Reading as R
 use Rattle.walks.specs.Writing as W
-use Rattle.walks.specs.Records.{Decoded, decoded, decodeRecord, numberOf, Encoded, encoded, supplied, encodeRecord, refusalOf}
+use Rattle.walks.specs.Records.{Decoded, decoded, decodeRecord, numberOf, Encoded, encoded, supplied, writerAsks, encodeRecord, refusalOf}
 use Rattle.walks.specs.Plain.{namesOf, distinct, padOk, widthOk, sure, groupOk, eachOk, inOrder, offers, controlled, plain}
 use Rattle.walks.specs.Worked.{entry, once}
 
@@ -112,7 +112,7 @@ writer-refuses :
     ∷ writeNumber (int 0 ++ int 1) [] (0 ∷ 7 ∷ 0 ∷ 1 ∷ 1 ∷ 2 ∷ 10 ∷ 0 ∷ []) [] 9 4
     ∷ []
     ≡ 1 ∷ 2 ∷ 3 ∷ 16 ∷ 11 ∷ 12 ∷ 16 ∷ 13 ∷ 13 ∷ 15 ∷ 14 ∷ 15 ∷ 14 ∷ 16 ∷ 14 ∷ 13 ∷ []
-unfolding layoutAsks checkedOf wordsOk entriesOk allBelow entryOk placeOk optionOk kindOk plainOk boolOk floatOk editedOk upTo spansOk nested size tree treeIn entryAt recordLength furthest reservedWidth dependsIn someBelow encodeRecord supplied W.seq W.field W.table W.tableLength W.elements W.one lookup count wellFormed listOk itemOk holderOk scalarOk values enc scalarOf unrepeated isPad judgedOf bytesOf numberJudged numberBytes ontoPage Text.written Display.intFits Display.intBytes Packed.writtenOf decimalFor rescaled rounded everyBy Edited.judged Edited.countBy Edited.lawfulFrom Display.restOf Display.signAt Display.wholeOf Display.digitsIn Display.intIn leftBy rightBy
+unfolding layoutAsks checkedOf wordsOk entriesOk allBelow entryOk placeOk optionOk kindOk plainOk boolOk floatOk editedOk upTo spansOk nested size tree treeIn entryAt recordLength furthest reservedWidth dependsIn someBelow encodeRecord writerAsks supplied W.seq W.field W.table W.tableLength W.elements W.one lookup count wellFormed listOk itemOk holderOk scalarOk values enc scalarOf unrepeated isPad judgedOf bytesOf numberJudged numberBytes ontoPage Text.written Display.intFits Display.intBytes Packed.writtenOf decimalFor rescaled rounded everyBy Edited.judged Edited.countBy Edited.lawfulFrom Display.restOf Display.signAt Display.wholeOf Display.digitsIn Display.intIn leftBy rightBy
 writer-refuses = refl
 
 -- ---- every two of the field questions, in either order: the earlier field's number
@@ -228,7 +228,7 @@ eachWritten f all [] = []
 eachWritten f all (a ∷ more) = map (f a) all ++ eachWritten f all more
 
 writer-pairs : eachWritten writeTwo writings writings ≡ eachWritten (λ a b. a .number) writings writings
-unfolding layoutAsks checkedOf wordsOk entriesOk allBelow entryOk placeOk optionOk kindOk plainOk boolOk floatOk editedOk upTo spansOk nested size tree treeIn entryAt recordLength furthest reservedWidth dependsIn someBelow encodeRecord supplied W.seq W.field W.table W.tableLength W.elements W.one lookup count wellFormed listOk itemOk holderOk scalarOk values enc scalarOf unrepeated isPad judgedOf bytesOf numberJudged numberBytes ontoPage Text.written Display.intFits Display.intBytes Packed.writtenOf decimalFor rescaled rounded everyBy Edited.judged Edited.countBy Edited.lawfulFrom Display.restOf Display.signAt Display.wholeOf Display.digitsIn Display.intIn leftBy rightBy
+unfolding layoutAsks checkedOf wordsOk entriesOk allBelow entryOk placeOk optionOk kindOk plainOk boolOk floatOk editedOk upTo spansOk nested size tree treeIn entryAt recordLength furthest reservedWidth dependsIn someBelow encodeRecord writerAsks supplied W.seq W.field W.table W.tableLength W.elements W.one lookup count wellFormed listOk itemOk holderOk scalarOk values enc scalarOf unrepeated isPad judgedOf bytesOf numberJudged numberBytes ontoPage Text.written Display.intFits Display.intBytes Packed.writtenOf decimalFor rescaled rounded everyBy Edited.judged Edited.countBy Edited.lawfulFrom Display.restOf Display.signAt Display.wholeOf Display.digitsIn Display.intIn leftBy rightBy
 writer-pairs = refl
 
 -- the questions before the walk, each with each later one: 1, 2, 3, 16 for the work space, 11, 12, 16 for the record length, and 13 of the only field
@@ -248,5 +248,5 @@ writer-before :
     ∷ writeAt (int 0) 0 struct 0 2
     ∷ []
     ≡ 1 ∷ 1 ∷ 1 ∷ 1 ∷ 1 ∷ 1 ∷ 1 ∷ 2 ∷ 2 ∷ 2 ∷ 2 ∷ 2 ∷ 2 ∷ 3 ∷ 3 ∷ 3 ∷ 3 ∷ 3 ∷ 16 ∷ 16 ∷ 16 ∷ 16 ∷ 11 ∷ 11 ∷ 11 ∷ 12 ∷ 12 ∷ 16 ∷ []
-unfolding layoutAsks checkedOf wordsOk entriesOk allBelow entryOk placeOk optionOk kindOk plainOk boolOk floatOk editedOk upTo spansOk nested size tree treeIn entryAt recordLength furthest reservedWidth dependsIn someBelow encodeRecord supplied W.seq W.field W.table W.tableLength W.elements W.one lookup count wellFormed listOk itemOk holderOk scalarOk values enc scalarOf unrepeated isPad judgedOf bytesOf numberJudged numberBytes ontoPage Text.written Display.intFits Display.intBytes Packed.writtenOf decimalFor rescaled rounded everyBy Edited.judged Edited.countBy Edited.lawfulFrom Display.restOf Display.signAt Display.wholeOf Display.digitsIn Display.intIn leftBy rightBy
+unfolding layoutAsks checkedOf wordsOk entriesOk allBelow entryOk placeOk optionOk kindOk plainOk boolOk floatOk editedOk upTo spansOk nested size tree treeIn entryAt recordLength furthest reservedWidth dependsIn someBelow encodeRecord writerAsks supplied W.seq W.field W.table W.tableLength W.elements W.one lookup count wellFormed listOk itemOk holderOk scalarOk values enc scalarOf unrepeated isPad judgedOf bytesOf numberJudged numberBytes ontoPage Text.written Display.intFits Display.intBytes Packed.writtenOf decimalFor rescaled rounded everyBy Edited.judged Edited.countBy Edited.lawfulFrom Display.restOf Display.signAt Display.wholeOf Display.digitsIn Display.intIn leftBy rightBy
 writer-before = refl

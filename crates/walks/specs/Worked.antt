@@ -32,7 +32,7 @@ use Rattle.walks.specs.Walk.{howMany}
 use Rattle.walks.specs.Kinds.{look, enc, dec}
 use Rattle.walks.specs.Reading as R
 use Rattle.walks.specs.Writing as W
-use Rattle.walks.specs.Records.{Decoded, decoded, decodeRecord, numberOf, Encoded, encoded, supplied, encodeRecord, refusalOf}
+use Rattle.walks.specs.Records.{Decoded, decoded, decodeRecord, numberOf, Encoded, encoded, supplied, writerAsks, encodeRecord, refusalOf}
 use Rattle.walks.specs.Plain.{namesOf, distinct, padOk, widthOk, sure, groupOk, eachOk, inOrder, offers, controlled, plain}
 use Rattle.walks.specs.Decide as Fit
 use Rattle.walks.specs.Decide.{fitting}
@@ -76,7 +76,7 @@ unfolding layoutAsks checkedOf wordsOk entriesOk allBelow entryOk placeOk option
 boxes-read = refl
 
 pub boxes-written : encodeRecord boxes [] 0 boxed (0x61 ∷ 0x62 ∷ []) 6 10 ≡ encoded (0x31 ∷ 0x5C ∷ 0x61 ∷ 0x30 ∷ 0x62 ∷ 0x37 ∷ [])
-unfolding layoutAsks checkedOf wordsOk entriesOk allBelow entryOk placeOk optionOk kindOk plainOk boolOk floatOk editedOk upTo spansOk nested size tree treeIn entryAt recordLength furthest reservedWidth dependsIn someBelow encodeRecord supplied W.seq W.field W.table W.tableLength W.elements W.one lookup count wellFormed listOk itemOk holderOk scalarOk values enc scalarOf unrepeated isPad judgedOf bytesOf numberJudged numberBytes ontoPage Text.written Display.intFits Display.intBytes Packed.writtenOf decimalFor rescaled rounded everyBy
+unfolding layoutAsks checkedOf wordsOk entriesOk allBelow entryOk placeOk optionOk kindOk plainOk boolOk floatOk editedOk upTo spansOk nested size tree treeIn entryAt recordLength furthest reservedWidth dependsIn someBelow encodeRecord writerAsks supplied W.seq W.field W.table W.tableLength W.elements W.one lookup count wellFormed listOk itemOk holderOk scalarOk values enc scalarOf unrepeated isPad judgedOf bytesOf numberJudged numberBytes ontoPage Text.written Display.intFits Display.intBytes Packed.writtenOf decimalFor rescaled rounded everyBy
 boxes-written = refl
 
 pub boxes-plain : plain boxes [] 1 ≡ true

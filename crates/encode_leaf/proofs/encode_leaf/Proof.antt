@@ -24,8 +24,8 @@ put-width-requires c κs = search needs
 room-of-requires : tie.Need-room-of-requires
 room-of-requires c κs = search needs
 
-inside-room-requires : tie.Need-inside-room-requires
-inside-room-requires c κs = search needs
+inside-requires : tie.Need-inside-requires
+inside-requires c κs = search needs
 
 no-room-requires : tie.Need-no-room-requires
 no-room-requires c κs =
@@ -40,10 +40,10 @@ returns c =
     let at-args = c .before .before .before .before .before .before .before .before .before .args in
     let at-put-width = c .before .before .before .before .before .put-width in
     let at-room-of = c .before .before .before .before .room-of in
-    let at-inside-room = c .before .before .before .inside-room in
+    let at-inside = c .before .before .before .inside in
     let at-if1 = c .before .before .if1 in (
       refuse (c .before .no-room .result) (c .refusal .ensures) (outside-refuses _ (judged (at-args .masks .now) (at-args .text .now) (at-args .e) (at-args .it)) (c .before .no-room .ensures))
-          (leaf-out (at-args .masks .now) (at-args .text .now) (at-args .page) (at-args .e) (at-args .it) (at-args .at) (at-args .«record» .now) (roomIn (at-args .«record» .now)) _ _ (at-put-width .ensures) (at-room-of .ensures) _ (at-inside-room .ensures) (not-true _ (at-if1 .taken)) _ (c .before .no-room .ensures)),
+          (leaf-out (at-args .masks .now) (at-args .text .now) (at-args .page) (at-args .e) (at-args .it) (at-args .at) (at-args .«record» .now) (roomIn (at-args .«record» .now)) _ _ (at-put-width .ensures) (at-room-of .ensures) _ (at-inside .ensures) (not-true _ (at-if1 .taken)) _ (c .before .no-room .ensures)),
       λ _. refl,
     )
 
@@ -52,7 +52,7 @@ add-end c =
     let at-args = c .before .before .before .before .before .before .before .args in
     let at-put-width = c .before .before .before .put-width in
     let at-room-of = c .before .before .room-of in
-    omega (arith, at-room-of .ensures, leb-true (at-args .at + at-put-width .result) (at-room-of .result) (sym (c .before .inside-room .ensures) ∙ not-false _ (c .if1 .left)))
+    omega (arith, at-room-of .ensures, leb-true (at-args .at + at-put-width .result) (at-room-of .result) (sym (c .before .inside .ensures) ∙ not-false _ (c .if1 .left)))
 
 sub-put-leaf : tie.Need-sub-put-leaf
 sub-put-leaf c = search needs
@@ -65,7 +65,7 @@ part-put-leaf-end c =
     let at-args = c .before .before .before .before .before .before .before .args in
     let at-put-width = c .before .before .before .put-width in
     let at-room-of = c .before .before .room-of in
-    omega (arith, at-room-of .ensures, leb-true (at-args .at + at-put-width .result) (at-room-of .result) (sym (c .before .inside-room .ensures) ∙ not-false _ (c .if1 .left)))
+    omega (arith, at-room-of .ensures, leb-true (at-args .at + at-put-width .result) (at-room-of .result) (sym (c .before .inside .ensures) ∙ not-false _ (c .if1 .left)))
 
 put-leaf-requires : tie.Need-put-leaf-requires
 put-leaf-requires c κs = search needs
@@ -90,18 +90,18 @@ add-t13 c =
     let at-args = c .before .before .before .before .before .before .before .before .before .before .before .before .args in
     let at-put-width = c .before .before .before .before .before .before .before .before .put-width in
     let at-room-of = c .before .before .before .before .before .before .before .room-of in
-    let at-inside-room = c .before .before .before .before .before .before .inside-room in
+    let at-inside = c .before .before .before .before .before .before .inside in
     let at-if1 = c .before .before .before .before .before .if1 in
-    omega (arith, at-room-of .ensures, leb-true (at-args .at + at-put-width .result) (at-room-of .result) (sym (at-inside-room .ensures) ∙ not-false _ (at-if1 .left)))
+    omega (arith, at-room-of .ensures, leb-true (at-args .at + at-put-width .result) (at-room-of .result) (sym (at-inside .ensures) ∙ not-false _ (at-if1 .left)))
 
 add-t20 : tie.Need-add-t20
 add-t20 c =
     let at-args = c .before .before .before .before .before .before .before .before .before .before .before .before .args in
     let at-put-width = c .before .before .before .before .before .before .before .before .put-width in
     let at-room-of = c .before .before .before .before .before .before .before .room-of in
-    let at-inside-room = c .before .before .before .before .before .before .inside-room in
+    let at-inside = c .before .before .before .before .before .before .inside in
     let at-if1 = c .before .before .before .before .before .if1 in
-    omega (arith, at-room-of .ensures, leb-true (at-args .at + at-put-width .result) (at-room-of .result) (sym (at-inside-room .ensures) ∙ not-false _ (at-if1 .left)))
+    omega (arith, at-room-of .ensures, leb-true (at-args .at + at-put-width .result) (at-room-of .result) (sym (at-inside .ensures) ∙ not-false _ (at-if1 .left)))
 
 cast-t21 : tie.Need-cast-t21
 cast-t21 c = search needs
@@ -114,10 +114,10 @@ returns-3 c =
     let at-args = c .before .before .before .before .before .before .before .before .before .before .before .before .before .args in
     let at-put-width = c .before .before .before .before .before .before .before .before .before .put-width in
     let at-room-of = c .before .before .before .before .before .before .before .before .room-of in
-    let at-inside-room = c .before .before .before .before .before .before .before .inside-room in
+    let at-inside = c .before .before .before .before .before .before .before .inside in
     let at-if1 = c .before .before .before .before .before .before .if1 in
     let at-put-leaf = c .before .before .before .before .put-leaf in (
-      fine _ _ (leaf-put (at-args .masks .now) (at-args .text .now) (at-args .page) (at-args .e) (at-args .it) (at-args .at) (at-args .«record» .now) (roomIn (at-args .«record» .now)) _ _ (at-put-width .ensures) (at-room-of .ensures) _ (at-inside-room .ensures) (not-false _ (at-if1 .left)) _ (at-put-leaf .ensures .0) (c .before .if2 .left) _
+      fine _ _ (leaf-put (at-args .masks .now) (at-args .text .now) (at-args .page) (at-args .e) (at-args .it) (at-args .at) (at-args .«record» .now) (roomIn (at-args .«record» .now)) _ _ (at-put-width .ensures) (at-room-of .ensures) _ (at-inside .ensures) (not-false _ (at-if1 .left)) _ (at-put-leaf .ensures .0) (c .before .if2 .left) _
           (at-put-leaf .ensures .1 ∙ rw (eq-eqb (at-put-leaf .result) 0 (c .before .if2 .left)) refl)),
       λ n. absurd (n refl),
     )
@@ -128,7 +128,7 @@ encode-leaf-spec =
     (tie.spec
     put-width-requires
     room-of-requires
-    inside-room-requires
+    inside-requires
     no-room-requires
     refusal-requires
     returns

@@ -1,3 +1,4 @@
+-- A Pad has no item of its own; any other entry's item ends where the values behind it begin.
 use Prim.Native.Nat.{_-_}
 use lib.ListN.{take}
 use Rattle.encode_leaf.proofs.Inside.{after-pad, after-item}

@@ -13,11 +13,11 @@ use Rattle.spans.proofs.Tree.{tree-none, tree-at}
 use Rattle.layout.specs.declared.Entry.{Entry}
 use Rattle.layout.specs.Layout.{entryAt, spanOf, part, entries, layoutAsks, recordLength, isPad}
 use Rattle.items.specs.Items as Items
-use Rattle.items.specs.Items.{Values, values, headOf, restOf, lookup, wellFormed}
+use Rattle.items.specs.Items.{Values, itemCount, values, headOf, restOf, lookup, wellFormed}
 use Rattle.items.proofs.Items.{values-none, values-node, rest-is}
-use Rattle.walks.specs.Records.{found, supplied, most, listAsks}
-use Rattle.encode.specs.Asked.{askedOf, sought}
-use Rattle.encode.specs.Order.{heads}
+use Rattle.walks.specs.Records.{found, supplied, most, listAsks, writerAsks}
+use Rattle.walks.specs.Walk.{valuesAfter}
+use Rattle.encode.specs.Order.{heads, sought}
 use Rattle.encode.proofs.Order.{lookup-heads}
 
 -- ---- names supplied
@@ -96,6 +96,10 @@ module _ (l v : List ℕ) (i hi next to : ℕ) (w : Within (values v next to) (v
   pub within-behind : (j′ : ℕ) → values v j′ to ≡ valuesAfter e (values v j to) → Within (values v j′ to) (values v 0 to)
   within-behind j′ r name k = within-next e (values v next to) (values v 0 to) w name (ap (λ vs. found (lookup name vs)) (sym (r ∙ ap (valuesAfter e) q)) ∙ k)
 
+-- by the items' number
+pub supplied-is : (l v : List ℕ) (n to : ℕ) → to ≡ itemCount v → (z : Bool) → supplied (part l 0 n) (values v 0 to) ≡ z → z ≡ supplied (part l 0 n) (values v 0 (itemCount v))
+supplied-is l v n to q z h = sym h ∙ ap (λ k. supplied (part l 0 n) (values v 0 k)) q
+
 -- ---- where an item is seen
 
 module _ (v : List ℕ) (e : Entry) (next to : ℕ) where
@@ -119,7 +123,7 @@ module _ (l items text : List ℕ) (room : ℕ) (a : Bool) (q : a ≡ wellFormed
   pub asks-list : a ≡ false → 11 ≡ listAsks l items text room
   asks-list f = rw (sym q ∙ f) refl
 
-  module _ (f : a ≡ true) (b : Bool) (r : b ≡ supplied (entries l) (values items 0 (length items / 4))) where
+  module _ (f : a ≡ true) (b : Bool) (r : b ≡ supplied (entries l) (values items 0 (itemCount items))) where
     pub asks-names : b ≡ false → 12 ≡ listAsks l items text room
     asks-names g = rw (sym q ∙ f, sym r ∙ g) refl
 
@@ -135,10 +139,10 @@ module _ (l items text : List ℕ) (room : ℕ) (a : Bool) (q : a ≡ wellFormed
 
 -- behind those on the layout
 module _ (l masks : List ℕ) (page : ℕ) (items text : List ℕ) (room work n : ℕ) (p : n ≡ layoutAsks l masks page work) where
-  pub asked-layout : (n ≡ 0 → ⊥) → n ≡ askedOf l masks page items text room work
-  unfolding askedOf
+  pub asked-layout : (n ≡ 0 → ⊥) → n ≡ writerAsks l masks page items text room work
+  unfolding writerAsks
   asked-layout h = rw (← p, ne-eqb n 0 h) refl
 
-  pub asked-list : n ≡ 0 → (m : ℕ) → m ≡ listAsks l items text room → m ≡ askedOf l masks page items text room work
-  unfolding askedOf
+  pub asked-list : n ≡ 0 → (m : ℕ) → m ≡ listAsks l items text room → m ≡ writerAsks l masks page items text room work
+  unfolding writerAsks
   asked-list z m q = q ∙ sym (rw (← p, eq-eqb n 0 z) refl)

@@ -12,16 +12,15 @@ use lib.Seq.{take-append-le}
 use borrow.Author.Tests.{leb-true}
 use Rattle.layout.specs.Layout.{part, entries, entryCount, checkedOf, recordLength, layoutAsks}
 use Rattle.layout.proofs.Laws.{asked-lawful}
-use Rattle.items.specs.Items.{values, wellFormed}
-use Rattle.walks.specs.Records.{most, filled, supplied, Encoded, refused, finish, encodeRecord, refusalOf, bytesOf, RecordWritten, asking, listAsks}
-use Rattle.walks.proofs.Asked.{asking-both, asking-none, asking-some, both-passed}
+use Rattle.items.specs.Items.{itemCount, values, wellFormed}
+use Rattle.walks.specs.Records.{most, filled, supplied, Encoded, refused, finish, writerAsks, encodeRecord, refusalOf, bytesOf, RecordWritten, asking, listAsks}
+use Rattle.walks.proofs.Asked.{asking-none, asking-some, both-passed}
 use Rattle.walks.specs.Writing as W
 use Rattle.walks.specs.Writing.{Put, reach, lay, apply, Wrote, wrote}
 use Rattle.walks.proofs.Puts.{apply-length}
 use Rattle.encode_leaf.specs.Laying as L
 use Rattle.encode_leaf.specs.Laying.{Laid, laid, start}
 use Rattle.encode_leaf.specs.Machine.{codec, roomIn}
-use Rattle.encode.specs.Asked.{askedOf}
 use Rattle.encode.proofs.Spread.{In, lies-reach, seq-in}
 use Rattle.encode.proofs.Joined.{stretch, stretch-reach, done, start-does}
 use Rattle.encode.proofs.Fairly.{fair-part}
@@ -110,30 +109,30 @@ laid-walk n least room past taken b (wrote ps t) lies h k q =
     let a : length (apply ps (replicate m 0)) ≡ m = apply-length ps (replicate m 0) (omega arith) ∙ l in
     (refl, (ap (max least) p ∙ sym a, sym (ap bufferOf q) ∙ record-filled ps m n (omega arith) (omega arith)))
 
-module _ (l masks : List ℕ) (page : ℕ) (items text : List ℕ) (n work number : ℕ) (asked : number ≡ askedOf l masks page items text n work) where
+module _ (l masks : List ℕ) (page : ℕ) (items text : List ℕ) (n work number : ℕ) (asked : number ≡ writerAsks l masks page items text n work) where
   abbrev pub E : Encoded
   E = encodeRecord l masks page items text n work
 
   abbrev O : Wrote
-  O = W.seq (codec masks page text) (min n most) (entries l) (values items 0 (length items / 4)) 0 0
+  O = W.seq (codec masks page text) (min n most) (entries l) (values items 0 (itemCount items)) 0 0
 
-  asked-is : E ≡ asking refused (askedOf l masks page items text n work) (finish (recordLength l) O)
-  unfolding encodeRecord askedOf
-  asked-is = asking-both refused (finish (recordLength l) O) (layoutAsks l masks page work) (listAsks l items text n)
+  asked-is : E ≡ asking refused (writerAsks l masks page items text n work) (finish (recordLength l) O)
+  unfolding encodeRecord
+  asked-is = refl
 
   pub not-asked : (number ≡ 0 → ⊥) → (b : List ℕ) → b ≡ replicate n 0 → Answer E n number 0 b
   not-asked h b q = refused-answer E number n b (asked-is ∙ rw (← asked) (asking-some refused (finish (recordLength l) O) number h)) q
 
   module _ (zero : number ≡ 0) where
     passed : (layoutAsks l masks page work ≡ 0) × (listAsks l items text n ≡ 0)
-    unfolding askedOf
+    unfolding writerAsks
     passed = both-passed (layoutAsks l masks page work) (listAsks l items text n) (sym asked ∙ zero)
 
     lawful : checkedOf l masks page ≡ 0
     lawful = asked-lawful l masks page work (passed .0) .0
 
     room-enough : recordLength l ≤ min n most
-    room-enough = go (wellFormed items (length text)) (supplied (entries l) (values items 0 (length items / 4))) (leb (recordLength l) (min n most)) refl (passed .1)
+    room-enough = go (wellFormed items (length text)) (supplied (entries l) (values items 0 (itemCount items))) (leb (recordLength l) (min n most)) refl (passed .1)
       where
         go : (a s r : Bool) → leb (recordLength l) (min n most) ≡ r → _≡_ {A = ℕ} (cond a (cond s (cond r 0 16) 12) 11) 0 → recordLength l ≤ min n most
         go true true true e h = leb-true (recordLength l) (min n most) e
@@ -142,27 +141,28 @@ module _ (l masks : List ℕ) (page : ℕ) (items text : List ℕ) (n work numbe
         go false s r e h = absurd (omega (arith, h))
 
     walked : E ≡ finish (recordLength l) O
-    walked = asked-is ∙ asking-none refused (finish (recordLength l) O) (askedOf l masks page items text n work) (sym asked ∙ zero)
+    walked = asked-is ∙ asking-none refused (finish (recordLength l) O) (writerAsks l masks page items text n work) (sym asked ∙ zero)
 
-    module _ (b₀ : List ℕ) (q : b₀ ≡ replicate n 0) where
-      loops : start (codec masks page text) (roomIn b₀) (part l 0 (length l / 12)) (values items 0 (length items / 4)) 0 b₀ ≡ done (replicate n 0) O
+    module _ (b₀ : List ℕ) (q : b₀ ≡ replicate n 0) (to : ℕ) (all : to ≡ itemCount items) where
+      loops : start (codec masks page text) (roomIn b₀) (entries l) (values items 0 to) 0 b₀ ≡ done (replicate n 0) O
       loops =
-          ap (λ b. start (codec masks page text) (roomIn b) (part l 0 (length l / 12)) (values items 0 (length items / 4)) 0 b) q
-          ∙ ap (λ k. start (codec masks page text) (min k most) (part l 0 (length l / 12)) (values items 0 (length items / 4)) 0 (replicate n 0)) (length-replicate {A = ℕ} n 0)
+          ap (λ k. start (codec masks page text) (roomIn b₀) (entries l) (values items 0 k) 0 b₀) all
+          ∙ ap (λ b. start (codec masks page text) (roomIn b) (entries l) (values items 0 (itemCount items)) 0 b) q
+          ∙ ap (λ k. start (codec masks page text) (min k most) (entries l) (values items 0 (itemCount items)) 0 (replicate n 0)) (length-replicate {A = ℕ} n 0)
           ∙ start-does (codec masks page text) (min n most) (omega arith) (entries l)
-          (fair-part masks text page l lawful 0 (entryCount l) (le-refl (entryCount l))) (values items 0 (length items / 4)) (replicate n 0)
+          (fair-part masks text page l lawful 0 (entryCount l) (le-refl (entryCount l))) (values items 0 (itemCount items)) (replicate n 0)
 
-      pub not-walked : (m : ℕ) → start (codec masks page text) (roomIn b₀) (part l 0 (length l / 12)) (values items 0 (length items / 4)) 0 b₀ ≡ L.refused m
+      pub not-walked : (m : ℕ) → start (codec masks page text) (roomIn b₀) (entries l) (values items 0 to) 0 b₀ ≡ L.refused m
           → (b : List ℕ) → b ≡ replicate n 0 → Answer E n m 0 b
       not-walked m w b r = refused-answer E m n b (walked ∙ refused-walk (replicate n 0) (recordLength l) m O (sym loops ∙ w)) r
 
       pub all-walked : (b : List ℕ) (past taken least less long : ℕ)
-          → start (codec masks page text) (roomIn b₀) (part l 0 (length l / 12)) (values items 0 (length items / 4)) 0 b₀ ≡ laid b past taken
+          → start (codec masks page text) (roomIn b₀) (entries l) (values items 0 to) 0 b₀ ≡ laid b past taken
           → least ≡ recordLength l → less ≡ past - 1 → long ≡ max least less → Answer E n 0 long b
       all-walked b past taken least less long w u v x =
           subst (λ e. Answer e n 0 long b) (sym walked)
           (subst (λ k. Answer (finish (recordLength l) O) n 0 k b) (sym (x ∙ ap₂ max u v))
           (laid-walk n (recordLength l) (min n most) past taken b O
           (seq-in (codec masks page text) (min n most) (entries l) (fair-part masks text page l lawful 0 (entryCount l) (le-refl (entryCount l)))
-          (values items 0 (length items / 4)) 0 0)
+          (values items 0 (itemCount items)) 0 0)
           room-enough (omega arith) (sym loops ∙ w)))

@@ -1,4 +1,3 @@
--- Items by name in the entries' order; the questions that the writer asks before its walk; and which bytes of the record a field changes.
+-- Items by name in the entries' order; and which bytes of the record a field changes.
 pub mod Order
-pub mod Asked
 pub mod Local

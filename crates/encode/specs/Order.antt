@@ -21,6 +21,10 @@ abbrev pub heads : ℕ → Values → Bool
 heads name none = false
 heads name (node it members rest) = eqb (it .name) name
 
+-- the items from an entry's own on: these, if the first has its name, or else those of the whole list from the first of the name on; a Pad has none
+abbrev pub sought : Entry → Values → Values → Values
+sought e vs all = cond (isPad e) vs (cond (heads (e .name) vs) vs (lookup (e .name) all))
+
 -- no item of all in front of the rest has a name from `low` on
 abbrev pub Ahead : Values → Values → ℕ → Type 0
 Ahead all rest low = (name : ℕ) → low ≤ name → lookup name all ≡ lookup name rest

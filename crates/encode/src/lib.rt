@@ -35,11 +35,10 @@ ghost use lib.IntN.{pos};
 ghost use lib.ListN.{length, replicate};
 ghost use Rattle.layout.specs.Layout.{part, entries, recordLength, unrepeated, isPad};
 ghost use Rattle.items.specs.Items.{itemCount, values};
-ghost use Rattle.walks.specs.Records.{listAsks, writtenInto, RecordWritten, supplied};
+ghost use Rattle.walks.specs.Records.{listAsks, writerAsks, writtenInto, RecordWritten, supplied};
 ghost use Rattle.encode_leaf.specs.Laying.{group, field, start};
 ghost use Rattle.encode_leaf.specs.Machine.{Met, codec, roomIn};
-ghost use Rattle.encode.specs.Asked.{askedOf, sought, passed};
-ghost use Rattle.encode.specs.Order.{lone, heads, valueOf, Ahead};
+ghost use Rattle.encode.specs.Order.{lone, heads, sought, valueOf, Ahead};
 
 // What writing a record answers: the number that refuses it, or 0 with the record's length.
 pub struct Written {
@@ -348,7 +347,7 @@ fn asked(
     work: usize,
 ) -> u32
     requires { ⌜ least ≡ recordLength (now layout) ⌝ }
-    ensures { λ r. ⌜ r ≡ askedOf (now (layout .entry)) (now (masks .entry)) page (now (items .entry)) (now (text .entry)) room work ⌝ }
+    ensures { λ r. ⌜ r ≡ writerAsks (now (layout .entry)) (now (masks .entry)) page (now (items .entry)) (now (text .entry)) room work ⌝ }
 {
     let number = ask_layout(layout, masks, page, work);
     if number != 0 {

@@ -2,7 +2,7 @@
 use mathlib.Core.Path.{_≡_, refl, sym, ap, ap₂, _∙_}
 use mathlib.Core.Bool.{Bool, true, false, _||_, cond, false≢true}
 use mathlib.Core.List.{List}
-use Prim.Native.Nat.{ℕ, _-_, _/_, _<_, _≤_, min}
+use Prim.Native.Nat.{ℕ, _-_, _<_, _≤_, min}
 use native.Mathlib.Omega.{arith}
 use native.Mathlib.Decide.{decLt}
 use lib.Dec.{eqb, leb, ltb}
@@ -14,7 +14,7 @@ use Rattle.layout.specs.declared.Entry.{Entry}
 use Rattle.layout.specs.Layout.{entryAt, spanOf, part, entries, layoutAsks, recordLength, isPad}
 use Rattle.items.specs.Items as Items
 use Rattle.items.specs.Items.{Values, itemCount, values, headOf, restOf, lookup, wellFormed}
-use Rattle.items.proofs.Items.{values-none, values-node, rest-is}
+use Rattle.items.proofs.Items.{values-none, values-node}
 use Rattle.walks.specs.Records.{found, supplied, most, listAsks, writerAsks}
 use Rattle.walks.specs.Walk.{valuesAfter}
 use Rattle.encode.specs.Order.{heads, sought}

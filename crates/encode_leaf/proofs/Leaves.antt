@@ -1,16 +1,15 @@
 -- One scalar or Pad, judged and put into its stretch of the record.
 use mathlib.Core.Path.{_≡_, refl, sym, ap, ap₂, _∙_}
-use mathlib.Core.Bool.{Bool, true, false, not, cond}
+use mathlib.Core.Bool.{Bool, true, false, cond}
 use mathlib.Core.List.{List, [], _++_}
-use Prim.Native.Nat.{ℕ, suc, _+_, _-_, _*_, _/_, _<_, _≤_, min}
+use Prim.Native.Nat.{ℕ, suc, _+_, _-_, _<_, _≤_, min}
 use native.Mathlib.Omega.{arith}
 use native.Mathlib.Numerals.{add-one}
 use native.Mathlib.Decide.{decLt}
-use native.Mathlib.Nat.{le-div-iff-mul-le}
 use lib.Dec.{eqb, leb}
 use lib.ListN.{length, take, drop, length-drop, drop-of-length-le}
 use lib.Seq.{take-all, take-nil}
-use borrow.Author.Tests.{ne-eqb, eq-eqb, eqb-true, eqb-false, lt-leb, le-leb}
+use borrow.Author.Tests.{ne-eqb, eq-eqb, eqb-true, eqb-false}
 use Rattle.lists.proofs.Part.{in-whole}
 use Rattle.layout.specs.declared.Entry.{Entry}
 use Rattle.items.specs.declared.Item.{Item}
@@ -18,12 +17,10 @@ use Rattle.value.specs.declared.Scalar.{Scalar}
 use Rattle.encode_scalar.specs.Encode.{judgedOf, bytesOf, numberJudged, numberBytes, partAfter}
 use Rattle.encode_scalar.proofs.Parts.{whole}
 use Rattle.walks.specs.Walk.{unfit, bytes}
-use Rattle.layout.specs.Layout.{unrepeated}
 use Rattle.walks.specs.Writing.{lay}
 use Rattle.walks.specs.Kinds.{maskOf, enc}
 use Rattle.items.specs.Items.{textOf, scalarIn}
 use Rattle.encode_leaf.specs.Laying.{refused, laid, coded, leaf}
-use Rattle.positions.specs.Positions.{sat}
 use Rattle.encode_leaf.specs.Machine.{codec, putting, putWidth, masking, maskFor, judged, outside, bytesIn}
 use Rattle.encode_leaf.proofs.Widths.{by-kind, wide}
 

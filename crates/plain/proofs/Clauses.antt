@@ -1,6 +1,6 @@
 -- The clauses of one entry, as the code asks them.
 use mathlib.Core.Path.{_≡_, refl, sym, ap, _∙_}
-use mathlib.Core.Bool.{Bool, true, false, _&&_, _||_, not, and-false}
+use mathlib.Core.Bool.{Bool, true, false, _&&_, _||_, not}
 use mathlib.Core.List.{List}
 use Prim.Native.Nat.{ℕ, _+_, _≤_, _<_}
 use native.Mathlib.Omega.{arith}
@@ -10,7 +10,7 @@ use lib.Dec.{eqb, leb}
 use lib.ListN.{length, drop, getD, drop-of-length-le}
 use lib.Seq.{drop-cons}
 use Rattle.layout.specs.declared.Entry.{Entry}
-use Rattle.layout.specs.Layout.{unrepeatedLeaf, absent, entryAt, spanOf, isGroup, present, part, unrepeated, isPad, controls}
+use Rattle.layout.specs.Layout.{unrepeatedLeaf, absent, entryAt, spanOf, present, part, unrepeated, isPad}
 use Rattle.spans.specs.Tree.{none, endOf}
 use Rattle.spans.proofs.Tree.{tree-none, tree-at}
 use Rattle.walks.specs.Plain.{isIn, padOk, widthOk, some, sure, groupOk}

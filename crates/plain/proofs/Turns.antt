@@ -245,14 +245,12 @@ module _ (l : List ℕ) (lo hi top₀ : ℕ) (known₀ : List ℕ) (i from top :
           g : Grown ms top known (s .top) known₁
           g = w .grown f
 
-          known-is : (x : ℕ) → isIn x (take top′ known₂) ≡ isIn x (offers (node e ms none) ++ take top known)
-          known-is = behind-known e ms top known (s .top) known₁ g held a top′ known₂ c d room
-
           whole-is : treeOk 0 (take top₀ known₀) (part l lo hi) ≡ treeOk from′ (take top′ known₂) rest
           whole-is =
               turn ∙ ap₂ (λ c d. c && d && treeOk (e .offset + reservedWidth e) (offers (node e ms none) ++ take top known) rest) (sym o ∙ t) (sym (w .answer) ∙ f)
               ∙ ap (λ n. treeOk n (offers (node e ms none) ++ take top known) rest) (sym z)
-              ∙ sym (tree-same from′ rest (take top′ known₂) (offers (node e ms none) ++ take top known) known-is)
+              ∙ sym (tree-same from′ rest (take top′ known₂) (offers (node e ms none) ++ take top known)
+              (behind-known e ms top known (s .top) known₁ g held a top′ known₂ c d room))
 
           names-are : (x : ℕ) → isIn x (offers (part l lo hi) ++ take top₀ known₀) ≡ isIn x (offers rest ++ take top′ known₂)
           unfolding offers
@@ -261,7 +259,7 @@ module _ (l : List ℕ) (lo hi top₀ : ℕ) (known₀ : List ℕ) (i from top :
               ∙ in-append x (A ++ offers rest) (take top known) ∙ ap (λ b. b || isIn x (take top known)) (in-append x A (offers rest))
               ∙ regroup (isIn x A) (isIn x (offers rest)) (isIn x (take top known))
               ∙ ap (λ b. isIn x (offers rest) || (b || isIn x (take top known))) (sym (in-append x A []))
-              ∙ ap (λ b. isIn x (offers rest) || b) (sym (in-append x (A ++ []) (take top known)) ∙ sym (known-is x))
+              ∙ ap (λ b. isIn x (offers rest) || b) (sym (in-append x (A ++ []) (take top known)) ∙ sym (behind-known e ms top known (s .top) known₁ g held a top′ known₂ c d room x))
               ∙ sym (in-append x (offers rest) (take top′ known₂))
             where
               A : List ℕ

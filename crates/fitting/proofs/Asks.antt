@@ -13,12 +13,11 @@ use Rattle.layout.specs.declared.Entry.{Entry}
 use Rattle.items.specs.declared.Item.{Item}
 use Rattle.items.specs.Items as Items
 use Rattle.items.specs.Items.{values, headOf, count, scalarOk, textOf, scalarIn, missing}
-use Rattle.items.proofs.Items.{values-none, values-node, members-is, rest-is, size-values}
+use Rattle.items.proofs.Items.{values-none, values-node, members-is, size-values}
 use Rattle.value.specs.declared.Scalar.{Scalar}
 use Rattle.fits.specs.Decide.{fitsOf}
 use Rattle.encode_leaf.proofs.Leaves.{clipped, text-clipped}
-use Rattle.walks.specs.Walk.{howMany, valuesAfter}
-use Rattle.layout.specs.Layout.{isPad}
+use Rattle.walks.specs.Walk.{howMany}
 use Rattle.walks.specs.Kinds.{maskOf}
 use Rattle.walks.specs.Decide.{holds, goodOf}
 use Rattle.decode_leaf.specs.declared.Count.{Count}
@@ -144,14 +143,3 @@ module _ (l : List ℕ) (e : Entry) (v : List ℕ) (j to : ℕ) (run : List ℤ)
         → eqb (c .n) m ≡ tabled l e (values v j to) run
     unfolding tabled
     tabled-times h en k m u w x = rw (sym p ∙ t, q .fine h, members-is v j to (headOf (values v j to)) (Items.spanOf (headOf (values v j to))) en refl refl u k w, x) refl
-
--- ---- the items behind
-
-module _ (e : Entry) (v : List ℕ) (j to : ℕ) where
-  pub behind-pad : e .kind ≡ 6 → values v j to ≡ valuesAfter e (values v j to)
-  unfolding isPad
-  behind-pad h = rw (eq-eqb (e .kind) 6 h) refl
-
-  pub behind-item : (e .kind ≡ 6 → ⊥) → (en : ℕ) → en ≡ endOf (Items.spanOf (headOf (values v j to))) j to → values v en to ≡ valuesAfter e (values v j to)
-  unfolding isPad
-  behind-item h en q = rw (ne-eqb (e .kind) 6 h) (sym (rest-is v j to (headOf (values v j to)) (Items.spanOf (headOf (values v j to))) en refl refl q))

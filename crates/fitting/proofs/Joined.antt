@@ -13,9 +13,9 @@ use borrow.Author.Tests.{eq-eqb, ne-eqb, eqb-true, eqb-false, lt-ltb, ltb-true, 
 use Rattle.spans.specs.Tree.{Tree, none, node, endOf, treeIn, tree}
 use Rattle.lists.proofs.Logic.{and-left, and-right}
 use Rattle.layout.specs.declared.Entry.{Entry}
-use Rattle.layout.specs.Layout.{workFor, present, entryAt, entryCount, spanOf, isGroup, part, entries, unrepeated, isPad}
+use Rattle.layout.specs.Layout.{workFor, present, entryAt, entryCount, spanOf, isGroup, part, entries, unrepeated, isPad, controls}
 use Rattle.items.specs.declared.Item.{Item}
-use Rattle.items.specs.Items.{Values, values, count, headOf, membersOf, restOf, scalarOk, wellFormed, textOf, scalarIn, missing}
+use Rattle.items.specs.Items.{Values, itemCount, values, count, headOf, membersOf, restOf, scalarOk, wellFormed, textOf, scalarIn, missing}
 use Rattle.value.specs.declared.Scalar.{Scalar}
 use Rattle.value.specs.declared.Scalar.the-variants.{Null, Text, Int, Decimal, Float as FloatV, FloatBits, Bool as BoolV}
 use Rattle.value.specs.Scalar.{scalarOf, floatOf}
@@ -25,13 +25,12 @@ use Rattle.fits.specs.Decide.{fitsOf}
 use Rattle.walks.specs.Walk.{times, atMost, howMany}
 use Rattle.walks.specs.Kinds.{Count, State, start, held, maskOf, noted}
 use Rattle.walks.specs.Fitting.{after}
-use Rattle.walks.specs.Decide as W
-use Rattle.walks.specs.Decide.{numbers, holds, goodOf, eachFits, first, fitted, same, textIs, fitting}
+use Rattle.walks.specs.Decide.{Fit, misfit, fit, bind, guard, numbers, holds, goodOf, eachFits, first, fitted, same, textIs, fitting}
 use Rattle.decode_leaf.specs.Counts as Counts
 use Rattle.decode_leaf.specs.Counts.{noteIn, heldIn}
 use Rattle.decode_leaf.proofs.Stands.{Stands, stands-none, first-some}
 use Rattle.decode_leaf.proofs.Joined.{Ranged, noted-stands}
-use Rattle.fitting.specs.Steps.{Fit, misfit, fit, bind, guard, Fitter, saying, nameOf, toldAfter, tabled, leaf, one, each, field, seq}
+use Rattle.fitting.specs.Steps.{Progress, fits, Fitter, saying, nameOf, toldAfter, tabled, leaf, one, each, field, seq}
 use Rattle.fitting.proofs.Asks.{text-within}
 
 -- ---- an Int's number that is not negative is below 2^63
@@ -64,22 +63,27 @@ module _ (l masks source : List ℕ) where
     pub text : s .text ≡ take told source
     pub within : told ≤ length source
 
-  pub data Alike : W.Fit → Fit → Type 0 where
-    misfits : Alike W.misfit misfit
-    fits : {s : State} {run : List ℤ} {told : ℕ} → Rel s run told → Alike (W.fit s) (fit run told)
+  pub data Alike : Fit State → Fit Progress → Type 0 where
+    misfits : Alike misfit misfit
+    both-fit : {s : State} {run : List ℤ} {told : ℕ} → Rel s run told → Alike (fit s) (fits run told)
 
-  so-alike : {x : W.Fit} {y : Fit} (f : State → W.Fit) (g : List ℤ → ℕ → Fit) → Alike x y → ((s : State) (run : List ℤ) (told : ℕ) → Rel s run told → Alike (f s) (g run told)) → Alike (W.bind x f) (bind y g)
-  so-alike f g misfits h = misfits
-  so-alike f g (fits {s} {run} {told} r) h = h s run told r
+  -- the walk behind what fits, as the loops go
+  abbrev behind : (List ℤ → ℕ → Fit Progress) → Progress → Fit Progress
+  behind g s = g (s .run) (s .told)
 
-  only-both : (a : Bool) (x : W.Fit) (y : Fit) → (a ≡ true → Alike x y) → Alike (W.guard a x) (guard a y)
-  only-both true x y h = h refl
-  only-both false x y h = misfits
+  bind-alike : {x : Fit State} {y : Fit Progress} (f : State → Fit State) (g : List ℤ → ℕ → Fit Progress) → Alike x y
+      → ((s : State) (run : List ℤ) (told : ℕ) → Rel s run told → Alike (f s) (g run told)) → Alike (bind x f) (bind y (behind g))
+  bind-alike f g misfits h = misfits
+  bind-alike f g (both-fit {s} {run} {told} r) h = h s run told r
 
-  only-alike : (a b : Bool) (x : W.Fit) (y : Fit) → a ≡ b → (a ≡ true → Alike x y) → Alike (W.guard a x) (guard b y)
-  only-alike a b x y p h = subst (λ c. Alike (W.guard a x) (guard c y)) p (only-both a x y h)
+  guard-both : (a : Bool) (x : Fit State) (y : Fit Progress) → (a ≡ true → Alike x y) → Alike (guard a x) (guard a y)
+  guard-both true x y h = h refl
+  guard-both false x y h = misfits
 
-  cond-alike : (b : Bool) (x u : W.Fit) (y v : Fit) → Alike x y → Alike u v → Alike (cond b x u) (cond b y v)
+  guard-alike : (a b : Bool) (x : Fit State) (y : Fit Progress) → a ≡ b → (a ≡ true → Alike x y) → Alike (guard a x) (guard b y)
+  guard-alike a b x y p h = subst (λ c. Alike (guard a x) (guard c y)) p (guard-both a x y h)
+
+  cond-alike : (b : Bool) (x u : Fit State) (y v : Fit Progress) → Alike x y → Alike u v → Alike (cond b x u) (cond b y v)
   cond-alike true x u y v p q = p
   cond-alike false x u y v p q = q
 
@@ -99,33 +103,38 @@ module _ (l masks source : List ℕ) where
 
   -- every entry but a Pad
   abbrev loopField : Entry → Fitter → Fitter
-  loopField e loop vs run told = cond (unrepeated e) (one l masks source e loop true vs run told) (guard (tabled l e vs run) (each l masks source e loop (membersOf vs) run told))
+  loopField e loop vs run told = cond (unrepeated e) (one l masks source e loop vs run told) (guard (tabled l e vs run) (each l masks source e loop (membersOf vs) run told))
 
   module _ (e : Entry) (found : Counts.first l (e .name) < entryCount l) where
-    text-stands : (once : Bool) (tag a b : ℕ) {cs : List Count} {run : List ℤ} → tag ≡ 1 → Stands l cs run → Stands l cs (noteIn l true e once (scalarOf tag a b) run)
+    text-stands : (tag a b : ℕ) {cs : List Count} {run : List ℤ} → tag ≡ 1 → Stands l cs run → Stands l cs (noteIn l true e (scalarOf tag a b) run)
     unfolding scalarOf
-    text-stands once tag a b {cs} {run} q s = rw q (noted-stands l masks 0 0 true e found once (Text a b) cs run (λ _. tt) refl s)
+    text-stands tag a b {cs} {run} q s =
+        rw q (subst (λ xs. Stands l (xs ++ cs) (noteIn l true e (Text a b) run)) (none-either (controls e)) (noted-stands l masks 0 0 true e found (Text a b) cs run (λ _. tt) refl s))
+      where
+        none-either : (b : Bool) → _≡_ {A = List Count} (cond b [] []) []
+        none-either true = refl
+        none-either false = refl
 
-    module _ (once : Bool) (it : Item) {s : State} {run : List ℤ} {told : ℕ} (r : Rel s run told) where
+    module _ (it : Item) {s : State} {run : List ℤ} {told : ℕ} (r : Rel s run told) where
       after-text : eqb (it .tag) 1 ≡ true → scalarOk (length source) it ≡ true → it .a ≡ told
-          → Rel (record { counts = s .counts; text = s .text ++ take (it .b) (drop (it .a) source) }) (noteIn l true e once (scalarIn it) run) (told + it .b)
+          → Rel (record { counts = s .counts; text = s .text ++ take (it .b) (drop (it .a) source) }) (noteIn l true e (scalarIn it) run) (told + it .b)
       after-text t k q = record {
-        stands = text-stands once (it .tag) (it .a) (it .b) (eqb-true (it .tag) 1 t) (r .stands);
+        stands = text-stands (it .tag) (it .a) (it .b) (eqb-true (it .tag) 1 t) (r .stands);
         text = ap (λ (x : List ℕ). x ++ take (it .b) (drop (it .a) source)) (r .text) ∙ joined-texts (it .a) (it .b) told (r .within) q;
         within = omega (arith, q, text-within (length source) it k t);
       }
 
-      after-other : it .a < 2 ^ 64 → Rel (noted e once (scalarIn it) s) (noteIn l true e once (scalarIn it) run) (told + 0)
+      after-other : it .a < 2 ^ 64 → Rel (noted e (scalarIn it) s) (noteIn l true e (scalarIn it) run) (told + 0)
       after-other w =
           let z : told ≡ told + 0 = omega arith in
-          subst (λ n. Rel (noted e once (scalarIn it) s) (noteIn l true e once (scalarIn it) run) n) z
+          subst (λ n. Rel (noted e (scalarIn it) s) (noteIn l true e (scalarIn it) run) n) z
           (record {
-            stands = noted-stands l masks 0 0 true e found once (scalarIn it) (s .counts) run (λ _. scalar-ranged (it .tag) (it .a) (it .b) w) refl (r .stands);
+            stands = noted-stands l masks 0 0 true e found (scalarIn it) (s .counts) run (λ _. scalar-ranged (it .tag) (it .a) (it .b) w) refl (r .stands);
             text = r .text;
             within = r .within;
           })
 
-      after-alike : (name : ℕ) (ns : Values) → goodOf masks source e name it ns s ≡ true → Rel (after source e once it s) (noteIn l true e once (scalarIn it) run) (toldAfter it told)
+      after-alike : (name : ℕ) (ns : Values) → goodOf masks source e name it ns s ≡ true → Rel (after source e it s) (noteIn l true e (scalarIn it) run) (toldAfter it told)
       unfolding goodOf
       after-alike name ns h = go (eqb (it .tag) 1) refl (and-right f p d)
         where
@@ -146,45 +155,47 @@ module _ (l masks source : List ℕ) where
           d = and-right (ltb (it .a) (2 ^ 64)) (f && p) c
 
           go : (t : Bool) → eqb (it .tag) 1 ≡ t → (not t || eqb (it .a) (length (s .text))) ≡ true
-              → Rel (cond t (record { counts = s .counts; text = s .text ++ cond t (take (it .b) (drop (it .a) source)) [] }) (noted e once (scalarIn it) s)) (noteIn l true e once (scalarIn it) run) (told + cond t (it .b) 0)
+              → Rel (cond t (record { counts = s .counts; text = s .text ++ cond t (take (it .b) (drop (it .a) source)) [] }) (noted e (scalarIn it) s)) (noteIn l true e (scalarIn it) run) (told + cond t (it .b) 0)
           go true t k = after-text t (and-left (scalarOk (length source) it) (ltb (it .a) (2 ^ 64) && (f && p)) b) (eqb-true (it .a) (length (s .text)) k ∙ long r)
           go false t k = after-other (ltb-true (it .a) (2 ^ 64) (and-left (ltb (it .a) (2 ^ 64)) (f && p) c))
 
     -- ---- an element
 
-    -- one element of the deciding walk
-    abbrev oneW : (Values → State → W.Fit) → Bool → Item → Values → State → W.Fit
-    oneW inner once it ns s =
-        cond (isGroup e) (W.guard (holds (nameOf e once) 7 it ns) (inner ns s)) (W.guard (goodOf masks source e (nameOf e once) it ns s) (W.fit (after source e once it s)))
+    -- one element of the deciding walk, under a name
+    abbrev elementFits : (Values → State → Fit State) → ℕ → Item → Values → State → Fit State
+    elementFits inner name it ns s = cond (isGroup e) (guard (holds name 7 it ns) (inner ns s)) (guard (goodOf masks source e name it ns s) (fit (after source e it s)))
 
-    behind-one : (g h k : Bool) (x : W.Fit) (s : State) (f : State → W.Fit) → cond g (W.guard h (W.bind x f)) (W.guard k (f s)) ≡ W.bind (cond g (W.guard h x) (W.guard k (W.fit s))) f
+    behind-one : (g h k : Bool) (x : Fit State) (s : State) (f : State → Fit State) → cond g (guard h (bind x f)) (guard k (f s)) ≡ bind (cond g (guard h x) (guard k (fit s))) f
     behind-one true true k x s f = refl
     behind-one true false k x s f = refl
     behind-one false h true x s f = refl
     behind-one false h false x s f = refl
 
-    behind-table : (b : Bool) (x : W.Fit) (f : State → W.Fit) → W.guard b (W.bind x f) ≡ W.bind (W.guard b x) f
+    behind-table : (b : Bool) (x : Fit State) (f : State → Fit State) → guard b (bind x f) ≡ bind (guard b x) f
     behind-table true x f = refl
     behind-table false x f = refl
 
-    module _ (inner : Values → State → W.Fit) (loop : Fitter)
+    module _ (inner : Values → State → Fit State) (loop : Fitter)
         (ih : (ns : Values) (s : State) (run : List ℤ) (told : ℕ) → Rel s run told → Alike (inner ns s) (loop ns run told)) where
-      one-alike : (once : Bool) (it : Item) (ns vs : Values) (s : State) (run : List ℤ) (told : ℕ) → Rel s run told → Alike (oneW inner once it ns s) (one l masks source e loop once (node it ns vs) run told)
+      one-alike : (name : ℕ) → nameOf e ≡ name → (it : Item) (ns vs : Values) (s : State) (run : List ℤ) (told : ℕ) → Rel s run told
+          → Alike (elementFits inner name it ns s) (one l masks source e loop (node it ns vs) run told)
       unfolding one leaf
-      one-alike once it ns vs s run told r =
-          cond-alike (isGroup e) _ _ _ _
-          (only-both (holds (nameOf e once) 7 it ns) (inner ns s) (loop ns run told) (λ _. ih ns s run told r))
-          (only-alike (goodOf masks source e (nameOf e once) it ns s) (goodOf masks source e (nameOf e once) it ns (saying told)) (W.fit (after source e once it s))
-          (fit (noteIn l true e once (scalarIn it) run) (toldAfter it told)) (good-alike e (nameOf e once) it ns r)
-          (λ h. fits (after-alike once it r (nameOf e once) ns h)))
+      one-alike name q it ns vs s run told r =
+          subst (λ n. Alike (elementFits inner n it ns s) (one l masks source e loop (node it ns vs) run told)) q
+          (cond-alike (isGroup e) _ _ _ _
+          (guard-both (holds (nameOf e) 7 it ns) (inner ns s) (loop ns run told) (λ _. ih ns s run told r))
+          (guard-alike (goodOf masks source e (nameOf e) it ns s) (goodOf masks source e (nameOf e) it ns (saying told)) (fit (after source e it s))
+          (fits (noteIn l true e (scalarIn it) run) (toldAfter it told)) (good-alike e (nameOf e) it ns r)
+          (λ h. both-fit (after-alike it r (nameOf e) ns h))))
 
-      each-alike : (vs : Values) (s : State) (run : List ℤ) (told : ℕ) → Rel s run told → Alike (eachFits masks source e inner vs s) (each l masks source e loop vs run told)
+      each-alike : unrepeated e ≡ false → (vs : Values) (s : State) (run : List ℤ) (told : ℕ) → Rel s run told → Alike (eachFits masks source e inner vs s) (each l masks source e loop vs run told)
       unfolding eachFits each
-      each-alike none s run told r = fits r
-      each-alike (node it ns vs) s run told r =
-          subst⁻¹ (λ x. Alike x (bind (one l masks source e loop false (node it ns vs) run told) (λ q n. each l masks source e loop vs q n)))
-          (behind-one (isGroup e) (holds 65536 7 it ns) (goodOf masks source e 65536 it ns s) (inner ns s) (after source e false it s) (λ s₁. eachFits masks source e inner vs s₁))
-          (so-alike (λ s₁. eachFits masks source e inner vs s₁) (λ q n. each l masks source e loop vs q n) (one-alike false it ns vs s run told r) (λ s₁ q n. each-alike vs s₁ q n))
+      each-alike u none s run told r = both-fit r
+      each-alike u (node it ns vs) s run told r =
+          subst⁻¹ (λ x. Alike x (bind (one l masks source e loop (node it ns vs) run told) (behind (λ q n. each l masks source e loop vs q n))))
+          (behind-one (isGroup e) (holds 65536 7 it ns) (goodOf masks source e 65536 it ns s) (inner ns s) (after source e it s) (λ s₁. eachFits masks source e inner vs s₁))
+          (bind-alike (λ s₁. eachFits masks source e inner vs s₁) (λ q n. each l masks source e loop vs q n)
+          (one-alike 65536 (ap (λ b. cond b (e .name) 65536) u) it ns vs s run told r) (λ s₁ q n. each-alike u vs s₁ q n))
 
       many-alike : (s : State) (run : List ℤ) (told : ℕ) → Rel s run told → howMany held e s ≡ howMany (λ name q. heldIn l name q) e run
       unfolding howMany
@@ -194,44 +205,42 @@ module _ (l masks source : List ℕ) where
           go true = ap (atMost (e .occurs)) (sym (r .stands .same (e .depending)))
           go false = refl
 
-      no-item : (b g : Bool) (next : List ℤ → ℕ → Fit) (x y z : Fit) → Alike W.misfit (bind (cond b (cond g (guard false x) (guard false y)) (guard false z)) next)
+      no-item : (b g : Bool) (next : Progress → Fit Progress) (x y z : Fit Progress) → Alike misfit (bind (cond b (cond g (guard false x) (guard false y)) (guard false z)) next)
       no-item true true next x y z = misfits
       no-item true false next x y z = misfits
       no-item false g next x y z = misfits
 
-      module _ (next : Values → State → W.Fit) (more : Fitter)
+      module _ (next : Values → State → Fit State) (more : Fitter)
           (ih′ : (vs : Values) (s : State) (run : List ℤ) (told : ℕ) → Rel s run told → Alike (next vs s) (more vs run told)) where
-        table-alike : (it : Item) (ns vs : Values) (s : State) (run : List ℤ) (told : ℕ) → Rel s run told
-            → Alike (W.guard (holds (e .name) 6 it ns && numbers (howMany held e s) (count ns)) (W.bind (eachFits masks source e inner ns s) (next vs)))
-            (bind (guard (tabled l e (node it ns vs) run) (each l masks source e loop ns run told)) (λ q n. more vs q n))
+        table-alike : unrepeated e ≡ false → (it : Item) (ns vs : Values) (s : State) (run : List ℤ) (told : ℕ) → Rel s run told
+            → Alike (guard (holds (e .name) 6 it ns && numbers (howMany held e s) (count ns)) (bind (eachFits masks source e inner ns s) (next vs)))
+            (bind (guard (tabled l e (node it ns vs) run) (each l masks source e loop ns run told)) (behind (λ q n. more vs q n)))
         unfolding tabled
-        table-alike it ns vs s run told r =
-            subst⁻¹ (λ x. Alike x (bind (guard (holds (e .name) 6 it ns && numbers (howMany (λ name q. heldIn l name q) e run) (count ns)) (each l masks source e loop ns run told)) (λ q n. more vs q n)))
+        table-alike u it ns vs s run told r =
+            subst⁻¹ (λ x. Alike x (bind (guard (holds (e .name) 6 it ns && numbers (howMany (λ name q. heldIn l name q) e run) (count ns)) (each l masks source e loop ns run told)) (behind (λ q n. more vs q n))))
             (behind-table (holds (e .name) 6 it ns && numbers (howMany held e s) (count ns)) (eachFits masks source e inner ns s) (next vs))
-            (so-alike (next vs) (λ q n. more vs q n)
-            (only-alike (holds (e .name) 6 it ns && numbers (howMany held e s) (count ns)) (holds (e .name) 6 it ns && numbers (howMany (λ name q. heldIn l name q) e run) (count ns))
+            (bind-alike (next vs) (λ q n. more vs q n)
+            (guard-alike (holds (e .name) 6 it ns && numbers (howMany held e s) (count ns)) (holds (e .name) 6 it ns && numbers (howMany (λ name q. heldIn l name q) e run) (count ns))
             (eachFits masks source e inner ns s) (each l masks source e loop ns run told)
-            (ap (λ m. holds (e .name) 6 it ns && numbers m (count ns)) (many-alike s run told r)) (λ _. each-alike ns s run told r))
+            (ap (λ m. holds (e .name) 6 it ns && numbers m (count ns)) (many-alike s run told r)) (λ _. each-alike u ns s run told r))
             (λ s₁ q n. ih′ vs s₁ q n))
 
         first-alike : (vs : Values) (s : State) (run : List ℤ) (told : ℕ) → Rel s run told
-            → Alike (first masks source e inner vs s next) (bind (loopField e loop vs run told) (λ q n. more (restOf vs) q n))
+            → Alike (first masks source e inner vs s next) (bind (loopField e loop vs run told) (behind (λ q n. more (restOf vs) q n)))
         unfolding first one leaf tabled
-        first-alike none s run told r = no-item (unrepeated e) (isGroup e) (λ q n. more none q n) (loop none run told) (fit (noteIn l true e true (scalarIn (headOf none)) run) (toldAfter (headOf none) told)) (each l masks source e loop none run told)
-        first-alike (node it ns vs) s run told r = go (unrepeated e) (one-alike true it ns vs s run told r) (table-alike it ns vs s run told r)
+        first-alike none s run told r = no-item (unrepeated e) (isGroup e) (behind (λ q n. more none q n)) (loop none run told) (fits (noteIn l true e (scalarIn (headOf none)) run) (toldAfter (headOf none) told)) (each l masks source e loop none run told)
+        first-alike (node it ns vs) s run told r = go (unrepeated e) refl
           where
-            go : (b : Bool) → Alike (oneW inner true it ns s) (one l masks source e loop true (node it ns vs) run told)
-                → Alike (W.guard (holds (e .name) 6 it ns && numbers (howMany held e s) (count ns)) (W.bind (eachFits masks source e inner ns s) (next vs)))
-                (bind (guard (tabled l e (node it ns vs) run) (each l masks source e loop ns run told)) (λ q n. more vs q n))
+            go : (b : Bool) → unrepeated e ≡ b
                 → Alike
-                (cond b (cond (isGroup e) (W.guard (holds (e .name) 7 it ns) (W.bind (inner ns s) (next vs))) (W.guard (goodOf masks source e (e .name) it ns s) (next vs (after source e true it s))))
-                (W.guard (holds (e .name) 6 it ns && numbers (howMany held e s) (count ns)) (W.bind (eachFits masks source e inner ns s) (next vs))))
-                (bind (cond b (one l masks source e loop true (node it ns vs) run told) (guard (tabled l e (node it ns vs) run) (each l masks source e loop ns run told))) (λ q n. more vs q n))
-            go true a t =
-                subst⁻¹ (λ x. Alike x (bind (one l masks source e loop true (node it ns vs) run told) (λ q n. more vs q n)))
-                (behind-one (isGroup e) (holds (e .name) 7 it ns) (goodOf masks source e (e .name) it ns s) (inner ns s) (after source e true it s) (next vs))
-                (so-alike (next vs) (λ q n. more vs q n) a (λ s₁ q n. ih′ vs s₁ q n))
-            go false a t = t
+                (cond b (cond (isGroup e) (guard (holds (e .name) 7 it ns) (bind (inner ns s) (next vs))) (guard (goodOf masks source e (e .name) it ns s) (next vs (after source e it s))))
+                (guard (holds (e .name) 6 it ns && numbers (howMany held e s) (count ns)) (bind (eachFits masks source e inner ns s) (next vs))))
+                (bind (cond b (one l masks source e loop (node it ns vs) run told) (guard (tabled l e (node it ns vs) run) (each l masks source e loop ns run told))) (behind (λ q n. more vs q n)))
+            go true u =
+                subst⁻¹ (λ x. Alike x (bind (one l masks source e loop (node it ns vs) run told) (behind (λ q n. more vs q n))))
+                (behind-one (isGroup e) (holds (e .name) 7 it ns) (goodOf masks source e (e .name) it ns s) (inner ns s) (after source e it s) (next vs))
+                (bind-alike (next vs) (λ q n. more vs q n) (one-alike (e .name) (ap (λ b. cond b (e .name) 65536) u) it ns vs s run told r) (λ s₁ q n. ih′ vs s₁ q n))
+            go false u = table-alike u it ns vs s run told r
 
   -- ---- a sequence of entries whose names the layout has
 
@@ -241,7 +250,7 @@ module _ (l masks source : List ℕ) where
 
   seq-alike : (t : Tree Entry) → Named t → (vs : Values) (s : State) (run : List ℤ) (told : ℕ) → Rel s run told → Alike (fitted masks source t vs s) (seq l masks source t vs run told)
   unfolding fitted seq field
-  seq-alike none n none s run told r = fits r
+  seq-alike none n none s run told r = both-fit r
   seq-alike none n (node it ns vs) s run told r = misfits
   seq-alike (node e ms rest) n vs s run told r = go (isPad e) (λ us s₁ q k. seq-alike rest (n .1 .1) us s₁ q k)
       (first-alike e (n .0) (λ us s₁. fitted masks source ms us s₁) (λ us q k. seq l masks source ms us q k) (λ us s₁ q k. seq-alike ms (n .1 .0) us s₁ q k)
@@ -249,10 +258,10 @@ module _ (l masks source : List ℕ) where
     where
       go : (b : Bool) → ((us : Values) (s₁ : State) (q : List ℤ) (k : ℕ) → Rel s₁ q k → Alike (fitted masks source rest us s₁) (seq l masks source rest us q k))
           → Alike (first masks source e (λ us s₁. fitted masks source ms us s₁) vs s (λ us s₁. fitted masks source rest us s₁))
-          (bind (loopField e (λ us q k. seq l masks source ms us q k) vs run told) (λ q k. seq l masks source rest (restOf vs) q k))
+          (bind (loopField e (λ us q k. seq l masks source ms us q k) vs run told) (behind (λ q k. seq l masks source rest (restOf vs) q k)))
           → Alike (cond b (fitted masks source rest vs s) (first masks source e (λ us s₁. fitted masks source ms us s₁) vs s (λ us s₁. fitted masks source rest us s₁)))
-          (bind (cond b (fit run told) (loopField e (λ us q k. seq l masks source ms us q k) vs run told))
-          (λ q k. seq l masks source rest (cond b vs (restOf vs)) q k))
+          (bind (cond b (fits run told) (loopField e (λ us q k. seq l masks source ms us q k) vs run told))
+          (behind (λ q k. seq l masks source rest (cond b vs (restOf vs)) q k)))
       go true a f = a vs s run told r
       go false a f = f
 
@@ -279,9 +288,9 @@ module _ (l masks source : List ℕ) where
 
   -- ---- the texts
 
-  abbrev answer : Fit → Bool
+  abbrev answer : Fit Progress → Bool
   answer misfit = false
-  answer (fit run told) = eqb told (length source)
+  answer (fit s) = eqb (s .told) (length source)
 
 eqb-next : (m n : ℕ) → eqb m n ≡ eqb (suc m) (suc n)
 eqb-next m n = go (eqb m n) refl
@@ -296,9 +305,9 @@ told-same [] (suc n) h = absurd (omega (arith, h))
 told-same (x ∷ xs) zero h = sym (ne-eqb 0 (length (x ∷ xs)) (λ z. omega (arith, z)))
 told-same (x ∷ xs) (suc n) h = rw (eq-eqb x x refl) (told-same xs n (omega arith) ∙ eqb-next n (length xs))
 
-text-alike : (l masks source : List ℕ) {x : W.Fit} {y : Fit} → Alike l masks source x y → textIs source x ≡ answer l masks source y
+text-alike : (l masks source : List ℕ) {x : Fit State} {y : Fit Progress} → Alike l masks source x y → textIs source x ≡ answer l masks source y
 text-alike l masks source misfits = refl
-text-alike l masks source (fits {s} {run} {told} r) = ap (λ t. same t source) (r .text) ∙ told-same source told (r .within)
+text-alike l masks source (both-fit {s} {run} {told} r) = ap (λ t. same t source) (r .text) ∙ told-same source told (r .within)
 
 -- ---- the answers of the whole
 
@@ -314,16 +323,18 @@ module _ (l masks items text : List ℕ) (n : ℕ) where
     unfolding fitting
     no-list f = rw (le-leb (workFor l) n h, sym q ∙ f) refl
 
-    module _ (t : w ≡ true) (run₀ : List ℤ) (z : run₀ ≡ replicate n (pos 0)) where
-      abbrev Walk : List ℤ → Fit
-      Walk run = seq l masks text (part l 0 (length l / 12)) (values items 0 (length items / 4)) run 0
+    module _ (t : w ≡ true) (run₀ : List ℤ) (z : run₀ ≡ replicate n (pos 0)) (to : ℕ) (all : to ≡ itemCount items) where
+      abbrev Walk : List ℤ → ℕ → Fit Progress
+      Walk run k = seq l masks text (entries l) (values items 0 k) run 0
 
-      walked : Answer ≡ answer l masks text (Walk run₀)
+      walked : Answer ≡ answer l masks text (Walk run₀ to)
       unfolding fitting
-      walked = rw (le-leb (workFor l) n h, sym q ∙ t) (text-alike l masks text (joined l masks text (values items 0 (length items / 4)) n h) ∙ ap (λ r. answer l masks text (Walk r)) (sym z))
+      walked =
+          rw (le-leb (workFor l) n h, sym q ∙ t)
+          (text-alike l masks text (joined l masks text (values items 0 (itemCount items)) n h) ∙ ap₂ (λ r k. answer l masks text (Walk r k)) (sym z) (sym all))
 
-      pub no-fit : Walk run₀ ≡ misfit → false ≡ Answer
+      pub no-fit : Walk run₀ to ≡ misfit → false ≡ Answer
       no-fit f = sym (walked ∙ ap (answer l masks text) f)
 
-      pub all-fit : (run : List ℤ) (told : ℕ) → Walk run₀ ≡ fit run told → eqb told (length text) ≡ Answer
+      pub all-fit : (run : List ℤ) (told : ℕ) → Walk run₀ to ≡ fits run told → eqb told (length text) ≡ Answer
       all-fit run told f = sym (walked ∙ ap (answer l masks text) f)

@@ -20,23 +20,24 @@ use Rattle.items.proofs.Items.{values-none, values-node, members-is}
 use Rattle.value.specs.declared.Scalar.{Scalar}
 use Rattle.fits.specs.Decide.{fitsOf}
 use Rattle.walks.specs.Kinds.{maskOf}
-use Rattle.walks.specs.Decide.{goodOf}
+use Rattle.walks.specs.Decide.{Fit, misfit, bind, guard, goodOf}
+use Rattle.walks.specs.Walk.{valuesAfter}
 use Rattle.decode_leaf.specs.Counts.{noteIn}
 use Rattle.fitting.specs.declared.Out.{Out}
-use Rattle.fitting.specs.Steps.{Fit, misfit, fit, bind, guard, Fitter, headed, nameOf, toldAfter, tabled, good, leaf, one, each, field, seq}
+use Rattle.fitting.specs.Steps.{Progress, fits, Fitter, headed, nameOf, toldAfter, tabled, good, leaf, one, each, field, seq}
 use Rattle.walks.specs.Walk.{valuesAfter}
 use Rattle.fitting.specs.Machine.{Met}
 use Rattle.fitting.proofs.Asks.{text-within}
 
 -- ---- how a function comes to its contract
 
-pub refuse : {o : Fit} {r : Out} {run : List ℤ} → r .ok ≡ false → o ≡ misfit → Met o r run
+pub refuse : {o : Fit Progress} {r : Out} {run : List ℤ} → r .ok ≡ false → o ≡ misfit → Met o r run
 refuse p q = record { fine = λ z. absurd (false≢true (sym p ∙ z)); refuses = λ _. q }
 
-pub fine : {o : Fit} {run : List ℤ} (told : ℕ) → o ≡ fit run told → Met o (record { ok = true; told = told }) run
+pub fine : {o : Fit Progress} {run : List ℤ} (told : ℕ) → o ≡ fits run told → Met o (record { ok = true; told = told }) run
 fine told p = record { fine = λ _. p; refuses = λ z. absurd (false≢true (sym z)) }
 
-pub same-as : {o p : Fit} {r : Out} {run : List ℤ} → o ≡ p → Met p r run → Met o r run
+pub same-as : {o p : Fit Progress} {r : Out} {run : List ℤ} → o ≡ p → Met p r run → Met o r run
 same-as {r = r} {run = run} q m = subst⁻¹ (λ x. Met x r run) q m
 
 -- ---- a scalar
@@ -69,13 +70,13 @@ good-within masks text e name (node it ns vs) told h = go (eqb (it .tag) 1) refl
         omega arith
     go false t k = omega arith
 
-module _ (l masks text : List ℕ) (e : Entry) (once : Bool) (vs : Values) (run : List ℤ) (told name : ℕ) (n : name ≡ nameOf e once) (b : Bool) (p : b ≡ good masks text e name vs told) where
-  good-named : b ≡ good masks text e (nameOf e once) vs told
-  good-named = p ∙ ap (λ k. good masks text e k vs told) n
+module _ (l masks text : List ℕ) (e : Entry) (vs : Values) (run : List ℤ) (told : ℕ) (u : Bool) (y : u ≡ unrepeated e) (name : ℕ) (n : name ≡ cond u (e .name) 65536) (b : Bool) (p : b ≡ good masks text e name vs told) where
+  good-named : b ≡ good masks text e (nameOf e) vs told
+  good-named = p ∙ ap (λ k. good masks text e k vs told) (n ∙ ap (λ x. cond x (e .name) 65536) y)
 
-  pub leaf-not : b ≡ false → leaf l masks text e once vs run told ≡ misfit
+  pub leaf-not : b ≡ false → leaf l masks text e vs run told ≡ misfit
   unfolding leaf
-  leaf-not h = ap (λ x. guard x (fit (noteIn l true e once (scalarIn (headOf vs)) run) (toldAfter (headOf vs) told))) (sym good-named ∙ h)
+  leaf-not h = ap (λ x. guard x (fits (noteIn l true e (scalarIn (headOf vs)) run) (toldAfter (headOf vs) told))) (sym good-named ∙ h)
 
   module _ (h : b ≡ true) (it : Item) (q : it ≡ headOf vs) (z : ℕ) (s : z ≡ cond (eqb (it .tag) 1) (it .b) 0) where
     told-is : toldAfter (headOf vs) told ≡ told + z
@@ -84,40 +85,39 @@ module _ (l masks text : List ℕ) (e : Entry) (once : Bool) (vs : Values) (run 
     pub leaf-within : told + z ≤ max told (length text)
     leaf-within = omega (arith, told-is, good-within masks text e name vs told (sym p ∙ h))
 
-    pub leaf-is : (x : Scalar) → x ≡ scalarIn it → (run′ : List ℤ) → run′ ≡ noteIn l true e once x run → leaf l masks text e once vs run told ≡ fit run′ (told + z)
+    pub leaf-is : (x : Scalar) → x ≡ scalarIn it → (run′ : List ℤ) → run′ ≡ noteIn l true e x run → leaf l masks text e vs run told ≡ fits run′ (told + z)
     unfolding leaf
     leaf-is x u run′ w =
-        ap (λ y. guard y (fit (noteIn l true e once (scalarIn (headOf vs)) run) (toldAfter (headOf vs) told))) (sym good-named ∙ h)
-        ∙ ap₂ fit (sym (w ∙ ap (λ y. noteIn l true e once y run) (u ∙ ap scalarIn q))) told-is
+        ap (λ y. guard y (fits (noteIn l true e (scalarIn (headOf vs)) run) (toldAfter (headOf vs) told))) (sym good-named ∙ h)
+        ∙ ap₂ fits (sym (w ∙ ap (λ y. noteIn l true e y run) (u ∙ ap scalarIn q))) told-is
 
 -- ---- one element, and where a field begins
 
 module _ (l masks text : List ℕ) (e : Entry) (inner : Fitter) (v : List ℕ) (j to : ℕ) (run : List ℤ) (told : ℕ) where
-  module _ (once : Bool) where
-    pub one-leaf : (e .kind ≡ 9 → ⊥) → one l masks text e inner once (values v j to) run told ≡ leaf l masks text e once (values v j to) run told
+  pub one-leaf : (e .kind ≡ 9 → ⊥) → one l masks text e inner (values v j to) run told ≡ leaf l masks text e (values v j to) run told
+  unfolding one
+  one-leaf h = rw (ne-eqb (e .kind) 9 h) refl
+
+  module _ (h : e .kind ≡ 9) (name : ℕ) (u : Bool) (y : u ≡ unrepeated e) (n : name ≡ cond u (e .name) 65536) (b : Bool) (p : b ≡ headed name 7 (values v j to)) where
+    one-headed : one l masks text e inner (values v j to) run told ≡ guard b (inner (membersOf (values v j to)) run told)
     unfolding one
-    one-leaf h = rw (ne-eqb (e .kind) 9 h) refl
+    one-headed = rw (eq-eqb (e .kind) 9 h) (ap (λ x. guard x (inner (membersOf (values v j to)) run told)) (sym (p ∙ ap (λ k. headed k 7 (values v j to)) (n ∙ ap (λ x. cond x (e .name) 65536) y))))
 
-    module _ (h : e .kind ≡ 9) (name : ℕ) (n : name ≡ nameOf e once) (b : Bool) (p : b ≡ headed name 7 (values v j to)) where
-      one-headed : one l masks text e inner once (values v j to) run told ≡ guard b (inner (membersOf (values v j to)) run told)
-      unfolding one
-      one-headed = rw (eq-eqb (e .kind) 9 h) (ap (λ x. guard x (inner (membersOf (values v j to)) run told)) (sym (p ∙ ap (λ k. headed k 7 (values v j to)) n)))
+    pub one-not : b ≡ false → one l masks text e inner (values v j to) run told ≡ misfit
+    one-not f = one-headed ∙ ap (λ x. guard x (inner (membersOf (values v j to)) run told)) f
 
-      pub one-not : b ≡ false → one l masks text e inner once (values v j to) run told ≡ misfit
-      one-not f = one-headed ∙ ap (λ x. guard x (inner (membersOf (values v j to)) run told)) f
+    pub one-group : b ≡ true → (en m : ℕ) → en ≡ endOf (Items.spanOf (headOf (values v j to))) j to → m ≡ min en (j + 1)
+        → one l masks text e inner (values v j to) run told ≡ inner (values v m en) run told
+    one-group f en m q s =
+        one-headed ∙ ap (λ x. guard x (inner (membersOf (values v j to)) run told)) f
+        ∙ ap (λ ns. inner ns run told) (members-is v j to (headOf (values v j to)) (Items.spanOf (headOf (values v j to))) en refl refl q m s)
 
-      pub one-group : b ≡ true → (en m : ℕ) → en ≡ endOf (Items.spanOf (headOf (values v j to))) j to → m ≡ min en (j + 1)
-          → one l masks text e inner once (values v j to) run told ≡ inner (values v m en) run told
-      one-group f en m q s =
-          one-headed ∙ ap (λ x. guard x (inner (membersOf (values v j to)) run told)) f
-          ∙ ap (λ ns. inner ns run told) (members-is v j to (headOf (values v j to)) (Items.spanOf (headOf (values v j to))) en refl refl q m s)
-
-  pub field-pad : e .kind ≡ 6 → field l masks text e inner (values v j to) run told ≡ fit run told
+  pub field-pad : e .kind ≡ 6 → field l masks text e inner (values v j to) run told ≡ fits run told
   unfolding field isPad
   field-pad h = rw (eq-eqb (e .kind) 6 h) refl
 
   module _ (h : e .kind ≡ 6 → ⊥) (z : Bool) (y : z ≡ unrepeated e) where
-    pub field-one : z ≡ true → field l masks text e inner (values v j to) run told ≡ one l masks text e inner true (values v j to) run told
+    pub field-one : z ≡ true → field l masks text e inner (values v j to) run told ≡ one l masks text e inner (values v j to) run told
     unfolding field isPad
     field-one f = rw (ne-eqb (e .kind) 6 h, sym y ∙ f) refl
 
@@ -142,42 +142,42 @@ module _ (l masks text : List ℕ) where
   abbrev pub fieldIn : Entry → ℕ → ℕ → Fitter
   fieldIn e lo hi = field l masks text e (λ ns run n. seq l masks text (part l lo hi) ns run n)
 
-  abbrev pub oneIn : Entry → ℕ → ℕ → Bool → Fitter
+  abbrev pub oneIn : Entry → ℕ → ℕ → Fitter
   oneIn e lo hi = one l masks text e (λ ns run n. seq l masks text (part l lo hi) ns run n)
 
   abbrev pub eachIn : Entry → ℕ → ℕ → Fitter
   eachIn e lo hi = each l masks text e (λ ns run n. seq l masks text (part l lo hi) ns run n)
 
-pub record FieldInv (o : Fit) (l masks text v : List ℕ) (run₀ : List ℤ) (e : Entry) (lo hi end : ℕ) (run : List ℤ) (k soFar : ℕ) : Type 0 where
+pub record FieldInv (o : Fit Progress) (l masks text v : List ℕ) (run₀ : List ℤ) (e : Entry) (lo hi end : ℕ) (run : List ℤ) (k soFar : ℕ) : Type 0 where
   pub whole : o ≡ eachIn l masks text e lo hi (values v k end) run soFar
   pub same : length run ≡ length run₀
 
-module _ {o : Fit} {l masks text v : List ℕ} {run₀ : List ℤ} {e : Entry} {lo hi end : ℕ} {run : List ℤ} {k soFar : ℕ}
+module _ {o : Fit Progress} {l masks text v : List ℕ} {run₀ : List ℤ} {e : Entry} {lo hi end : ℕ} {run : List ℤ} {k soFar : ℕ}
     (inv : FieldInv o l masks text v run₀ e lo hi end run k soFar) where
-  pub field-done : end ≤ k → o ≡ fit run soFar
+  pub field-done : end ≤ k → o ≡ fits run soFar
   unfolding each
   field-done h = inv .whole ∙ ap (λ vs. eachIn l masks text e lo hi vs run soFar) (values-none v k end h)
 
   module _ (h : k < end) (k′ : ℕ) (q : k′ ≡ endOf (Items.spanOf (headOf (values v k end))) k end) where
-    turn : o ≡ bind (oneIn l masks text e lo hi false (values v k end) run soFar) (λ r n. eachIn l masks text e lo hi (values v k′ end) r n)
+    turn : o ≡ bind (oneIn l masks text e lo hi (values v k end) run soFar) (λ s. eachIn l masks text e lo hi (values v k′ end) (s .run) (s .told))
     unfolding each
     turn =
         let w : values v k end ≡ node (headOf (values v k end)) (values v (k + 1) k′) (values v k′ end)
         = values-node v k end (headOf (values v k end)) (Items.spanOf (headOf (values v k end))) k′ refl refl q h in
         inv .whole ∙ ap (λ vs. eachIn l masks text e lo hi vs run soFar) w
-        ∙ ap (λ vs. bind (oneIn l masks text e lo hi false vs run soFar) (λ r n. eachIn l masks text e lo hi (values v k′ end) r n)) (sym w)
+        ∙ ap (λ vs. bind (oneIn l masks text e lo hi vs run soFar) (λ s. eachIn l masks text e lo hi (values v k′ end) (s .run) (s .told))) (sym w)
 
-    pub field-goes : (run′ : List ℤ) (n : ℕ) → oneIn l masks text e lo hi false (values v k end) run soFar ≡ fit run′ n → length run′ ≡ length run
+    pub field-goes : (run′ : List ℤ) (n : ℕ) → oneIn l masks text e lo hi (values v k end) run soFar ≡ fits run′ n → length run′ ≡ length run
         → FieldInv o l masks text v run₀ e lo hi end run′ k′ n
     field-goes run′ n f same = record {
-      whole = turn ∙ ap (λ x. bind x (λ r m. eachIn l masks text e lo hi (values v k′ end) r m)) f;
+      whole = turn ∙ ap (λ x. bind x (λ s. eachIn l masks text e lo hi (values v k′ end) (s .run) (s .told))) f;
       same = same ∙ inv .same;
     }
 
-  pub field-stops : k < end → oneIn l masks text e lo hi false (values v k end) run soFar ≡ misfit → o ≡ misfit
+  pub field-stops : k < end → oneIn l masks text e lo hi (values v k end) run soFar ≡ misfit → o ≡ misfit
   field-stops h f =
       turn h (endOf (Items.spanOf (headOf (values v k end))) k end) refl
-      ∙ ap (λ x. bind x (λ r m. eachIn l masks text e lo hi (values v (endOf (Items.spanOf (headOf (values v k end))) k end) end) r m)) f
+      ∙ ap (λ x. bind x (λ s. eachIn l masks text e lo hi (values v (endOf (Items.spanOf (headOf (values v k end))) k end) end) (s .run) (s .told))) f
 
 -- ---- a sequence
 
@@ -190,10 +190,10 @@ pub seq-starts : (l masks text v : List ℕ) (run₀ : List ℤ) (lo hi from to 
 seq-starts l masks text v run₀ lo hi from to told = record { whole = refl; same = refl; past-lo = omega arith }
 
 module _ {l masks text v : List ℕ} {run₀ : List ℤ} {lo hi from to told : ℕ} {run : List ℤ} {i j soFar : ℕ} (inv : SeqInv l masks text v run₀ lo hi from to told run i j soFar) where
-  abbrev pub Whole : Fit
+  abbrev pub Whole : Fit Progress
   Whole = seqIn l masks text lo hi (values v from to) run₀ told
 
-  pub seq-done : hi ≤ i → to ≤ j → Whole ≡ fit run soFar
+  pub seq-done : hi ≤ i → to ≤ j → Whole ≡ fits run soFar
   unfolding seq
   seq-done h k = inv .whole ∙ rw (tree-none (entryAt l) spanOf i hi h, values-none v j to k) refl
 
@@ -207,17 +207,17 @@ module _ {l masks text v : List ℕ} {run₀ : List ℤ} {lo hi from to told : �
       ) refl
 
   module _ (e : Entry) (en : ℕ) (h : i < hi) (p : e ≡ entryAt l i) (q : en ≡ endOf (e .span) i hi) where
-    seq-turn : Whole ≡ bind (fieldIn l masks text e (i + 1) en (values v j to) run soFar) (λ r n. seqIn l masks text en hi (valuesAfter e (values v j to)) r n)
+    seq-turn : Whole ≡ bind (fieldIn l masks text e (i + 1) en (values v j to) run soFar) (λ s. seqIn l masks text en hi (valuesAfter e (values v j to)) (s .run) (s .told))
     unfolding seq
     seq-turn = inv .whole ∙ ap (λ t. seq l masks text t (values v j to) run soFar) (tree-at (entryAt l) spanOf i hi e en h p q)
 
     pub seq-stops : fieldIn l masks text e (i + 1) en (values v j to) run soFar ≡ misfit → Whole ≡ misfit
-    seq-stops f = seq-turn ∙ ap (λ x. bind x (λ r n. seqIn l masks text en hi (valuesAfter e (values v j to)) r n)) f
+    seq-stops f = seq-turn ∙ ap (λ x. bind x (λ s. seqIn l masks text en hi (valuesAfter e (values v j to)) (s .run) (s .told))) f
 
-    pub seq-goes : (run′ : List ℤ) (n j′ : ℕ) → fieldIn l masks text e (i + 1) en (values v j to) run soFar ≡ fit run′ n → length run′ ≡ length run
+    pub seq-goes : (run′ : List ℤ) (n j′ : ℕ) → fieldIn l masks text e (i + 1) en (values v j to) run soFar ≡ fits run′ n → length run′ ≡ length run
         → values v j′ to ≡ valuesAfter e (values v j to) → SeqInv l masks text v run₀ lo hi from to told run′ en j′ n
     seq-goes run′ n j′ f same w = record {
-      whole = seq-turn ∙ ap (λ x. bind x (λ r m. seqIn l masks text en hi (valuesAfter e (values v j to)) r m)) f ∙ ap (λ vs. seqIn l masks text en hi vs run′ n) (sym w);
+      whole = seq-turn ∙ ap (λ x. bind x (λ s. seqIn l masks text en hi (valuesAfter e (values v j to)) (s .run) (s .told))) f ∙ ap (λ vs. seqIn l masks text en hi vs run′ n) (sym w);
       same = same ∙ inv .same;
       past-lo = omega (arith, inv .past-lo);
     }

@@ -35,8 +35,9 @@ headed name tag (node it ns vs) = holds name tag it ns
 abbrev pub saying : ℕ → State
 saying told = record { counts = []; text = replicate told 0 }
 
-abbrev pub nameOf : Entry → Bool → ℕ
-nameOf e once = cond once (e .name) 65536
+-- the name of an entry's element
+abbrev pub nameOf : Entry → ℕ
+nameOf e = cond (unrepeated e) (e .name) 65536
 
 abbrev pub toldAfter : Item → ℕ → ℕ
 toldAfter it told = told + cond (eqb (it .tag) 1) (it .b) 0
@@ -51,21 +52,21 @@ good masks source e name none told = false
 good masks source e name (node it ns vs) told = goodOf masks source e name it ns (saying told)
 
 module _ (l masks source : List ℕ) where
-  unfoldable pub leaf : Entry → Bool → Fitter
-  leaf e once vs run told =
-      guard (good masks source e (nameOf e once) vs told) (fits (noteIn l true e (scalarIn (headOf vs)) run) (toldAfter (headOf vs) told))
+  unfoldable pub leaf : Entry → Fitter
+  leaf e vs run told =
+      guard (good masks source e (nameOf e) vs told) (fits (noteIn l true e (scalarIn (headOf vs)) run) (toldAfter (headOf vs) told))
 
-  unfoldable pub one : Entry → Fitter → Bool → Fitter
-  one e inner once vs run told = cond (isGroup e) (guard (headed (nameOf e once) 7 vs) (inner (membersOf vs) run told)) (leaf e once vs run told)
+  unfoldable pub one : Entry → Fitter → Fitter
+  one e inner vs run told = cond (isGroup e) (guard (headed (nameOf e) 7 vs) (inner (membersOf vs) run told)) (leaf e vs run told)
 
   unfoldable pub each : Entry → Fitter → Fitter
   each e inner none run told = fits run told
-  each e inner (node it ns vs) run told = bind (one e inner false (node it ns vs) run told) (λ s. each e inner vs (s .run) (s .told))
+  each e inner (node it ns vs) run told = bind (one e inner (node it ns vs) run told) (λ s. each e inner vs (s .run) (s .told))
 
   unfoldable pub field : Entry → Fitter → Fitter
   field e inner vs run told =
       cond (isPad e) (fits run told)
-      (cond (unrepeated e) (one e inner true vs run told)
+      (cond (unrepeated e) (one e inner vs run told)
       (guard (tabled l e vs run) (each e inner (membersOf vs) run told)))
 
   unfoldable pub seq : Tree Entry → Fitter

@@ -144,11 +144,19 @@ fn fit_leaf(
     j: usize,
     to: usize,
     told: usize,
-    once: bool,
 ) -> Out
-    ensures { λ r. ⌜ Met (leaf (now (layout .entry)) (now (masks .entry)) (now (text .entry)) e once (values (now (items .entry)) j to) (now (counts .entry)) told) r (now (counts .exit)) ⌝ }
+    ensures { λ r. ⌜ Met (leaf (now (layout .entry)) (now (masks .entry)) (now (text .entry)) e (values (now (items .entry)) j to) (now (counts .entry)) told) r (now (counts .exit)) ⌝ }
 {
-    if !is_good(masks, items, text, e, element_name(e, once), j, to, told) {
+    if !is_good(
+        masks,
+        items,
+        text,
+        e,
+        element_name(e, unrepeated(e)),
+        j,
+        to,
+        told,
+    ) {
         return misfit();
     }
     let it = fetch(items, j, to);
@@ -232,20 +240,7 @@ fn fit_field(
         return Out { ok: true, told };
     }
     if unrepeated(e) {
-        return fit_one(
-            layout,
-            masks,
-            items,
-            text,
-            counts,
-            e,
-            lo,
-            hi,
-            j,
-            to,
-            told,
-            true,
-        );
+        return fit_one(layout, masks, items, text, counts, e, lo, hi, j, to, told);
     }
     if !is_table(layout, items, counts, e, j, to) {
         return misfit();
@@ -254,20 +249,7 @@ fn fit_field(
     let mut k = after(j, end);
     let mut at = told;
     while k < end {
-        let o = fit_one(
-            layout,
-            masks,
-            items,
-            text,
-            counts,
-            e,
-            lo,
-            hi,
-            k,
-            end,
-            at,
-            false,
-        );
+        let o = fit_one(layout, masks, items, text, counts, e, lo, hi, k, end, at);
         if !o.ok {
             return misfit();
         }
@@ -290,14 +272,13 @@ fn fit_one(
     j: usize,
     to: usize,
     told: usize,
-    once: bool,
 ) -> Out
-    ensures { λ r. ⌜ Met (one (now (layout .entry)) (now (masks .entry)) (now (text .entry)) e (λ ns run n. seq (now (layout .entry)) (now (masks .entry)) (now (text .entry)) (part (now (layout .entry)) lo hi) ns run n) once (values (now (items .entry)) j to) (now (counts .entry)) told) r (now (counts .exit)) ⌝ }
+    ensures { λ r. ⌜ Met (one (now (layout .entry)) (now (masks .entry)) (now (text .entry)) e (λ ns run n. seq (now (layout .entry)) (now (masks .entry)) (now (text .entry)) (part (now (layout .entry)) lo hi) ns run n) (values (now (items .entry)) j to) (now (counts .entry)) told) r (now (counts .exit)) ⌝ }
 {
     if e.kind != 9 {
-        return fit_leaf(layout, masks, items, text, counts, e, j, to, told, once);
+        return fit_leaf(layout, masks, items, text, counts, e, j, to, told);
     }
-    if !is_holder(items, element_name(e, once), 7, j, to) {
+    if !is_holder(items, element_name(e, unrepeated(e)), 7, j, to) {
         return misfit();
     }
     let end = item_end(items, j, to);

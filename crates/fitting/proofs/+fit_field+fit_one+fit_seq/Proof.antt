@@ -8,8 +8,8 @@ use Rattle.fitting.proofs.+fit_field+fit_one+fit_seq.{statement}
 use Rattle.fitting.proofs.+fit_field+fit_one+fit_seq.Tie.{close}
 use Rattle.fitting.proofs.+fit_field+fit_one+fit_seq.Proof.Common.{μ-fit-field, μ-fit-one, μ-fit-seq, fit-field-at, fit-one-at, fit-seq-at}
 use Rattle.fitting.proofs.+fit_field+fit_one+fit_seq.Proof.Field.{fit-field-claims, fit-field-Inv-loop, fit-field-μ-loop, fit-field-returns, fit-field-unrepeated-requires, fit-field-fit-one-requires, fit-field-same-length, fit-field-returns-2, fit-field-is-table-requires, fit-field-misfit-requires, fit-field-same-length-2, fit-field-returns-3, fit-field-item-end-requires, fit-field-after-requires, fit-field-loop-holds, fit-field-fit-one-requires-2, fit-field-misfit-requires-2, fit-field-same-length-3, fit-field-returns-4, fit-field-item-end-requires-2, fit-field-loop-less, fit-field-loop-again, fit-field-same-length-4, fit-field-returns-5}
-use Rattle.fitting.proofs.+fit_field+fit_one+fit_seq.Proof.One.{fit-one-claims, fit-one-fit-leaf-requires, fit-one-same-length, fit-one-returns, fit-one-element-name-requires, fit-one-is-holder-requires, fit-one-misfit-requires, fit-one-returns-2, fit-one-item-end-requires, fit-one-after-requires, fit-one-fit-seq-requires, fit-one-same-length-2, fit-one-returns-3}
-use Rattle.fitting.proofs.+fit_field+fit_one+fit_seq.Proof.Seq.{fit-seq-claims, fit-seq-Inv-loop, fit-seq-μ-loop, fit-seq-loop-holds, fit-seq-load-requires, fit-seq-cast-end-of, fit-seq-end-of-requires, fit-seq-add-fit-field, fit-seq-fit-field-requires, fit-seq-misfit-requires, fit-seq-same-length, fit-seq-returns, fit-seq-next-item-requires, fit-seq-loop-less, fit-seq-loop-again, fit-seq-misfit-requires-2, fit-seq-same-length-2, fit-seq-returns-2, fit-seq-same-length-3, fit-seq-returns-3}
+use Rattle.fitting.proofs.+fit_field+fit_one+fit_seq.Proof.One.{fit-one-claims, fit-one-fit-leaf-requires, fit-one-same-length, fit-one-returns, fit-one-unrepeated-requires, fit-one-element-name-requires, fit-one-is-holder-requires, fit-one-misfit-requires, fit-one-returns-2, fit-one-item-end-requires, fit-one-after-requires, fit-one-fit-seq-requires, fit-one-same-length-2, fit-one-returns-3}
+use Rattle.fitting.proofs.+fit_field+fit_one+fit_seq.Proof.Seq.{fit-seq-claims, fit-seq-Inv-loop, fit-seq-μ-loop, fit-seq-loop-holds, fit-seq-load-requires, fit-seq-cast-end-of, fit-seq-end-of-requires, fit-seq-add-fit-field, fit-seq-fit-field-requires, fit-seq-misfit-requires, fit-seq-same-length, fit-seq-returns, fit-seq-values-after-requires, fit-seq-loop-less, fit-seq-loop-again, fit-seq-misfit-requires-2, fit-seq-same-length-2, fit-seq-returns-2, fit-seq-same-length-3, fit-seq-returns-3}
 mod Common
 mod Field
 mod One
@@ -48,6 +48,7 @@ pub +fit-field+fit-one+fit-seq-spec : {M : Type 1} → statement M
     (fit-one-fit-leaf-requires t)
     (fit-one-same-length t)
     (fit-one-returns t)
+    (fit-one-unrepeated-requires t)
     (fit-one-element-name-requires t)
     (fit-one-is-holder-requires t)
     (fit-one-misfit-requires t)
@@ -71,7 +72,7 @@ pub +fit-field+fit-one+fit-seq-spec : {M : Type 1} → statement M
     (fit-seq-misfit-requires t)
     (fit-seq-same-length t)
     (fit-seq-returns t)
-    (fit-seq-next-item-requires t)
+    (fit-seq-values-after-requires t)
     (fit-seq-loop-less t)
     (fit-seq-loop-again t)
     (fit-seq-misfit-requires-2 t)

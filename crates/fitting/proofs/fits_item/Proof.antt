@@ -46,8 +46,8 @@ part-fits-scalar-end c = search needs
 cast-fits-scalar : tie.Need-cast-fits-scalar
 cast-fits-scalar c = search needs
 
-item-scalar-requires : tie.Need-item-scalar-requires
-item-scalar-requires c κs = search needs
+scalar-in-requires : tie.Need-scalar-in-requires
+scalar-in-requires c κs = search needs
 
 add-fits-scalar-2 : tie.Need-add-fits-scalar-2
 add-fits-scalar-2 c = search needs
@@ -65,7 +65,15 @@ fits-scalar-requires : tie.Need-fits-scalar-requires
 fits-scalar-requires c κs = search needs
 
 returns : tie.Need-returns
-returns c = fits-is (c .before .before .before .before .before .before .before .before .before .before .before .before .before .before .args .masks .now) (c .before .before .before .before .before .before .before .before .before .before .before .before .before .before .args .text .now) (c .before .before .before .before .before .before .before .before .before .before .before .before .before .before .args .e) (c .before .before .before .before .before .before .before .before .before .before .before .before .before .before .args .it) _ _ _ _ _ (c .before .before .before .before .before .before .before .before .before .before .clip .ensures) (c .before .before .before .before .before .before .before .before .clip2 .ensures) (c .before .before .before .before .before .before .before .clip3 .ensures) (c .before .before .before .before .before .before .text-size .ensures) (c .before .before .before .before .before .clip4 .ensures) _ (c .before .before .item-scalar .ensures) _ (c .fits-scalar .ensures)
+returns c =
+    let at-args = c .before .before .before .before .before .before .before .before .before .before .before .before .before .before .args in
+    let at-clip = c .before .before .before .before .before .before .before .before .before .before .clip in
+    let at-clip2 = c .before .before .before .before .before .before .before .before .clip2 in
+    let at-clip3 = c .before .before .before .before .before .before .before .clip3 in
+    let at-text-size = c .before .before .before .before .before .before .text-size in
+    let at-clip4 = c .before .before .before .before .before .clip4 in
+    let at-scalar-in = c .before .before .scalar-in in
+    fits-is (at-args .masks .now) (at-args .text .now) (at-args .e) (at-args .it) _ _ _ _ _ (at-clip .ensures) (at-clip2 .ensures) (at-clip3 .ensures) (at-text-size .ensures) (at-clip4 .ensures) _ (at-scalar-in .ensures) _ (c .fits-scalar .ensures)
 
 pub fits-item-spec : {M : Type 1} → statement M
 fits-item-spec =
@@ -85,7 +93,7 @@ fits-item-spec =
     part-fits-scalar-start
     part-fits-scalar-end
     cast-fits-scalar
-    item-scalar-requires
+    scalar-in-requires
     add-fits-scalar-2
     sub-fits-scalar-2
     part-fits-scalar-start-2

@@ -19,7 +19,12 @@ same-length : tie.Need-same-length
 same-length c = search needs
 
 returns : tie.Need-returns
-returns c = (no-work (c .before .before .before .before .before .before .before .before .args .layout .now) (c .before .before .before .before .before .before .before .before .args .masks .now) (c .before .before .before .before .before .before .before .before .args .items .now) (c .before .before .before .before .before .before .before .before .args .text .now) (length (c .before .before .before .before .before .before .before .before .args .counts .now)) (omega (arith, c .if1 .taken, c .before .before .clear-counts .kept .0)), c .before .before .clear-counts .ensures)
+returns c =
+    let at-args′ = c .before .before .before .before .before .before .before .before .args in
+    let at-clear-counts′ = c .before .before .clear-counts in
+    let at-args = at-args′ in
+    let at-clear-counts = at-clear-counts′ in
+    (no-work (at-args .layout .now) (at-args .masks .now) (at-args .items .now) (at-args .text .now) (length (at-args .counts .now)) (omega (arith, c .if1 .taken, at-clear-counts .kept .0)), at-clear-counts .ensures)
 
 check-items-requires : tie.Need-check-items-requires
 check-items-requires c κs = search needs
@@ -28,7 +33,17 @@ same-length-2 : tie.Need-same-length-2
 same-length-2 c = search needs
 
 returns-2 : tie.Need-returns-2
-returns-2 c = (no-list (c .before .before .before .before .before .before .before .before .before .before .args .layout .now) (c .before .before .before .before .before .before .before .before .before .before .args .masks .now) (c .before .before .before .before .before .before .before .before .before .before .args .items .now) (c .before .before .before .before .before .before .before .before .before .before .args .text .now) (length (c .before .before .before .before .before .before .before .before .before .before .args .counts .now)) (omega (arith, c .before .before .if1 .left, c .before .before .before .before .clear-counts .kept .0)) _ (c .before .check-items .ensures) (not-true _ (c .if2 .taken)), c .before .before .before .before .clear-counts .ensures)
+returns-2 c =
+    let at-args′ = c .before .before .before .before .before .before .before .before .before .before .args in
+    let at-clear-counts′ = c .before .before .before .before .clear-counts in
+    let at-if1′ = c .before .before .if1 in
+    let at-args = at-args′ in
+    let at-clear-counts = at-clear-counts′ in
+    let at-if1 = at-if1′ in
+    (no-list (at-args .layout .now) (at-args .masks .now) (at-args .items .now) (at-args .text .now) (length (at-args .counts .now)) (omega (arith, at-if1 .left, at-clear-counts .kept .0)) _ (c .before .check-items .ensures) (not-true _ (c .if2 .taken)), at-clear-counts .ensures)
+
+item-count-requires : tie.Need-item-count-requires
+item-count-requires c κs = search needs
 
 fit-seq-requires : tie.Need-fit-seq-requires
 fit-seq-requires c κs = search needs
@@ -40,13 +55,47 @@ same-length-3 : tie.Need-same-length-3
 same-length-3 c = search needs
 
 returns-3 : tie.Need-returns-3
-returns-3 c = (no-fit (c .before .before .before .before .before .before .before .before .before .before .before .before .before .before .before .before .before .before .args .layout .now) (c .before .before .before .before .before .before .before .before .before .before .before .before .before .before .before .before .before .before .args .masks .now) (c .before .before .before .before .before .before .before .before .before .before .before .before .before .before .before .before .before .before .args .items .now) (c .before .before .before .before .before .before .before .before .before .before .before .before .before .before .before .before .before .before .args .text .now) (length (c .before .before .before .before .before .before .before .before .before .before .before .before .before .before .before .before .before .before .args .counts .now)) (omega (arith, c .before .before .before .before .before .before .before .before .before .before .if1 .left, c .before .before .before .before .before .before .before .before .before .before .before .before .clear-counts .kept .0)) _ (c .before .before .before .before .before .before .before .before .before .check-items .ensures) (not-false _ (c .before .before .before .before .before .before .before .before .if2 .left)) _ (c .before .before .before .before .before .before .before .before .before .before .before .before .clear-counts .ensures) (c .before .before .before .before .before .before .fit-seq .ensures .refuses (not-true _ (c .if3 .taken))), (c .before .before .before .clear-counts2 .ensures ∙ ap (λ n. replicate n (pos 0)) (c .before .before .before .before .before .before .fit-seq .kept .1 .1 .1 .1 .0 ∙ c .before .before .before .before .before .before .before .before .before .before .before .before .clear-counts .kept .0)))
+returns-3 c =
+    let at-args′ = c .before .before .before .before .before .before .before .before .before .before .before .before .before .before .before .before .before .before .before .args in
+    let at-clear-counts′ = c .before .before .before .before .before .before .before .before .before .before .before .before .before .clear-counts in
+    let at-if1′ = c .before .before .before .before .before .before .before .before .before .before .before .if1 in
+    let at-check-items′ = c .before .before .before .before .before .before .before .before .before .before .check-items in
+    let at-if2′ = c .before .before .before .before .before .before .before .before .before .if2 in
+    let at-item-count′ = c .before .before .before .before .before .before .before .item-count in
+    let at-fit-seq′ = c .before .before .before .before .before .before .fit-seq in
+    let at-clear-counts2′ = c .before .before .before .clear-counts2 in
+    let at-args = at-args′ in
+    let at-clear-counts = at-clear-counts′ in
+    let at-if1 = at-if1′ in
+    let at-check-items = at-check-items′ in
+    let at-if2 = at-if2′ in
+    let at-item-count = at-item-count′ in
+    let at-fit-seq = at-fit-seq′ in
+    let at-clear-counts2 = at-clear-counts2′ in
+    (no-fit (at-args .layout .now) (at-args .masks .now) (at-args .items .now) (at-args .text .now) (length (at-args .counts .now)) (omega (arith, at-if1 .left, at-clear-counts .kept .0)) _ (at-check-items .ensures) (not-false _ (at-if2 .left)) _ (at-clear-counts .ensures) _ (at-item-count .ensures) (at-fit-seq .ensures .refuses (not-true _ (c .if3 .taken))), (at-clear-counts2 .ensures ∙ ap (λ n. replicate n (pos 0)) (at-fit-seq .kept .1 .1 .1 .1 .0 ∙ at-clear-counts .kept .0)))
 
 same-length-4 : tie.Need-same-length-4
 same-length-4 c = search needs
 
 returns-4 : tie.Need-returns-4
-returns-4 c = (all-fit (c .before .before .before .before .before .before .before .before .before .before .before .before .before .before .before .before .before .before .before .args .layout .now) (c .before .before .before .before .before .before .before .before .before .before .before .before .before .before .before .before .before .before .before .args .masks .now) (c .before .before .before .before .before .before .before .before .before .before .before .before .before .before .before .before .before .before .before .args .items .now) (c .before .before .before .before .before .before .before .before .before .before .before .before .before .before .before .before .before .before .before .args .text .now) (length (c .before .before .before .before .before .before .before .before .before .before .before .before .before .before .before .before .before .before .before .args .counts .now)) (omega (arith, c .before .before .before .before .before .before .before .before .before .before .before .if1 .left, c .before .before .before .before .before .before .before .before .before .before .before .before .before .clear-counts .kept .0)) _ (c .before .before .before .before .before .before .before .before .before .before .check-items .ensures) (not-false _ (c .before .before .before .before .before .before .before .before .before .if2 .left)) _ (c .before .before .before .before .before .before .before .before .before .before .before .before .before .clear-counts .ensures) _ _ (c .before .before .before .before .before .before .before .fit-seq .ensures .fine (not-false _ (c .before .if3 .left))), (c .before .before .before .before .clear-counts2 .ensures ∙ ap (λ n. replicate n (pos 0)) (c .before .before .before .before .before .before .before .fit-seq .kept .1 .1 .1 .1 .0 ∙ c .before .before .before .before .before .before .before .before .before .before .before .before .before .clear-counts .kept .0)))
+returns-4 c =
+    let at-args′ = c .before .before .before .before .before .before .before .before .before .before .before .before .before .before .before .before .before .before .before .before .args in
+    let at-clear-counts′ = c .before .before .before .before .before .before .before .before .before .before .before .before .before .before .clear-counts in
+    let at-if1′ = c .before .before .before .before .before .before .before .before .before .before .before .before .if1 in
+    let at-check-items′ = c .before .before .before .before .before .before .before .before .before .before .before .check-items in
+    let at-if2′ = c .before .before .before .before .before .before .before .before .before .before .if2 in
+    let at-item-count′ = c .before .before .before .before .before .before .before .before .item-count in
+    let at-fit-seq′ = c .before .before .before .before .before .before .before .fit-seq in
+    let at-clear-counts2′ = c .before .before .before .before .clear-counts2 in
+    let at-args = at-args′ in
+    let at-clear-counts = at-clear-counts′ in
+    let at-if1 = at-if1′ in
+    let at-check-items = at-check-items′ in
+    let at-if2 = at-if2′ in
+    let at-item-count = at-item-count′ in
+    let at-fit-seq = at-fit-seq′ in
+    let at-clear-counts2 = at-clear-counts2′ in
+    (all-fit (at-args .layout .now) (at-args .masks .now) (at-args .items .now) (at-args .text .now) (length (at-args .counts .now)) (omega (arith, at-if1 .left, at-clear-counts .kept .0)) _ (at-check-items .ensures) (not-false _ (at-if2 .left)) _ (at-clear-counts .ensures) _ (at-item-count .ensures) _ _ (at-fit-seq .ensures .fine (not-false _ (c .before .if3 .left))), (at-clear-counts2 .ensures ∙ ap (λ n. replicate n (pos 0)) (at-fit-seq .kept .1 .1 .1 .1 .0 ∙ at-clear-counts .kept .0)))
 
 pub is-fitting-spec : {M : Type 1} → statement M
 is-fitting-spec =
@@ -59,6 +108,7 @@ is-fitting-spec =
     check-items-requires
     same-length-2
     returns-2
+    item-count-requires
     fit-seq-requires
     clear-counts-requires-2
     same-length-3

@@ -18,7 +18,11 @@ how-many-requires : tie.Need-how-many-requires
 how-many-requires c κs = search needs
 
 returns-2 : tie.Need-returns-2
-returns-2 c = tabled-never _ _ _ _ _ _ _ (c .before .before .before .before .is-holder .ensures) (not-false _ (c .before .before .before .if1 .left)) (c .before .before .how-many .result) (c .before .before .how-many .ensures) (c .if2 .taken)
+returns-2 c =
+    let at-is-holder = c .before .before .before .before .is-holder in
+    let at-if1 = c .before .before .before .if1 in
+    let at-how-many = c .before .before .how-many in
+    tabled-never _ _ _ _ _ _ _ (at-is-holder .ensures) (not-false _ (at-if1 .left)) (at-how-many .result) (at-how-many .ensures) (c .if2 .taken)
 
 item-end-requires : tie.Need-item-end-requires
 item-end-requires c κs = search needs
@@ -30,7 +34,14 @@ members-requires : tie.Need-members-requires
 members-requires c κs = search needs
 
 returns-3 : tie.Need-returns-3
-returns-3 c = tabled-times _ _ _ _ _ _ _ (c .before .before .before .before .before .before .before .before .is-holder .ensures) (not-false _ (c .before .before .before .before .before .before .before .if1 .left)) (c .before .before .before .before .before .before .how-many .result) (c .before .before .before .before .before .before .how-many .ensures) (c .before .before .before .before .if2 .left) _ _ _ (c .before .before .before .item-end .ensures) (c .before .before .after .ensures) (c .before .members .ensures)
+returns-3 c =
+    let at-is-holder = c .before .before .before .before .before .before .before .before .is-holder in
+    let at-if1 = c .before .before .before .before .before .before .before .if1 in
+    let at-how-many = c .before .before .before .before .before .before .how-many in
+    let at-if2 = c .before .before .before .before .if2 in
+    let at-item-end = c .before .before .before .item-end in
+    let at-after = c .before .before .after in
+    tabled-times _ _ _ _ _ _ _ (at-is-holder .ensures) (not-false _ (at-if1 .left)) (at-how-many .result) (at-how-many .ensures) (at-if2 .left) _ _ _ (at-item-end .ensures) (at-after .ensures) (c .before .members .ensures)
 
 pub is-table-spec : {M : Type 1} → statement M
 is-table-spec =

@@ -44,7 +44,7 @@ pub record SeqInv (masks text : List ℕ) (page : ℕ) (l v b₀ : List ℕ) (lo
   pub stops : shift ≤ 9223372036854775808
   pub ahead : Ahead (values v from to) (values v (f .next) to) (f .low)
 
-pub seq-starts : (masks text : List ℕ) (page : ℕ) (l v b₀ : List ℕ) (lo hi from to base : ℕ) → SeqInv masks text page l v b₀ lo hi from to base b₀ lo 0 0 0 (record { at = from; next = from; low = 0 })
+pub seq-starts : (masks text : List ℕ) (page : ℕ) (l v b₀ : List ℕ) (lo hi from to base : ℕ) → SeqInv masks text page l v b₀ lo hi from to base b₀ lo 0 0 0 (record { at = to; next = from; low = 0 })
 seq-starts masks text page l v b₀ lo hi from to base = record { whole = refl; same = refl; past-lo = omega arith; stops = omega arith; ahead = λ name h. refl }
 
 module _ {masks text : List ℕ} {page : ℕ} {l v b₀ : List ℕ} {lo hi from to base : ℕ} {b : List ℕ} {i shift taken past : ℕ} {f : Place}

@@ -133,24 +133,25 @@ fn encode_seq(
     to: usize,
     base: u64,
 ) -> Out
-    ensures { λ r. ⌜ Met (start (codec (now (masks .entry)) page (now (text .entry))) (roomIn (now (rec .entry))) (part (now (layout .entry)) lo hi) (values (now (items .entry)) from to) base (now (rec .entry))) r (now (rec .exit)) ⌝ }
+    ensures { λ r. ⌜ Met
+        (start (codec (now (masks .entry)) page (now (text .entry))) (roomIn (now (rec .entry))) (part (now (layout .entry)) lo hi) (values (now (items .entry)) from to) base (now (rec .entry)))
+        r (now (rec .exit)) ⌝ }
 {
     let mut i = lo;
     let mut shift: u64 = 0;
     let mut taken: u64 = 0;
     let mut past: u64 = 0;
-    let mut f = Place {
-        at: from,
-        next: from,
-        low: 0,
-    };
+    let next = from;
+    let low = 0;
+    let mut f = Place { at: to, next, low };
     while i < hi {
         let e = load(layout, i);
         let off = sat_add(e.offset as u64, shift);
         let at = sat_add(base, off);
         f = place_of(items, e, from, f, to);
+        let j = f.at;
         if is_lone_leaf(e) {
-            let o = encode_leaf(masks, text, rec, page, e, fetch(items, f.at, to), at);
+            let o = encode_leaf(masks, text, rec, page, e, fetch(items, j, to), at);
             if o.refused != 0 {
                 return refusal(o.refused);
             }
@@ -160,25 +161,12 @@ fn encode_seq(
             continue;
         }
         let end = end_of(e.span as u64, i, hi);
-        let o = encode_field(
-            layout,
-            masks,
-            items,
-            text,
-            rec,
-            page,
-            e,
-            i + 1,
-            end,
-            f.at,
-            to,
-            at,
-        );
+        let lo = i + 1;
+        let o = encode_field(layout, masks, items, text, rec, page, e, lo, end, j, to, at);
         if o.refused != 0 {
             return refusal(o.refused);
         }
-        let grown = less(o.taken, reserved_width(e));
-        shift = sat_add(shift, grown);
+        shift = sat_add(shift, less(o.taken, reserved_width(e)));
         taken = larger(taken, sat_add(off, o.taken));
         past = larger(past, o.past);
         i = end;
@@ -206,7 +194,11 @@ fn encode_field(
     to: usize,
     at: u64,
 ) -> Out
-    ensures { λ r. ⌜ Met (field (codec (now (masks .entry)) page (now (text .entry))) (roomIn (now (rec .entry))) e (start (codec (now (masks .entry)) page (now (text .entry))) (roomIn (now (rec .entry))) (part (now (layout .entry)) lo hi)) (values (now (items .entry)) i to) at (now (rec .entry))) r (now (rec .exit)) ⌝ }
+    ensures { λ r. ⌜ Met
+        (field (codec (now (masks .entry)) page (now (text .entry))) (roomIn (now (rec .entry))) e
+        (start (codec (now (masks .entry)) page (now (text .entry))) (roomIn (now (rec .entry))) (part (now (layout .entry)) lo hi))
+        (values (now (items .entry)) i to) at (now (rec .entry)))
+        r (now (rec .exit)) ⌝ }
 {
     let s = elements_of(items, e, i, to);
     if s.refused != 0 {
@@ -263,7 +255,9 @@ fn encode_one(
     to: usize,
     at: u64,
 ) -> Out
-    ensures { λ r. ⌜ Met (group (start (codec (now (masks .entry)) page (now (text .entry))) (roomIn (now (rec .entry))) (part (now (layout .entry)) lo hi)) (values (now (items .entry)) i to) at (now (rec .entry))) r (now (rec .exit)) ⌝ }
+    ensures { λ r. ⌜ Met
+        (group (start (codec (now (masks .entry)) page (now (text .entry))) (roomIn (now (rec .entry))) (part (now (layout .entry)) lo hi)) (values (now (items .entry)) i to) at (now (rec .entry)))
+        r (now (rec .exit)) ⌝ }
 {
     let it = fetch(items, i, to);
     if !takes(it.tag, 7) {

@@ -147,16 +147,8 @@ fn fit_leaf(
 ) -> Out
     ensures { λ r. ⌜ Met (leaf (now (layout .entry)) (now (masks .entry)) (now (text .entry)) e (values (now (items .entry)) j to) (now (counts .entry)) told) r (now (counts .exit)) ⌝ }
 {
-    if !is_good(
-        masks,
-        items,
-        text,
-        e,
-        element_name(e, unrepeated(e)),
-        j,
-        to,
-        told,
-    ) {
+    let name = element_name(e, unrepeated(e));
+    if !is_good(masks, items, text, e, name, j, to, told) {
         return misfit();
     }
     let it = fetch(items, j, to);
@@ -198,7 +190,9 @@ fn fit_seq(
     to: usize,
     told: usize,
 ) -> Out
-    ensures { λ r. ⌜ Met (seq (now (layout .entry)) (now (masks .entry)) (now (text .entry)) (part (now (layout .entry)) lo hi) (values (now (items .entry)) from to) (now (counts .entry)) told) r (now (counts .exit)) ⌝ }
+    ensures { λ r. ⌜ Met
+        (seq (now (layout .entry)) (now (masks .entry)) (now (text .entry)) (part (now (layout .entry)) lo hi) (values (now (items .entry)) from to) (now (counts .entry)) told)
+        r (now (counts .exit)) ⌝ }
 {
     let mut i = lo;
     let mut j = from;
@@ -234,7 +228,11 @@ fn fit_field(
     to: usize,
     told: usize,
 ) -> Out
-    ensures { λ r. ⌜ Met (field (now (layout .entry)) (now (masks .entry)) (now (text .entry)) e (λ ns run n. seq (now (layout .entry)) (now (masks .entry)) (now (text .entry)) (part (now (layout .entry)) lo hi) ns run n) (values (now (items .entry)) j to) (now (counts .entry)) told) r (now (counts .exit)) ⌝ }
+    ensures { λ r. ⌜ Met
+        (field (now (layout .entry)) (now (masks .entry)) (now (text .entry)) e
+        (λ ns run n. seq (now (layout .entry)) (now (masks .entry)) (now (text .entry)) (part (now (layout .entry)) lo hi) ns run n)
+        (values (now (items .entry)) j to) (now (counts .entry)) told)
+        r (now (counts .exit)) ⌝ }
 {
     if e.kind == 6 {
         return Out { ok: true, told };
@@ -273,7 +271,11 @@ fn fit_one(
     to: usize,
     told: usize,
 ) -> Out
-    ensures { λ r. ⌜ Met (one (now (layout .entry)) (now (masks .entry)) (now (text .entry)) e (λ ns run n. seq (now (layout .entry)) (now (masks .entry)) (now (text .entry)) (part (now (layout .entry)) lo hi) ns run n) (values (now (items .entry)) j to) (now (counts .entry)) told) r (now (counts .exit)) ⌝ }
+    ensures { λ r. ⌜ Met
+        (one (now (layout .entry)) (now (masks .entry)) (now (text .entry)) e
+        (λ ns run n. seq (now (layout .entry)) (now (masks .entry)) (now (text .entry)) (part (now (layout .entry)) lo hi) ns run n)
+        (values (now (items .entry)) j to) (now (counts .entry)) told)
+        r (now (counts .exit)) ⌝ }
 {
     if e.kind != 9 {
         return fit_leaf(layout, masks, items, text, counts, e, j, to, told);

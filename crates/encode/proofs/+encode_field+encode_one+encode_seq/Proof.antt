@@ -36,7 +36,7 @@ use Rattle.encode.proofs.+encode_field+encode_one+encode_seq.Proof.Fiel
 use Rattle.encode.proofs.+encode_field+encode_one+encode_seq.Proof.Field.{encode-field-returns-5, encode-field-sat-add-requires-2, encode-field-sat-add-requires-3, encode-field-item-end-requires, encode-field-sub-left, encode-field-loop-less, encode-field-loop-again, encode-field-same-length-5, encode-field-returns-6}
 use Rattle.encode.proofs.+encode_field+encode_one+encode_seq.Proof.One.{encode-one-claims, encode-one-fetch-requires, encode-one-takes-requires, encode-one-refusal-requires, encode-one-returns, encode-one-item-end-requires, encode-one-after-requires, encode-one-encode-seq-requires, encode-one-same-length, encode-one-returns-2}
 use Rattle.encode.proofs.+encode_field+encode_one+encode_seq.Proof.Seq.{encode-seq-claims, encode-seq-Inv-loop, encode-seq-μ-loop, encode-seq-loop-holds, encode-seq-load-requires, encode-seq-cast-sat-add, encode-seq-sat-add-requires, encode-seq-sat-add-requires-2, encode-seq-place-of-requires, encode-seq-is-lone-leaf-requires, encode-seq-fetch-requires, encode-seq-encode-leaf-requires}
-use Rattle.encode.proofs.+encode_field+encode_one+encode_seq.Proof.Seq.{encode-seq-refusal-requires, encode-seq-same-length, encode-seq-returns, encode-seq-sat-add-requires-3, encode-seq-larger-requires, encode-seq-larger-requires-2, encode-seq-add-i, encode-seq-loop-less, encode-seq-loop-again, encode-seq-cast-end-of, encode-seq-end-of-requires, encode-seq-add-encode-field}
+use Rattle.encode.proofs.+encode_field+encode_one+encode_seq.Proof.Seq.{encode-seq-refusal-requires, encode-seq-same-length, encode-seq-returns, encode-seq-sat-add-requires-3, encode-seq-larger-requires, encode-seq-larger-requires-2, encode-seq-add-i, encode-seq-loop-less, encode-seq-loop-again, encode-seq-cast-end-of, encode-seq-end-of-requires, encode-seq-add-lo}
 use Rattle.encode.proofs.+encode_field+encode_one+encode_seq.Proof.Seq.{encode-seq-encode-field-requires, encode-seq-refusal-requires-2, encode-seq-same-length-2, encode-seq-returns-2, encode-seq-reserved-width-requires, encode-seq-less-requires, encode-seq-sat-add-requires-4, encode-seq-sat-add-requires-5, encode-seq-larger-requires-3, encode-seq-larger-requires-4, encode-seq-loop-less-2}
 use Rattle.encode.proofs.+encode_field+encode_one+encode_seq.Proof.Seq.{encode-seq-loop-again-2, encode-seq-same-length-3, encode-seq-returns-3}
 mod Common
@@ -113,7 +113,7 @@ pub +encode-field+encode-one+encode-seq-spec : {M : Type 1} → statement M
     (encode-seq-loop-again t)
     (encode-seq-cast-end-of t)
     (encode-seq-end-of-requires t)
-    (encode-seq-add-encode-field t)
+    (encode-seq-add-lo t)
     (encode-seq-encode-field-requires t)
     (encode-seq-refusal-requires-2 t)
     (encode-seq-same-length-2 t)

@@ -66,10 +66,10 @@ encode-seq-claims t = (
 )
 
 abbrev pub encode-seq-Inv-loop : encode-seq-lts.InvT-loop
-encode-seq-Inv-loop layout masks items text rec₀ page lo hi from to base i₀ shift₀ taken₀ past₀ f₀ rec i shift taken past f = SeqInv masks text page layout items rec₀ lo hi from to base rec i shift taken past f
+encode-seq-Inv-loop layout masks items text rec₀ page lo hi from to base i₀ shift₀ taken₀ past₀ next low f₀ rec i shift taken past f = SeqInv masks text page layout items rec₀ lo hi from to base rec i shift taken past f
 
 abbrev pub encode-seq-μ-loop : encode-seq-lts.MeasureT-loop
-encode-seq-μ-loop layout masks items text rec₀ page lo hi from to base i₀ shift₀ taken₀ past₀ f₀ rec i shift taken past f = hi - i
+encode-seq-μ-loop layout masks items text rec₀ page lo hi from to base i₀ shift₀ taken₀ past₀ next low f₀ rec i shift taken past f = hi - i
 
 pub encode-seq-loop-holds : (t : ℕ) → encode-seq-lts.Need-loop-holds (encode-seq-claims t) (encode-seq-at t) encode-seq.Post encode-seq-Inv-loop encode-seq-μ-loop
 encode-seq-loop-holds t c = seq-starts _ _ _ _ _ _ _ _ _ _ _
@@ -166,8 +166,8 @@ encode-seq-cast-end-of t c = search needs
 pub encode-seq-end-of-requires : (t : ℕ) → encode-seq-lts.Need-end-of-requires (encode-seq-claims t) (encode-seq-at t) encode-seq.Post encode-seq-Inv-loop encode-seq-μ-loop
 encode-seq-end-of-requires t c κs = search needs
 
-pub encode-seq-add-encode-field : (t : ℕ) → encode-seq-lts.Need-add-encode-field (encode-seq-claims t) (encode-seq-at t) encode-seq.Post encode-seq-Inv-loop encode-seq-μ-loop
-encode-seq-add-encode-field t c = search needs
+pub encode-seq-add-lo : (t : ℕ) → encode-seq-lts.Need-add-lo (encode-seq-claims t) (encode-seq-at t) encode-seq.Post encode-seq-Inv-loop encode-seq-μ-loop
+encode-seq-add-lo t c = search needs
 
 pub encode-seq-encode-field-requires : (t : ℕ) → encode-seq-lts.Need-encode-field-requires (encode-seq-claims t) (encode-seq-at t) encode-seq.Post encode-seq-Inv-loop encode-seq-μ-loop
 encode-seq-encode-field-requires t c κs =

@@ -17,11 +17,11 @@ use Rattle.lines.specs.Lines.{lineFrom, startIn, startsWith, maskOk}
 use Rattle.lines.specs.Names.{distinct, namesAt}
 use Rattle.lines.proofs.Laws.{start-there}
 use Rattle.lines.proofs.Sight.{getD-map-at, names-long}
-use Rattle.layout_text.specs.declared.LayoutRead.{LayoutRead}
+use Rattle.layout_text.specs.declared.LayoutReading.{LayoutReading}
 use Rattle.layout_text.specs.Form.{linesOf, isNone, maskFor, countOf, lineIn, kindSaid, all, tests, entryLawful, lawful, maskWord}
 use Rattle.layout_text.specs.Reading.{widthSaid, maskSaid, namesOf, masksBelow, masksOf, maskLong, textChecked, refusal, readOf, spelling, firstStart, spellingAt, nameCount}
 use Rattle.layout_text.specs.Firsts.{firstsOf, Firsts}
-use Rattle.layout_text.specs.Walk.{bareSaid, fineIn, Lasts}
+use Rattle.layout_text.specs.Walk.{bareSaid, fineIn, Lasts, answerOf}
 use Rattle.layout_text.proofs.Words.{words-long}
 use Rattle.layout_text.proofs.Answers.{Passed, passed, number-read, refusal-place, refusal-other, lasts}
 
@@ -106,7 +106,7 @@ module _ {text starts : List ℕ} (starts₀ : List ℕ) {count : ℕ} (e : coun
 
 -- ---- the first spelling, where it starts, and how many names there are
 
-module _ (text : List ℕ) (r : LayoutRead) (e : r ≡ readOf text 18446744073709551615 18446744073709551615) where
+module _ (text : List ℕ) (r : LayoutReading) (e : r ≡ answerOf (readOf text 18446744073709551615 18446744073709551615)) where
   asked : r .number ≡ textChecked text
   asked = number-read text 18446744073709551615 18446744073709551615 r e ∙ room-enough text
 

@@ -9,7 +9,6 @@ use Rattle.layout.specs.declared.Entry.{Entry}
 use Rattle.layout.specs.Layout.{absent, allBelow, wordsOk, entriesOk, spansOk}
 use Rattle.lines.specs.Lines.{numberOf}
 use Rattle.lines.specs.Names.{distinct, numberIn, namesAt}
-use Rattle.layout_text.specs.declared.LayoutRead.{LayoutRead}
 use Rattle.layout_text.specs.Form.{linesOf, nameWord, offsetWord, widthWord, occursWord, dependingWord, spanWord, pWord}
 use Rattle.layout_text.specs.Form.{qWord, rWord, maskWord, pageWord, isNone, worth, countOf, lineIn, valueStart, kindSaid, lawful}
 
@@ -132,35 +131,74 @@ pageOf l = numberSaid pageWord (getD l 0 [])
 abbrev pub maskLong : List (List ℕ) → ℕ → Bool
 maskLong l k = not (eqb (kindSaid l k) 8) || eqb (length (maskSaid l k)) (widthSaid l k)
 
--- "Layout text lawful? Else 17." Then 1, 2 and 3 of the words that it says; 0 if it passes.
+-- the number of the first question that fails, 0 if none does: "Layout text lawful? Else 17.", then 1, 2 and 3
+abbrev pub judged : Bool → Bool → Bool → Bool → ℕ
+judged lawfulText lawfulWords inRange nests = cond lawfulText (cond lawfulWords (cond inRange (cond nests 0 3) 2) 1) 17
+
+-- "Place for words and masks of a layout text .. ? Else 16": asked last
+abbrev pub placed : ℕ → Bool → ℕ
+placed number room = cond (eqb number 0) (cond room 0 16) number
+
+-- 17, and 1, 2 and 3 of the words that a text says
 unfoldable pub textChecked : List ℕ → ℕ
 textChecked text =
     let l = linesOf text in
-    cond (lawful text)
-    (cond (wordsOk (wordsOf l) (pageOf l))
-    (cond (entriesOk (wordsOf l) (length (masksOf l)) && allBelow (maskLong l) (countOf l))
-    (cond (spansOk (wordsOf l)) 0 3) 2) 1) 17
+    judged (lawful text) (wordsOk (wordsOf l) (pageOf l))
+    (entriesOk (wordsOf l) (length (masksOf l)) && allBelow (maskLong l) (countOf l))
+    (spansOk (wordsOf l))
 
--- "Place for words and masks of a layout text .. ? Else 16": asked last, of buffers of these sizes
+-- all of them, of a text and buffers of so many words and mask bytes
 unfoldable pub refusal : List ℕ → ℕ → ℕ → ℕ
 refusal text words masks =
     let l = linesOf text in
-    cond (eqb (textChecked text) 0)
-    (cond (leb (length (wordsOf l)) words && leb (length (masksOf l)) masks) 0 16)
-    (textChecked text)
+    placed (textChecked text) (leb (length (wordsOf l)) words && leb (length (masksOf l)) masks)
 
--- ---- the answers. "A call that refuses returns its number and length 0; all output buffers hold zeros. After success unused output is zero."
+-- ---- the whole call
 
-unfoldable pub readOf : List ℕ → ℕ → ℕ → LayoutRead
+-- the number that refuses it; or the page, the words and the mask bytes
+pub data Read : Type 0 where
+  refused : ℕ → Read
+  read : ℕ → List ℕ → List ℕ → Read
+
+-- the text; the words and the bytes that the buffers hold
+unfoldable pub readOf : List ℕ → ℕ → ℕ → Read
 readOf text words masks =
     let l = linesOf text in
-    cond (eqb (refusal text words masks) 0)
-    (record { number = 0; page = pageOf l; words = length (wordsOf l); masks = length (masksOf l) })
-    (record { number = refusal text words masks; page = 0; words = 0; masks = 0 })
+    cond (eqb (refusal text words masks) 0) (read (pageOf l) (wordsOf l) (masksOf l)) (refused (refusal text words masks))
 
--- a buffer of so many cells: what is accepted, then zeros
-abbrev pub buffer : ℕ → List ℕ → ℕ → List ℕ
-buffer number used size = cond (eqb number 0) (used ++ replicate (size - length used) 0) (replicate size 0)
+-- the outcome by the lent buffers themselves
+abbrev pub readInto : List ℕ → List ℕ → List ℕ → Read
+readInto text words masks = readOf text (length words) (length masks)
+
+abbrev pub numberRead : Read → ℕ
+numberRead (refused n) = n
+numberRead (read page ws ms) = 0
+
+abbrev pub pageRead : Read → ℕ
+pageRead (refused n) = 0
+pageRead (read page ws ms) = page
+
+abbrev pub wordsRead : Read → List ℕ
+wordsRead (refused n) = []
+wordsRead (read page ws ms) = ws
+
+abbrev pub masksRead : Read → List ℕ
+masksRead (refused n) = []
+masksRead (read page ws ms) = ms
+
+-- a buffer of so many cells: what is given, then zeros
+abbrev pub filled : ℕ → List ℕ → List ℕ
+filled room given = given ++ replicate (room - length given) 0
+
+-- All that a call leaves: its number, the page, how many words and mask bytes there are, and the buffers as they were lent and as they are left.
+-- "A call that refuses returns its number and length 0; all output buffers hold zeros. After success unused output is zero."
+pub record LayoutRead (d : Read) (number page words bytes : ℕ) (layout layout′ masks masks′ : List ℕ) : Type 0 where
+  pub numbered : number ≡ numberRead d
+  pub paged : page ≡ pageRead d
+  pub layoutWords : words ≡ length (wordsRead d)
+  pub maskBytes : bytes ≡ length (masksRead d)
+  pub layoutLeft : layout′ ≡ filled (length layout) (wordsRead d)
+  pub masksLeft : masks′ ≡ filled (length masks) (masksRead d)
 
 -- the first spelling of the name with a number; nothing where the text is refused by 17, 1, 2 or 3, or where no name has the number
 unfoldable pub spelling : List ℕ → ℕ → List ℕ

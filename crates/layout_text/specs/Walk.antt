@@ -13,12 +13,13 @@ use Rattle.lines.specs.Lines.{Place, place, lineFrom, valueAt, numberOf, nameOk
 use Rattle.layout_text.specs.declared.Part.{Part}
 use Rattle.layout_text.specs.declared.Number.{Number}
 use Rattle.layout_text.specs.declared.Said.{Said}
-use Rattle.layout_text.specs.declared.LayoutRead.{LayoutRead}
+use Rattle.layout_text.specs.declared.LayoutReading.{LayoutReading}
 use Rattle.layout_text.specs.declared.Judged.{Judged}
 use Rattle.layout_text.specs.Form.{linesOf, ended, isNone, isNumber, says, lineIn, valueStart, countOf, kindSaid, entryLawful, lawful, pageWord}
 use Rattle.layout_text.specs.Form.{nameWord, dependingWord, offsetWord, occursWord, spanWord, pWord, qWord}
 use Rattle.layout_text.specs.Reading.{numberSaid, orAbsent, nameSaid, occursSaid, dependingSaid, widthSaid, rSaid, maskSaid}
-use Rattle.layout_text.specs.Reading.{entryBy, scaleOf, precisionOf, maskWordOf, masksOf, maskLong, pageOf}
+use Rattle.layout_text.specs.Reading.{entryBy, scaleOf, precisionOf, maskWordOf, masksOf, maskLong, pageOf, judged, placed}
+use Rattle.layout_text.specs.Reading.{Read, numberRead, pageRead, wordsRead, masksRead}
 
 -- position `at` is where the i-th line of a text starts, or its end behind the last
 pub record Here (text : List ℕ) (i at : ℕ) : Type 0 where
@@ -171,20 +172,21 @@ nestedIn spans groups levels lo hi = nested (spanIn spans) (groupIn groups) leve
 
 unfoldable pub numberGiven : Judged → Bool → ℕ → ℕ → ℕ
 numberGiven j nests words masks =
-    cond (j .lawful)
-    (cond (leb (j .count) 512 && leb (j .page) 1)
-    (cond (j .fine)
-    (cond nests
-    (cond (leb (j .count * 12) words && leb (j .masks) masks) 0 16) 3) 2) 1) 17
+    placed (judged (j .lawful) (leb (j .count) 512 && leb (j .page) 1) (j .fine) nests)
+    (leb (j .count * 12) words && leb (j .masks) masks)
 
-abbrev pub refusedBy : ℕ → LayoutRead
+abbrev pub refusedBy : ℕ → LayoutReading
 refusedBy n = record { number = n; page = 0; words = 0; masks = 0 }
 
-unfoldable pub answerGiven : Judged → Bool → ℕ → ℕ → LayoutRead
+unfoldable pub answerGiven : Judged → Bool → ℕ → ℕ → LayoutReading
 answerGiven j nests words masks =
     cond (eqb (numberGiven j nests words masks) 0)
     (record { number = 0; page = j .page; words = j .count * 12; masks = j .masks })
     (refusedBy (numberGiven j nests words masks))
+
+-- the outcome of the call as the code hands it on
+abbrev pub answerOf : Read → LayoutReading
+answerOf d = record { number = numberRead d; page = pageRead d; words = length (wordsRead d); masks = length (masksRead d) }
 
 -- ---- a text whose words and masks are stored
 

@@ -23,10 +23,10 @@ ghost use Rattle.lines.specs.Lines.{lineFrom, startIn, foundAs, parsedAs};
 ghost use Rattle.lines.specs.Names.{indexIn, see, distinct, namesAt};
 ghost use Rattle.layout_text.specs.Form.{linesOf, countOf, lawful};
 ghost use Rattle.layout_text.specs.Reading.{namesOf, masksOf, scaleOf, precisionOf, maskWordOf, twelve, wordsOf};
-ghost use Rattle.layout_text.specs.Reading.{refusal, readOf, buffer, spelling, firstStart, spellingAt, nameCount, Spells};
+ghost use Rattle.layout_text.specs.Reading.{readOf, readInto, LayoutRead, spelling, firstStart, spellingAt, nameCount, Spells};
 ghost use Rattle.layout_text.specs.Firsts.{seeBoth, firstsOf, Firsts};
 ghost use Rattle.layout_text.specs.Walk.{partOf, lineAt, Within, numberWith, numberIn, optionIn, nameIn, dependingIn, maskIn, PageTold, Tells};
-ghost use Rattle.layout_text.specs.Walk.{entryWith, fineAlone, notLawful, Finds, spanFits, nestedIn, refusedBy, answerGiven, Lasts};
+ghost use Rattle.layout_text.specs.Walk.{entryWith, fineAlone, notLawful, Finds, spanFits, nestedIn, refusedBy, answerGiven, answerOf, Lasts};
 
 // ---- one line. A part or a number whose `next` is 0 stands for an unlawful line.
 
@@ -420,17 +420,17 @@ fn nested(spans: &[u32], groups: &[u8], lo: usize, hi: usize, levels: usize) -> 
 }
 
 // What read_layout answers: 0 or the number of the refusal, the page, and how many words and mask bytes were stored.
-pub struct LayoutRead {
+pub struct LayoutReading {
     pub number: u32,
     pub page: u32,
     pub words: usize,
     pub masks: usize,
 }
 
-fn refused(number: u32) -> LayoutRead
+fn refused(number: u32) -> LayoutReading
     ensures { λ r. ⌜ r ≡ refusedBy number ⌝ }
 {
-    LayoutRead {
+    LayoutReading {
         number: number,
         page: 0,
         words: 0,
@@ -439,7 +439,7 @@ fn refused(number: u32) -> LayoutRead
 }
 
 // Questions 1, 2 and 3 of a text that was judged, and place.
-fn answer(j: Judged, nests: bool, words: usize, masks: usize) -> LayoutRead
+fn answer(j: Judged, nests: bool, words: usize, masks: usize) -> LayoutReading
     ensures { λ r. ⌜ r ≡ answerGiven j nests words masks ⌝ }
 {
     if !j.lawful {
@@ -463,7 +463,7 @@ fn answer(j: Judged, nests: bool, words: usize, masks: usize) -> LayoutRead
     if masks < j.masks {
         return refused(16);
     }
-    LayoutRead {
+    LayoutReading {
         number: 0,
         page: j.page,
         words: j.count * 12,
@@ -478,10 +478,10 @@ fn at_most(n: usize, most: usize) -> usize
 }
 
 // All questions of a text, with place for 512 spans and flags of groups.
-fn ask(text: &[u8], words: usize, masks: usize, spans: &mut [u32], groups: &mut [u8]) -> LayoutRead
+fn ask(text: &[u8], words: usize, masks: usize, spans: &mut [u32], groups: &mut [u8]) -> LayoutReading
     requires { ⌜ length (now spans) ≡ 512 ⌝ }
     requires { ⌜ length (now groups) ≡ 512 ⌝ }
-    ensures { λ r. ⌜ r ≡ readOf (now (text .entry)) words masks ⌝ }
+    ensures { λ r. ⌜ r ≡ answerOf (readOf (now (text .entry)) words masks) ⌝ }
     ensures { λ r. ⌜ (r .number ≡ 0 → length (now (text .entry)) < 4294967296) ⌝ }
 {
     let j = judge(text, spans, groups);
@@ -489,8 +489,8 @@ fn ask(text: &[u8], words: usize, masks: usize, spans: &mut [u32], groups: &mut 
     answer(j, nests, words, masks)
 }
 
-fn questions(text: &[u8], words: usize, masks: usize) -> LayoutRead
-    ensures { λ r. ⌜ r ≡ readOf (now (text .entry)) words masks ⌝ }
+fn questions(text: &[u8], words: usize, masks: usize) -> LayoutReading
+    ensures { λ r. ⌜ r ≡ answerOf (readOf (now (text .entry)) words masks) ⌝ }
     ensures { λ r. ⌜ (r .number ≡ 0 → length (now (text .entry)) < 4294967296) ⌝ }
 {
     let mut spans = [0u32; 512];
@@ -568,7 +568,8 @@ fn see_entry(
     requires { ⌜ name < 4294967296 ⌝ }
     requires { ⌜ depending < 4294967296 ⌝ }
     ensures { λ r. ⌜ r .name ≡ indexIn (lineFrom (now (text .entry)) name) (namesAt (now (text .entry)) (now (starts .entry)) count) ⌝ }
-    ensures { λ r. ⌜ r .depending ≡ cond (eqb depending 0) absent (indexIn (lineFrom (now (text .entry)) depending) (see (namesAt (now (text .entry)) (now (starts .entry)) count) (lineFrom (now (text .entry)) name))) ⌝ }
+    ensures { λ r. ⌜ r .depending ≡ cond (eqb depending 0) absent
+        (indexIn (lineFrom (now (text .entry)) depending) (see (namesAt (now (text .entry)) (now (starts .entry)) count) (lineFrom (now (text .entry)) name))) ⌝ }
     ensures { λ r. ⌜ take (r .count) (now (starts .exit)) ≡ seeBoth (now (text .entry)) (take count (now (starts .entry))) name depending ⌝ }
     ensures { λ r. ⌜ drop (r .count) (now (starts .exit)) ≡ drop (r .count) (now (starts .entry)) ⌝ }
     ensures { λ r. ⌜ (count ≤ r .count) × (r .count ≤ count + 2) ⌝ }
@@ -641,10 +642,10 @@ fn zero_words(s: &mut [u32])
 }
 
 // The words and masks that a layout's text says. Refusals, in order: 17, 1, 2, 3, 16.
-pub fn read_layout(text: &[u8], words: &mut [u32], masks: &mut [u8]) -> LayoutRead
-    ensures { λ r. ⌜ r ≡ readOf (now (text .entry)) (length (now (words .entry))) (length (now (masks .entry))) ⌝ }
-    ensures { λ _. ⌜ now (words .exit) ≡ buffer (refusal (now (text .entry)) (length (now (words .entry))) (length (now (masks .entry)))) (wordsOf (linesOf (now (text .entry)))) (length (now (words .entry))) ⌝ }
-    ensures { λ _. ⌜ now (masks .exit) ≡ buffer (refusal (now (text .entry)) (length (now (words .entry))) (length (now (masks .entry)))) (masksOf (linesOf (now (text .entry)))) (length (now (masks .entry))) ⌝ }
+pub fn read_layout(text: &[u8], words: &mut [u32], masks: &mut [u8]) -> LayoutReading
+    ensures { λ r. ⌜
+        LayoutRead (readInto (now (text .entry)) (now (words .entry)) (now (masks .entry)))
+        (r .number) (r .page) (r .words) (r .masks) (now (words .entry)) (now (words .exit)) (now (masks .entry)) (now (masks .exit)) ⌝ }
 {
     zero_words(words);
     lists::fill(masks, 0);

@@ -40,15 +40,15 @@ uint32_t ff_encode_record(const uint32_t *layout, size_t layout_len, const uint8
                           const uint64_t *items, size_t items_len, const uint8_t *text, size_t text_len,
                           uint8_t *record, size_t record_len, int64_t *counts, size_t counts_len, uint64_t *record_length);
 
-/* Puts the translated bytes of one unrepeated Text entry (twelve words) at the front of scratch, zeros behind them.
+/* Puts the translated bytes of one unrepeated Text entry (twelve words) at the front of scratch, zeros behind them, with how many scratch bytes there are.
  * Asks 1, 2, 4, 7, 16. */
 uint32_t ff_translate_text(const uint32_t *layout, size_t layout_len, uint32_t page, const uint8_t *record, size_t record_len,
-                           uint8_t *scratch, size_t scratch_len, uint64_t *length);
+                           uint8_t *scratch, size_t scratch_len, uint64_t *scratch_used);
 
 /* Where the text of one unrepeated Text entry stands: its start and length in the record on page 0, and on page 1 in scratch as ff_translate_text
  * filled it. Asks 1, 2, 4, 7, 16 (on page 1). */
 uint32_t ff_text_field(const uint32_t *layout, size_t layout_len, uint32_t page, const uint8_t *record, size_t record_len,
-                       const uint8_t *scratch, size_t scratch_len, uint64_t *start, uint64_t *length);
+                       const uint8_t *scratch, size_t scratch_len, uint64_t *text_start, uint64_t *text_length);
 
 #ifdef __cplusplus
 }

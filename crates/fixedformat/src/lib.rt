@@ -1,12 +1,8 @@
 // The calls as C functions. A slice is a pointer and a length, in elements.
 ghost use mathlib.Core.Path.{_≡_};
-ghost use lib.ListN.{length};
 ghost use Rattle.layout.specs.Layout.{checkedOf};
-ghost use Rattle.layout_text.specs.declared.LayoutRead.{LayoutRead};
-ghost use Rattle.layout_text.specs.Form.{linesOf};
-ghost use Rattle.layout_text.specs.Reading.{readOf, refusal, buffer, wordsOf, masksOf};
-ghost use Rattle.text_field.specs.declared.Translated.{Translated};
-ghost use Rattle.text_field.specs.Single.{translatedOf, scratchOf, textAsks, fieldText, startOf};
+ghost use Rattle.layout_text.specs.Reading.{layoutInto, LayoutRead};
+ghost use Rattle.text_field.specs.Single.{FieldTranslated, TextPlaced};
 ghost use Rattle.walks.specs.Records.{readInto, RecordRead, writtenInto, RecordWritten};
 
 // Reads a layout's text form.
@@ -19,12 +15,9 @@ pub extern "C" fn ff_read_layout(
     words_used: &mut u64,
     masks_used: &mut u64,
 ) -> u32
-    ensures { λ r. ⌜ r ≡ readOf (now (text .entry)) (length (now (words .entry))) (length (now (masks .entry))) .number ⌝ }
-    ensures { λ _. ⌜ now (page .exit) ≡ readOf (now (text .entry)) (length (now (words .entry))) (length (now (masks .entry))) .page ⌝ }
-    ensures { λ _. ⌜ now («words_used» .exit) ≡ readOf (now (text .entry)) (length (now (words .entry))) (length (now (masks .entry))) .words ⌝ }
-    ensures { λ _. ⌜ now («masks_used» .exit) ≡ readOf (now (text .entry)) (length (now (words .entry))) (length (now (masks .entry))) .masks ⌝ }
-    ensures { λ _. ⌜ now (words .exit) ≡ buffer (refusal (now (text .entry)) (length (now (words .entry))) (length (now (masks .entry)))) (wordsOf (linesOf (now (text .entry)))) (length (now (words .entry))) ⌝ }
-    ensures { λ _. ⌜ now (masks .exit) ≡ buffer (refusal (now (text .entry)) (length (now (words .entry))) (length (now (masks .entry)))) (masksOf (linesOf (now (text .entry)))) (length (now (masks .entry))) ⌝ }
+    ensures { λ r. ⌜
+        LayoutRead (layoutInto (now (text .entry)) (now (words .entry)) (now (masks .entry)))
+        r (now (page .exit)) (now («words_used» .exit)) (now («masks_used» .exit)) (now (words .entry)) (now (words .exit)) (now (masks .entry)) (now (masks .exit)) ⌝ }
 {
     let r = layout_text::read_layout(text, words, masks);
     *page = r.page;
@@ -92,35 +85,29 @@ pub extern "C" fn ff_translate_text(
     page: u32,
     record: &[u8],
     scratch: &mut [u8],
-    used: &mut u64,
+    scratch_used: &mut u64,
 ) -> u32
-    ensures { λ r. ⌜ r ≡ translatedOf (now (layout .entry)) page (now («record» .entry)) (length (now (scratch .entry))) .number ⌝ }
-    ensures { λ _. ⌜ now (used .exit) ≡ translatedOf (now (layout .entry)) page (now («record» .entry)) (length (now (scratch .entry))) .length ⌝ }
-    ensures { λ _. ⌜ now (scratch .exit) ≡ scratchOf (now (layout .entry)) page (now («record» .entry)) (length (now (scratch .entry))) ⌝ }
+    ensures { λ r. ⌜ FieldTranslated (now (layout .entry)) page (now («record» .entry)) r (now («scratch_used» .exit)) (now (scratch .entry)) (now (scratch .exit)) ⌝ }
 {
     let r = text_field::translate_text(layout, page, record, scratch);
-    *used = r.length as u64;
+    *scratch_used = r.length as u64;
     r.number
 }
 
 // Where the text of one Text entry stands, in the record on page 0 and in scratch on page 1.
 #[no_mangle]
-pub extern "C" fn ff_text_field<'a>(
+pub extern "C" fn ff_text_field(
     layout: &[u32],
     page: u32,
-    record: &'a [u8],
-    scratch: &'a [u8],
-    start: &mut u64,
-    size: &mut u64,
+    record: &[u8],
+    scratch: &[u8],
+    text_start: &mut u64,
+    text_length: &mut u64,
 ) -> u32
-    ensures { λ r. ⌜ r ≡ textAsks (now (layout .entry)) page (now («record» .entry)) (now (scratch .entry)) ⌝ }
-    ensures { λ _. ⌜ now (start .exit) ≡ startOf (now (layout .entry)) page (now («record» .entry)) (now (scratch .entry)) ⌝ }
-    ensures { λ _. ⌜ now (size .exit) ≡ length (fieldText (now (layout .entry)) page (now («record» .entry)) (now (scratch .entry))) ⌝ }
+    ensures { λ r. ⌜ TextPlaced (now (layout .entry)) page (now («record» .entry)) (now (scratch .entry)) r (now («text_start» .exit)) (now («text_length» .exit)) ⌝ }
 {
-    let mut number: u32 = 0;
-    let at = text_field::text_start(layout, page, record, scratch);
-    let text = text_field::text_field(layout, page, record, scratch, &mut number);
-    *start = at as u64;
-    *size = text.len() as u64;
-    number
+    let r = text_field::text_place(layout, page, record, scratch);
+    *text_start = r.start as u64;
+    *text_length = r.length as u64;
+    r.number
 }

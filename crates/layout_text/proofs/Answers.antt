@@ -18,7 +18,7 @@ use Rattle.layout_text.specs.declared.Judged.{Judged}
 use Rattle.layout_text.specs.declared.LayoutReading.{LayoutReading}
 use Rattle.layout_text.specs.Form.{linesOf, lineIn, countOf, kindSaid, entryLawful, lawful, spanWord}
 use Rattle.layout_text.specs.Reading.{numberSaid, masksOf, maskLong, entrySaid, wordsOf, pageOf, judged, placed, textChecked, refusal}
-use Rattle.layout_text.specs.Reading.{Read, refused, read, readOf, readInto, numberRead, pageRead, wordsRead, masksRead, filled, LayoutRead}
+use Rattle.layout_text.specs.Reading.{Read, refused, read, readOf, layoutInto, numberRead, pageRead, wordsRead, masksRead, filled, LayoutRead}
 use Rattle.layout_text.specs.Walk.{spanIn, groupIn, nestedIn, fineIn, Finds, numberGiven, refusedBy, answerGiven, answerOf, Lasts}
 use Rattle.layout_text.proofs.Words.{words-long, words-count, entry-words}
 use Rattle.layout_text.proofs.Ranges.{ranges-are}
@@ -201,7 +201,7 @@ filled-front size used xs before b e = e ∙ ap (λ (x : List ℕ). used ++ drop
 
 module _ (text w₀ m₀ w₁ m₁ : List ℕ) (a : w₁ ≡ replicate (length w₀) 0) (b : m₁ ≡ replicate (length m₀) 0) (r : LayoutReading) (e : r ≡ answerOf (readOf text (length w₁) (length m₁))) where
   abbrev Done : List ℕ → List ℕ → Type 0
-  Done w m = LayoutRead (readInto text w₀ m₀) (r .number) (r .page) (r .words) (r .masks) w₀ w m₀ m
+  Done w m = LayoutRead (layoutInto text w₀ m₀) (r .number) (r .page) (r .words) (r .masks) w₀ w m₀ m
 
   w-same : length w₁ ≡ length w₀
   w-same = ap length a ∙ length-replicate (length w₀) 0
@@ -209,13 +209,13 @@ module _ (text w₀ m₀ w₁ m₁ : List ℕ) (a : w₁ ≡ replicate (length w
   m-same : length m₁ ≡ length m₀
   m-same = ap length b ∙ length-replicate (length m₀) 0
 
-  answered : r ≡ answerOf (readInto text w₀ m₀)
+  answered : r ≡ answerOf (layoutInto text w₀ m₀)
   answered = e ∙ ap (λ (n : ℕ). answerOf (readOf text n (length m₁))) w-same ∙ ap (λ (n : ℕ). answerOf (readOf text (length w₀) n)) m-same
 
   number-of : r .number ≡ refusal text (length w₀) (length m₀)
   number-of = number-read text (length w₀) (length m₀) r answered
 
-  done : (w m : List ℕ) → w ≡ filled (length w₀) (wordsRead (readInto text w₀ m₀)) → m ≡ filled (length m₀) (masksRead (readInto text w₀ m₀)) → Done w m
+  done : (w m : List ℕ) → w ≡ filled (length w₀) (wordsRead (layoutInto text w₀ m₀)) → m ≡ filled (length m₀) (masksRead (layoutInto text w₀ m₀)) → Done w m
   done w m x y = record {
     numbered = ap (λ (k : LayoutReading). k .number) answered;
     paged = ap (λ (k : LayoutReading). k .page) answered;
@@ -274,21 +274,21 @@ in-front room n xs given k e =
     let l : length xs ≡ length given + length {A = ℕ} (replicate (room - length given) 0) = ap length e ∙ length-append given (replicate (room - length given) 0) in
     (ap (λ (m : ℕ). take m xs) k ∙ ap (take (length given)) e ∙ take-append-seam given (replicate (room - length given) 0), omega arith)
 
-module _ (text layout layout′ masks masks′ : List ℕ) (number page words bytes : ℕ) (d : LayoutRead (readInto text layout masks) number page words bytes layout layout′ masks masks′) (z : number ≡ 0) where
+module _ (text layout layout′ masks masks′ : List ℕ) (number page words bytes : ℕ) (d : LayoutRead (layoutInto text layout masks) number page words bytes layout layout′ masks masks′) (z : number ≡ 0) where
   accepted : refusal text (length layout) (length masks) ≡ 0
   accepted = sym (number-is-refusal text (length layout) (length masks)) ∙ sym (d .numbered) ∙ z
 
-  taken : readInto text layout masks ≡ read (pageOf (linesOf text)) (wordsOf (linesOf text)) (masksOf (linesOf text))
+  taken : layoutInto text layout masks ≡ read (pageOf (linesOf text)) (wordsOf (linesOf text)) (masksOf (linesOf text))
   taken = read-taken text (length layout) (length masks) accepted
 
   pub page-held : page ≡ pageOf (linesOf text)
   page-held = d .paged ∙ ap pageRead taken
 
-  words-there : (take words layout′ ≡ wordsRead (readInto text layout masks)) × (words ≤ length layout′)
-  words-there = in-front (length layout) words layout′ (wordsRead (readInto text layout masks)) (d .layoutWords) (d .layoutLeft)
+  words-there : (take words layout′ ≡ wordsRead (layoutInto text layout masks)) × (words ≤ length layout′)
+  words-there = in-front (length layout) words layout′ (wordsRead (layoutInto text layout masks)) (d .layoutWords) (d .layoutLeft)
 
-  masks-there : (take bytes masks′ ≡ masksRead (readInto text layout masks)) × (bytes ≤ length masks′)
-  masks-there = in-front (length masks) bytes masks′ (masksRead (readInto text layout masks)) (d .maskBytes) (d .masksLeft)
+  masks-there : (take bytes masks′ ≡ masksRead (layoutInto text layout masks)) × (bytes ≤ length masks′)
+  masks-there = in-front (length masks) bytes masks′ (masksRead (layoutInto text layout masks)) (d .maskBytes) (d .masksLeft)
 
   pub words-held : take words layout′ ≡ wordsOf (linesOf text)
   words-held = words-there .0 ∙ ap wordsRead taken

@@ -167,8 +167,8 @@ readOf text words masks =
     cond (eqb (refusal text words masks) 0) (read (pageOf l) (wordsOf l) (masksOf l)) (refused (refusal text words masks))
 
 -- the outcome by the lent buffers themselves
-abbrev pub readInto : List ℕ → List ℕ → List ℕ → Read
-readInto text words masks = readOf text (length words) (length masks)
+abbrev pub layoutInto : List ℕ → List ℕ → List ℕ → Read
+layoutInto text words masks = readOf text (length words) (length masks)
 
 abbrev pub numberRead : Read → ℕ
 numberRead (refused n) = n

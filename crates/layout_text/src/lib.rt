@@ -23,7 +23,7 @@ ghost use Rattle.lines.specs.Lines.{lineFrom, startIn, foundAs, parsedAs};
 ghost use Rattle.lines.specs.Names.{indexIn, see, distinct, namesAt};
 ghost use Rattle.layout_text.specs.Form.{linesOf, countOf, lawful};
 ghost use Rattle.layout_text.specs.Reading.{namesOf, masksOf, scaleOf, precisionOf, maskWordOf, twelve, wordsOf};
-ghost use Rattle.layout_text.specs.Reading.{readOf, readInto, LayoutRead, spelling, firstStart, spellingAt, nameCount, Spells};
+ghost use Rattle.layout_text.specs.Reading.{readOf, layoutInto, LayoutRead, spelling, firstStart, spellingAt, nameCount, Spells};
 ghost use Rattle.layout_text.specs.Firsts.{seeBoth, firstsOf, Firsts};
 ghost use Rattle.layout_text.specs.Walk.{partOf, lineAt, Within, numberWith, numberIn, optionIn, nameIn, dependingIn, maskIn, PageTold, Tells};
 ghost use Rattle.layout_text.specs.Walk.{entryWith, fineAlone, notLawful, Finds, spanFits, nestedIn, refusedBy, answerGiven, answerOf, Lasts};
@@ -644,7 +644,7 @@ fn zero_words(s: &mut [u32])
 // The words and masks that a layout's text says. Refusals, in order: 17, 1, 2, 3, 16.
 pub fn read_layout(text: &[u8], words: &mut [u32], masks: &mut [u8]) -> LayoutReading
     ensures { λ r. ⌜
-        LayoutRead (readInto (now (text .entry)) (now (words .entry)) (now (masks .entry)))
+        LayoutRead (layoutInto (now (text .entry)) (now (words .entry)) (now (masks .entry)))
         (r .number) (r .page) (r .words) (r .masks) (now (words .entry)) (now (words .exit)) (now (masks .entry)) (now (masks .exit)) ⌝ }
 {
     zero_words(words);

@@ -17,7 +17,8 @@ use Rattle.lists.proofs.Part.{place-add}
 use Rattle.text.specs.Text.{isByte, cut, cutFrom, readText}
 use Rattle.layout.specs.declared.Entry.{Entry}
 use Rattle.decode_scalar.specs.Decode.{flag}
-use Rattle.text_field.specs.Single.{entryOf, askedOf, fieldText, startOf, placeOf}
+use Rattle.text_field.specs.Single.{entryOf, askedOf, fieldText, startOf, placeOf, TextPlaced}
+use Rattle.text_field.specs.declared.TextPlace.{TextPlace}
 
 -- a place k bytes further
 abbrev onward : ℕ → ℕ × ℕ → ℕ × ℕ
@@ -94,6 +95,20 @@ within at w a s u h q k =
     let l : length u ≤ w = le-trans (le-of-eq (ap length q ∙ length-take w (drop at s))) (min-le-left w (length (drop at s))) in
     omega (arith, l, k, h)
 
-pub start-refused : (l : List ℕ) (page : ℕ) (s scratch : List ℕ) (n : ℕ) → n ≡ askedOf false l page (length s) (length scratch) → (n ≡ 0 → ⊥) → 0 ≡ startOf l page s scratch
-unfolding startOf
-start-refused l page s scratch n j h = rw (← j, ne-eqb n 0 h) refl
+-- ---- where the text stands, by the ways of the code
+
+pub place-refused : (l : List ℕ) (page : ℕ) (s scratch : List ℕ) (n : ℕ) → n ≡ askedOf false l page (length s) (length scratch) → (n ≡ 0 → ⊥) → TextPlaced l page s scratch n 0 0
+unfolding startOf fieldText
+place-refused l page s scratch n j h = record { numbered = j; starts = rw (← j, ne-eqb n 0 h) refl; textBytes = rw (← j, ne-eqb n 0 h) refl }
+
+module _ (l : List ℕ) (page : ℕ) (x y : RefT (List ℕ)) (e : Entry) (i : e ≡ entryOf l) (n : ℕ) (j : n ≡ askedOf false l page (length (now x)) (length (now y))) (h : n ≡ 0) (t : TextPlace) (z : t .number ≡ 0) where
+  none-fails : 0 ≡ askedOf false l page (length (now x)) (length (now y))
+  none-fails = sym h ∙ j
+
+  pub stands-scratch : page ≡ 1 → t .start ≡ 0 + cutFrom (flag (e .p)) (flag (e .q)) (e .r) (take (e .width) (now y)) → t .length ≡ length (cut (flag (e .p)) (flag (e .q)) (e .r) (take (e .width) (now y)))
+      → TextPlaced l page (now x) (now y) (t .number) (t .start) (t .length)
+  stands-scratch p a b = record { numbered = z ∙ none-fails; starts = a ∙ start-scratch l page x y e i 0 none-fails p; textBytes = b ∙ ap length (text-scratch l page x y e i 0 none-fails p) }
+
+  pub stands-record : (page ≡ 1 → ⊥) → t .start ≡ e .offset + cutFrom (flag (e .p)) (flag (e .q)) (e .r) (take (e .width) (drop (e .offset) (now x)))
+      → t .length ≡ length (cut (flag (e .p)) (flag (e .q)) (e .r) (take (e .width) (drop (e .offset) (now x)))) → TextPlaced l page (now x) (now y) (t .number) (t .start) (t .length)
+  stands-record p a b = record { numbered = z ∙ none-fails; starts = a ∙ start-record l page x y e i 0 none-fails p; textBytes = b ∙ ap length (text-record l page x y e i 0 none-fails p) }

@@ -11,17 +11,16 @@ use Rattle.lists.proofs.Lists.{drop-replicate}
 use Rattle.ebcdic.specs.Ebcdic.{fromPage, copied}
 use Rattle.text.proofs.Write.{copied-all}
 use Rattle.layout.specs.declared.Entry.{Entry}
-use Rattle.text_field.specs.declared.Translated.{Translated}
-use Rattle.text_field.specs.Single.{entryOf, fieldOf, translateAsks, translatedOf, scratchOf}
+use Rattle.text_field.specs.Single.{entryOf, fieldOf, translateAsks, translatedBytes, scratchOf, FieldTranslated}
 use Rattle.text_field.proofs.Questions.{field-inside, room-known}
 
 module _ (l s : List ℕ) (page room n : ℕ) (j : n ≡ translateAsks l page s room) where
   module _ (h : n ≡ 0 → ⊥) where
-    pub refused-answer : _≡_ {A = Translated} (record { number = n; length = 0 }) (translatedOf l page s room)
-    unfolding translatedOf
-    refused-answer = rw (← j, ne-eqb n 0 h) refl
+    refused-length : 0 ≡ translatedBytes l page s room
+    unfolding translatedBytes
+    refused-length = rw (← j, ne-eqb n 0 h) refl
 
-    pub refused-scratch : replicate room 0 ≡ scratchOf l page s room
+    refused-scratch : replicate room 0 ≡ scratchOf l page s room
     unfolding scratchOf
     refused-scratch = rw (← j, ne-eqb n 0 h) refl
 
@@ -38,12 +37,12 @@ module _ (l s : List ℕ) (page room n : ℕ) (j : n ≡ translateAsks l page s 
     pub field-length : length (fieldOf e s) ≡ e .width
     field-length = length-take-le (e .width) (drop (e .offset) s) (rw (length-drop (e .offset) s) (omega (arith, translated-inside)))
 
-    pub translated-answer : _≡_ {A = Translated} (record { number = 0; length = e .width }) (translatedOf l page s room)
-    unfolding translatedOf
-    translated-answer = rw (asked-zero, q) refl
+    translated-length : e .width ≡ translatedBytes l page s room
+    unfolding translatedBytes
+    translated-length = rw (asked-zero, q) refl
 
     -- the field's bytes copied over zeros
-    pub translated-scratch : (part : List ℕ) → part ≡ fieldOf e s → (out : List ℕ) → out ≡ replicate room 0 → copied (fromPage page) part out ≡ scratchOf l page s room
+    translated-scratch : (part : List ℕ) → part ≡ fieldOf e s → (out : List ℕ) → out ≡ replicate room 0 → copied (fromPage page) part out ≡ scratchOf l page s room
     unfolding scratchOf
     translated-scratch part i out k =
         let w : length part ≡ e .width = ap length i ∙ field-length in
@@ -51,3 +50,20 @@ module _ (l s : List ℕ) (page room n : ℕ) (j : n ≡ translateAsks l page s 
         copied-all (fromPage page) part out (omega (arith, w, r, translated-room))
         ∙ ap (λ (m : ℕ). map (fromPage page) part ++ drop m out) w
         ∙ rw (k, i, drop-replicate (e .width) room 0, asked-zero, q) refl
+
+-- ---- the whole call: the scratch as lent, then zeroed
+
+module _ (l s scratch : List ℕ) (page n : ℕ) (j : n ≡ translateAsks l page s (length scratch)) (zeros : List ℕ) (z : zeros ≡ replicate (length scratch) 0) where
+  pub refused-all : (n ≡ 0 → ⊥) → FieldTranslated l page s n 0 scratch zeros
+  refused-all h = record {
+    numbered = j;
+    fieldBytes = refused-length l s page (length scratch) n j h;
+    scratchLeft = z ∙ refused-scratch l s page (length scratch) n j h;
+  }
+
+  pub translated-all : n ≡ 0 → (e : Entry) → e ≡ entryOf l → (part : List ℕ) → part ≡ fieldOf e s → (out : List ℕ) → out ≡ copied (fromPage page) part zeros → FieldTranslated l page s 0 (e .width) scratch out
+  translated-all h e q part i out k = record {
+    numbered = sym h ∙ j;
+    fieldBytes = translated-length l s page (length scratch) n j h e q;
+    scratchLeft = k ∙ translated-scratch l s page (length scratch) n j h e q part i zeros z;
+  }

@@ -8,7 +8,7 @@ use Rattle.lists.specs.Scan.{leftBy, rightBy, beforeBy}
 use Rattle.ebcdic.specs.Ebcdic.{fromPage, toAscii, asciiTable}
 use Rattle.text.specs.Text.{cut, cutFrom}
 use Rattle.layout.specs.Layout.{absent, entryAt, upTo, plainOk, editedOk, kindOk, optionOk, placeOk, entryOk}
-use Rattle.text_field.specs.Single.{textEntry, askedOf, translatedOf, scratchOf, fieldText, startOf, placeOf}
+use Rattle.text_field.specs.Single.{textEntry, askedOf, translatedBytes, scratchOf, fieldText, startOf, placeOf}
 
 -- an unrepeated entry: offset, width, kind, p, q, r; and an unrepeated Text
 abbrev words : ℕ → ℕ → ℕ → ℕ → ℕ → ℕ → List ℕ
@@ -81,9 +81,9 @@ translated : scratchOf (textAt 1 3 0 1) 1 leftPage 5 ≡ 79 ∷ 75 ∷ 32 ∷ 0 
 unfolding scratchOf fromPage toAscii asciiTable askedOf textEntry entryOk placeOk optionOk kindOk plainOk upTo entryAt
 translated = refl
 
-translated-answer : translatedOf (textAt 1 3 0 1) 1 leftPage 5 ≡ record { number = 0; length = 3 }
-unfolding translatedOf askedOf textEntry entryOk placeOk optionOk kindOk plainOk upTo entryAt
-translated-answer = refl
+translated-length : translatedBytes (textAt 1 3 0 1) 1 leftPage 5 ≡ 3
+unfolding translatedBytes askedOf textEntry entryOk placeOk optionOk kindOk plainOk upTo entryAt
+translated-length = refl
 
 -- page 0: the bytes as they are
 kept : scratchOf (textAt 1 3 0 1) 0 left 4 ≡ 65 ∷ 66 ∷ 32 ∷ 0 ∷ []
@@ -95,9 +95,9 @@ refused-scratch : scratchOf (textAt 1 3 0 1) 1 leftPage 2 ≡ 0 ∷ 0 ∷ []
 unfolding scratchOf fromPage toAscii asciiTable askedOf textEntry entryOk placeOk optionOk kindOk plainOk upTo entryAt
 refused-scratch = refl
 
-refused-answer : translatedOf (textAt 1 3 0 1) 1 leftPage 2 ≡ record { number = 16; length = 0 }
-unfolding translatedOf askedOf textEntry entryOk placeOk optionOk kindOk plainOk upTo entryAt
-refused-answer = refl
+refused-length : translatedBytes (textAt 1 3 0 1) 1 leftPage 2 ≡ 0
+unfolding translatedBytes askedOf textEntry entryOk placeOk optionOk kindOk plainOk upTo entryAt
+refused-length = refl
 
 page-text : fieldText (textAt 1 3 0 1) 1 leftPage (79 ∷ 75 ∷ 32 ∷ 0 ∷ 0 ∷ []) ≡ 79 ∷ 75 ∷ []
 unfolding fieldText cut leftBy rightBy beforeBy askedOf textEntry entryOk placeOk optionOk kindOk plainOk upTo entryAt

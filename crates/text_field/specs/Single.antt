@@ -13,7 +13,6 @@ use Rattle.text.specs.Text.{cut, cutFrom}
 use Rattle.layout.specs.declared.Entry.{Entry}
 use Rattle.layout.specs.Layout.{absent, entryAt, entryOk}
 use Rattle.decode_scalar.specs.Decode.{flag, Says, text, says}
-use Rattle.text_field.specs.declared.Translated.{Translated}
 
 -- ---- the questions
 
@@ -54,11 +53,9 @@ textAsks l page s scratch = askedOf false l page (length s) (length scratch)
 -- ---- "One call puts a translated field at the front of scratch, zeros behind it."
 -- "A call that refuses returns its number and length 0; all output buffers hold zeros."
 
-unfoldable pub translatedOf : List ℕ → ℕ → List ℕ → ℕ → Translated
-translatedOf l page s room = record {
-  number = translateAsks l page s room;
-  length = cond (eqb (translateAsks l page s room) 0) (entryOf l .width) 0;
-}
+-- how many bytes are translated
+unfoldable pub translatedBytes : List ℕ → ℕ → List ℕ → ℕ → ℕ
+translatedBytes l page s room = cond (eqb (translateAsks l page s room) 0) (entryOf l .width) 0
 
 -- a scratch of so many bytes after it
 unfoldable pub scratchOf : List ℕ → ℕ → List ℕ → ℕ → List ℕ
@@ -66,6 +63,12 @@ scratchOf l page s room =
     cond (eqb (translateAsks l page s room) 0)
     (map (fromPage page) (fieldOf (entryOf l) s) ++ replicate (room - entryOf l .width) 0)
     (replicate room 0)
+
+-- All that the call leaves: its number, how many bytes it translated, and the scratch as it was lent and as it is left.
+pub record FieldTranslated (l : List ℕ) (page : ℕ) (s : List ℕ) (number bytes : ℕ) (scratch scratch′ : List ℕ) : Type 0 where
+  pub numbered : number ≡ translateAsks l page s (length scratch)
+  pub fieldBytes : bytes ≡ translatedBytes l page s (length scratch)
+  pub scratchLeft : scratch′ ≡ scratchOf l page s (length scratch)
 
 -- ---- "the text handed out is a part of the record on page 0 and of the lent scratch on page 1, there cut from the scratch bytes as they are;
 -- a refusal hands out an empty part"
@@ -89,6 +92,12 @@ startOf l page s scratch =
 -- its place: in the scratch on page 1, in the record on page 0, and on a page that is refused
 unfoldable pub placeOf : List ℕ → ℕ → RefT (List ℕ) → RefT (List ℕ) → ℕ × ℕ
 placeOf l page s scratch = placeIn (cond (eqb page 1) scratch s) (startOf l page (now s) (now scratch))
+
+-- All that a call hands out of where the text stands: its number, the text's start and its length.
+pub record TextPlaced (l : List ℕ) (page : ℕ) (s scratch : List ℕ) (number start bytes : ℕ) : Type 0 where
+  pub numbered : number ≡ textAsks l page s scratch
+  pub starts : start ≡ startOf l page s scratch
+  pub textBytes : bytes ≡ length (fieldText l page s scratch)
 
 -- ---- the text is the one that the record's reader says: after the translating call, and on page 0 with any scratch
 

@@ -11,7 +11,7 @@ ghost use denote.Ref.{ptr};
 ghost use Rattle.lists.specs.Part.{placeIn};
 ghost use Rattle.text.specs.Text.{cut, cutFrom};
 ghost use Rattle.decode_scalar.specs.Decode.{flag};
-ghost use Rattle.text_field.specs.Single.{entryOf, textEntry, roomOf, askedOf, textAsks, translatedOf, scratchOf, fieldText, startOf, placeOf};
+ghost use Rattle.text_field.specs.Single.{entryOf, textEntry, roomOf, askedOf, textAsks, FieldTranslated, fieldText, placeOf, TextPlaced};
 
 // What translate_text answers: 0 or the number it refuses by, and how many bytes it translated.
 pub struct Translated {
@@ -87,8 +87,7 @@ fn field(e: Entry, at: usize, s: &[u8]) -> &[u8]
 
 // Puts the field's bytes, as read from the page, to the front of the scratch and zeros behind them; zeros alone where it refuses.
 pub fn translate_text(layout: &[u32], page: u32, record: &[u8], scratch: &mut [u8]) -> Translated
-    ensures { λ r. ⌜ r ≡ translatedOf (now (layout .entry)) page (now («record» .entry)) (length (now (scratch .entry))) ⌝ }
-    ensures { λ _. ⌜ now (scratch .exit) ≡ scratchOf (now (layout .entry)) page (now («record» .entry)) (length (now (scratch .entry))) ⌝ }
+    ensures { λ r. ⌜ FieldTranslated (now (layout .entry)) page (now («record» .entry)) (r .number) (r .length) (now (scratch .entry)) (now (scratch .exit)) ⌝ }
 {
     let number = asked(layout, page, record.len(), scratch.len(), true);
     lists::fill(scratch, 0);
@@ -161,17 +160,45 @@ fn start_in(e: Entry, at: usize, s: &[u8]) -> usize
     at + text::pad_start(part, pad)
 }
 
-// Where the text that text_field hands out starts in the record, on page 1 in the scratch; 0 where it refuses.
-pub fn text_start(layout: &[u32], page: u32, record: &[u8], scratch: &[u8]) -> usize
-    ensures { λ r. ⌜ r ≡ startOf (now (layout .entry)) page (now («record» .entry)) (now (scratch .entry)) ⌝ }
+// Where a field's text stands: 0 or the number it is refused by, its start and its length.
+pub struct TextPlace {
+    pub number: u32,
+    pub start: usize,
+    pub length: usize,
+}
+
+// The same for the field at a place of a slice.
+fn place_in(e: Entry, at: usize, s: &[u8]) -> TextPlace
+    requires { ⌜ (at + e .width ≤ length (now s)) × (e .r ≤ 255) ⌝ }
+    ensures { λ r. ⌜ r .number ≡ 0 ⌝ }
+    ensures { λ r. ⌜ r .start ≡ at + cutFrom (flag (e .p)) (flag (e .q)) (e .r) (take (e .width) (drop at (now (s .entry)))) ⌝ }
+    ensures { λ r. ⌜ r .length ≡ length (cut (flag (e .p)) (flag (e .q)) (e .r) (take (e .width) (drop at (now (s .entry))))) ⌝ }
 {
-    if asked(layout, page, record.len(), scratch.len(), false) != 0 {
-        return 0;
+    let start = start_in(e, at, s);
+    let text = text_in(e, 0, at, s);
+    TextPlace {
+        number: 0,
+        start,
+        length: text.len(),
+    }
+}
+
+// Where the text that text_field hands out stands in the record, on page 1 in the scratch; 0 and no bytes where it refuses.
+pub fn text_place(layout: &[u32], page: u32, record: &[u8], scratch: &[u8]) -> TextPlace
+    ensures { λ r. ⌜ TextPlaced (now (layout .entry)) page (now («record» .entry)) (now (scratch .entry)) (r .number) (r .start) (r .length) ⌝ }
+{
+    let number = asked(layout, page, record.len(), scratch.len(), false);
+    if number != 0 {
+        return TextPlace {
+            number,
+            start: 0,
+            length: 0,
+        };
     }
     let e = layout::load(layout, 0);
     if page == 1 {
-        return start_in(e, 0, scratch);
+        return place_in(e, 0, scratch);
     } else {
-        return start_in(e, e.offset as usize, record);
+        return place_in(e, e.offset as usize, record);
     }
 }

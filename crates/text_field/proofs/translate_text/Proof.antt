@@ -1,7 +1,8 @@
+-- `text_field::translate_text` meets its contract: a refusal leaves the zeros that `fill` put, and else the translated field is copied over their front.
 use mathlib.Core.Path.{_∙_}
 use Prim.Native.Nat.{_-_}
 use lib.ListN.{length, take}
-use Rattle.text_field.proofs.Scratch.{refused-answer, refused-scratch, translated-inside, translated-answer, translated-scratch}
+use Rattle.text_field.proofs.Scratch.{translated-inside, refused-all, translated-all}
 use borrow.Author.Needs.{needs}
 use Rattle.text_field.proofs.translate_text.Statement.{statement}
 use Rattle.text_field.proofs.translate_text.Tie as tie
@@ -17,10 +18,9 @@ same-length c = search needs
 
 returns : tie.Need-returns
 returns c =
-    let a = c .before .before .before .before .before .before .before .before .before .args in (
-      refused-answer (a .layout .now) (a .«record» .now) (a .page) (length (a .scratch .now)) (c .before .before .before .before .before .asked .result) (c .before .before .before .before .before .asked .ensures) (c .if1 .taken),
-      c .before .before .before .fill .ensures ∙ refused-scratch (a .layout .now) (a .«record» .now) (a .page) (length (a .scratch .now)) (c .before .before .before .before .before .asked .result) (c .before .before .before .before .before .asked .ensures) (c .if1 .taken),
-    )
+    let a = c .before .before .before .before .before .before .before .before .before .args in
+    let at-asked = c .before .before .before .before .before .asked in
+    refused-all (a .layout .now) (a .«record» .now) (a .scratch .now) (a .page) (at-asked .result) (at-asked .ensures) _ (c .before .before .before .fill .ensures) (c .if1 .taken)
 
 load-requires : tie.Need-load-requires
 load-requires c κs = search needs
@@ -44,10 +44,14 @@ same-length-2 c = search needs
 
 returns-2 : tie.Need-returns-2
 returns-2 c =
-    let a = c .before .before .before .before .before .before .before .before .before .before .before .before .before .before .before .before .before .args in (
-      translated-answer (a .layout .now) (a .«record» .now) (a .page) (length (a .scratch .now)) (c .before .before .before .before .before .before .before .before .before .before .before .before .before .asked .result) (c .before .before .before .before .before .before .before .before .before .before .before .before .before .asked .ensures) (c .before .before .before .before .before .before .before .before .if1 .left) (c .before .before .before .before .before .before .before .load .result) (c .before .before .before .before .before .before .before .load .ensures),
-      c .before .before .before .decode-slice .ensures ∙ translated-scratch (a .layout .now) (a .«record» .now) (a .page) (length (a .scratch .now)) (c .before .before .before .before .before .before .before .before .before .before .before .before .before .asked .result) (c .before .before .before .before .before .before .before .before .before .before .before .before .before .asked .ensures) (c .before .before .before .before .before .before .before .before .if1 .left) (c .before .before .before .before .before .before .before .load .result) (c .before .before .before .before .before .before .before .load .ensures) (c .before .before .before .before .before .field .result .now) (c .before .before .before .before .before .field .ensures .0) _ (c .before .before .before .before .before .before .before .before .before .before .before .fill .ensures),
-    )
+    let a = c .before .before .before .before .before .before .before .before .before .before .before .before .before .before .before .before .before .args in
+    let at-asked = c .before .before .before .before .before .before .before .before .before .before .before .before .before .asked in
+    let at-fill = c .before .before .before .before .before .before .before .before .before .before .before .fill in
+    let at-if1 = c .before .before .before .before .before .before .before .before .if1 in
+    let at-load = c .before .before .before .before .before .before .before .load in
+    let at-field = c .before .before .before .before .before .field in
+    translated-all (a .layout .now) (a .«record» .now) (a .scratch .now) (a .page) (at-asked .result) (at-asked .ensures) _ (at-fill .ensures) (at-if1 .left) (at-load .result) (at-load .ensures)
+    (at-field .result .now) (at-field .ensures .0) _ (c .before .before .before .decode-slice .ensures)
 
 pub translate-text-spec : {M : Type 1} → statement M
 translate-text-spec =

@@ -13,8 +13,8 @@ use Rattle.hex.specs.Hex.{hexOf}
 use Rattle.text.specs.Shown.{Shows, shows, none, shownOf, intText}
 use Rattle.items.specs.declared.Item.{Item}
 use Rattle.items.specs.Items.{itemAt}
-use Rattle.layout_text.specs.Form.{nameWord, kindWord, linesOf as textLines}
-use Rattle.layout_text.specs.Reading.{spelling, refusal, wordsOf, masksOf, pageOf}
+use Rattle.layout_text.specs.Form.{nameWord, kindWord}
+use Rattle.layout_text.specs.Reading as L
 use Rattle.walks.specs.Records.{Decoded, refused, decodeRecord, numberOf, itemsOf, textsOf}
 
 -- `value=` and `refused=`; `name=` and `kind=` are those of a layout's text
@@ -82,7 +82,7 @@ kindText tag =
 -- ---- names: "first spelling"; "65536 for list elements", which have none
 
 unfoldable pub nameOf : List ℕ → ℕ → List ℕ
-nameOf layout name = cond (ltb name 65536) (spelling layout name) []
+nameOf layout name = cond (ltb name 65536) (L.spelling layout name) []
 
 -- ---- an item's lines, and those of a list, item after item
 
@@ -129,19 +129,14 @@ workWords = 1024
 abbrev pub tooLong : List ℕ → Bool → Bool
 tooLong bytes more = more || ltb most (length bytes)
 
--- what reading says of a lawful layout text and a record
-unfoldable pub answerBy : List ℕ → List ℕ → Bool → Decoded
-answerBy layout bytes more =
-    let l = textLines layout in
-    cond (tooLong bytes more) (refused 4)
-    (decodeRecord (wordsOf l) (masksOf l) (pageOf l) bytes itemWords most workWords)
+-- what reading says of a record, by what reading its layout's text said
+unfoldable pub answerBy : L.Read → List ℕ → Bool → Decoded
+answerBy (L.refused n) bytes more = refused n
+answerBy (L.read page words masks) bytes more = cond (tooLong bytes more) (refused 4) (decodeRecord words masks page bytes itemWords most workWords)
 
 -- the layout's questions first, then the record's
 unfoldable pub answer : List ℕ → Bool → List ℕ → Bool → Decoded
-answer layout layoutMore bytes more =
-    cond (tooLong layout layoutMore) (refused 16)
-    (cond (eqb (refusal layout layoutWords most) 0) (answerBy layout bytes more)
-    (refused (refusal layout layoutWords most)))
+answer layout layoutMore bytes more = cond (tooLong layout layoutMore) (refused 16) (answerBy (L.readOf layout layoutWords most) bytes more)
 
 -- "A call that refuses returns its number", which is never 0
 unfoldable pub printed : List ℕ → Decoded → List ℕ

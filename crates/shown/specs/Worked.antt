@@ -19,7 +19,7 @@ use Rattle.lines.specs.Lines.{startsWith, numberOf}
 use Rattle.lines.specs.Names.{equal, indexIn}
 use Rattle.layout_text.specs.Form as Form
 use Rattle.layout_text.specs.Form.{pageWord, nameWord, offsetWord, widthWord, kindWord, occursWord, dependingWord, spanWord, pWord, qWord, rWord, maskWord}
-use Rattle.layout_text.specs.Reading.{sightsBelow, masksBelow, entrySaid, twelve, wordsBelow, textChecked, refusal, spelling}
+use Rattle.layout_text.specs.Reading.{sightsBelow, masksBelow, entrySaid, twelve, wordsBelow, textChecked, refusal, readOf, spelling}
 use Rattle.decode_scalar.specs.Decode.{says}
 use Rattle.walks.specs.Walk.{single, isPad, howMany}
 use Rattle.walks.specs.Kinds.{look, dec}
@@ -58,12 +58,12 @@ output =
 
 -- "record 30 32 01 2C 34 5D 4F 4B"
 pub worked : shown layoutText false (0x30 ∷ 0x32 ∷ 0x01 ∷ 0x2C ∷ 0x34 ∷ 0x5D ∷ 0x4F ∷ 0x4B ∷ []) false ≡ output
-unfolding shown printed answer answerBy listedFrom linesOf nameOf kindText valueOf escaped numberText scalarOf digitCount decimalText refusal spelling textChecked Form.lawful Form.all Form.ended Form.linesOf Form.entryLawful allBelow startsWith numberOf everyBy wordsBelow twelve entrySaid sightsBelow masksBelow indexIn equal wordsOk entriesOk entryOk placeOk optionOk kindOk plainOk boolOk floatOk editedOk upTo spansOk nested size tree treeIn entryAt layoutAsks checkedOf recordLength furthest reservedWidth dependsIn someBelow decodeRecord R.seq R.field R.elements R.one R.pad R.scalar R.inside single isPad howMany look dec says fromPage leftBy rightBy beforeBy fieldOf Display.intOf Display.intIn Display.digitsIn Display.signAt Display.restOf Display.wholeOf Packed.decodeOf Text.cut
+unfolding shown printed answer answerBy listedFrom linesOf nameOf kindText valueOf escaped numberText scalarOf digitCount decimalText refusal readOf spelling textChecked Form.lawful Form.all Form.ended Form.linesOf Form.entryLawful allBelow startsWith numberOf everyBy wordsBelow twelve entrySaid sightsBelow masksBelow indexIn equal wordsOk entriesOk entryOk placeOk optionOk kindOk plainOk boolOk floatOk editedOk upTo spansOk nested size tree treeIn entryAt layoutAsks checkedOf recordLength furthest reservedWidth dependsIn someBelow decodeRecord R.seq R.field R.elements R.one R.pad R.scalar R.inside single isPad howMany look dec says fromPage leftBy rightBy beforeBy fieldOf Display.intOf Display.intIn Display.digitsIn Display.signAt Display.restOf Display.wholeOf Packed.decodeOf Text.cut
 worked = refl
 
 -- a record above 65,536 bytes, by this layout; a layout text above that, which is asked first
 pub long-record : shown layoutText false [] true ≡ 0x72 ∷ 0x65 ∷ 0x66 ∷ 0x75 ∷ 0x73 ∷ 0x65 ∷ 0x64 ∷ 0x3D ∷ 0x34 ∷ 0x0A ∷ []
-unfolding shown printed answer answerBy listedFrom linesOf nameOf kindText valueOf escaped numberText scalarOf digitCount decimalText refusal spelling textChecked Form.lawful Form.all Form.ended Form.linesOf Form.entryLawful allBelow startsWith numberOf everyBy wordsBelow twelve entrySaid sightsBelow masksBelow indexIn equal wordsOk entriesOk entryOk placeOk optionOk kindOk plainOk boolOk floatOk editedOk upTo spansOk nested size tree treeIn entryAt layoutAsks checkedOf recordLength furthest reservedWidth dependsIn someBelow decodeRecord R.seq R.field R.elements R.one R.pad R.scalar R.inside single isPad howMany look dec says refusedText
+unfolding shown printed answer answerBy listedFrom linesOf nameOf kindText valueOf escaped numberText scalarOf digitCount decimalText refusal readOf spelling textChecked Form.lawful Form.all Form.ended Form.linesOf Form.entryLawful allBelow startsWith numberOf everyBy wordsBelow twelve entrySaid sightsBelow masksBelow indexIn equal wordsOk entriesOk entryOk placeOk optionOk kindOk plainOk boolOk floatOk editedOk upTo spansOk nested size tree treeIn entryAt layoutAsks checkedOf recordLength furthest reservedWidth dependsIn someBelow decodeRecord R.seq R.field R.elements R.one R.pad R.scalar R.inside single isPad howMany look dec says refusedText
 long-record = refl
 
 pub long-layout : shown [] true [] true ≡ 0x72 ∷ 0x65 ∷ 0x66 ∷ 0x75 ∷ 0x73 ∷ 0x65 ∷ 0x64 ∷ 0x3D ∷ 0x31 ∷ 0x36 ∷ 0x0A ∷ []

@@ -15,12 +15,13 @@ ghost use mathlib.Core.Path.{_≡_};
 ghost use mathlib.Core.Bool.{Bool};
 ghost use mathlib.Core.List.{[], _∷_};
 ghost use Prim.Native.Nat.{ℕ, _≤_, _/_};
-ghost use lib.ListN.{length, take, drop};
+ghost use lib.ListN.{length, take, drop, replicate};
 ghost use Rattle.hex.specs.Hex.{hexOf};
 ghost use Rattle.layout_text.specs.Reading.{Spells};
-ghost use Rattle.shown.specs.Shown.{isPlain, escape, escaped, numberText, floatText, numberIn, kindText, valueOf, nameOf, nameLine, kindLine, valueLine, linesOf, listed, refusedText, itemWords, most, tooLong, answer, shown, piece};
+ghost use Rattle.shown.specs.Shown.{isPlain, escape, escaped, numberText, floatText, numberIn, kindText, valueOf, nameOf, nameLine, kindLine, valueLine, linesOf, listed};
+ghost use Rattle.shown.specs.Shown.{refusedText, itemWords, most, tooLong, answer, shown, piece};
 ghost use Rattle.text.specs.Text.{front};
-ghost use Rattle.shown.specs.Given.{refusalIs, Gives};
+ghost use Rattle.walks.specs.Records.{RecordRead};
 ghost use Rattle.shown.specs.Sink.{state, Took};
 
 // ---- a buffer that takes bytes from a place on
@@ -317,7 +318,7 @@ fn too_long(bytes: &[u8], more: bool) -> bool
 }
 
 fn refusal(number: u32) -> Reading
-    ensures { λ r. ⌜ r ≡ refusalIs number ⌝ }
+    ensures { λ r. ⌜ (r .number ≡ number) × ((r .items ≡ 0) × (r .text ≡ 0)) ⌝ }
 {
     Reading {
         number,
@@ -326,7 +327,7 @@ fn refusal(number: u32) -> Reading
     }
 }
 
-// The value list of a layout's text and a record.
+// The value list of a layout's text and a record, into buffers of zeros.
 fn read_both(
     layout: &[u8],
     layout_more: bool,
@@ -335,8 +336,10 @@ fn read_both(
     items: &mut [u64],
     text: &mut [u8],
 ) -> Reading
-    requires { ⌜ (length (now items) ≡ itemWords) × (length (now text) ≡ most) ⌝ }
-    ensures { λ r. ⌜ Gives (answer (now (layout .entry)) «layout_more» (now (bytes .entry)) more) r (now (items .exit)) (now (text .exit)) ⌝ }
+    requires { ⌜ (now items ≡ replicate itemWords 0) × (now text ≡ replicate most 0) ⌝ }
+    ensures { λ r. ⌜
+        RecordRead (answer (now (layout .entry)) «layout_more» (now (bytes .entry)) more)
+        (r .number) (r .items) (r .text) (now (items .entry)) (now (items .exit)) (now (text .entry)) (now (text .exit)) [] [] ⌝ }
 {
     if too_long(layout, layout_more) {
         return refusal(16);
@@ -374,7 +377,8 @@ pub fn show_at(
     out: &mut [u8],
 ) -> usize
     ensures { λ r. ⌜ r ≡ length (piece at (length (now (out .entry))) (shown (now (layout .entry)) «layout_more» (now («record» .entry)) «record_more»)) ⌝ }
-    ensures { λ _. ⌜ now (out .exit) ≡ front (piece at (length (now (out .entry))) (shown (now (layout .entry)) «layout_more» (now («record» .entry)) «record_more»)) (now (out .entry)) ⌝ }
+    ensures { λ _. ⌜ now (out .exit) ≡
+        front (piece at (length (now (out .entry))) (shown (now (layout .entry)) «layout_more» (now («record» .entry)) «record_more»)) (now (out .entry)) ⌝ }
 {
     let mut items = [0u64; 8192];
     let mut text = [0u8; 65536];

@@ -19,19 +19,21 @@
 //   . GROUP                            the end of a group: its cases are counted
 
 use libc::STDOUT_FILENO;
+use testing::at;
+use testing::first_bytes;
+use testing::first_layout;
+use testing::first_words;
+use testing::holds_bytes;
+use testing::holds_layout;
+use testing::line_at;
+use testing::low_word;
+use testing::more;
+use testing::narrow;
 ghost use Prim.Native.Nat.{_≤_};
-ghost use lib.ListN.{length};
 
 const WORDS: usize = 8192;
 
 const BYTES: usize = 66048;
-
-fn at(s: &[u8], i: usize) -> u8 {
-    if i < s.len() {
-        return s[i];
-    }
-    0
-}
 
 fn least(x: u64, most: usize) -> usize
     ensures { λ r. ⌜ r ≤ most ⌝ }
@@ -40,22 +42,6 @@ fn least(x: u64, most: usize) -> usize
         return x as usize;
     }
     most
-}
-
-// The first n bytes.
-fn first(s: &[u8], n: usize) -> &[u8] {
-    if n <= s.len() {
-        return &s[0..n];
-    }
-    s
-}
-
-fn more(n: u64) -> u64 {
-    std::num::wrapping_add_u64(n, 1)
-}
-
-fn low_word(x: u64) -> u32 {
-    (x % 0x1_0000_0000) as u32
 }
 
 fn low_byte(x: u64) -> u8 {
@@ -242,27 +228,9 @@ fn bytes_step(kind: u8, bytes: &mut [u8; BYTES], n: usize, line: &[u8]) -> usize
 
 // ---- layouts
 
-fn narrow(words: &[u64], layout: &mut [u32; WORDS]) {
-    let mut i = 0;
-    while i < words.len() {
-        if i < WORDS {
-            layout[i] = low_word(words[i]);
-        }
-        i += 1;
-    }
-}
-
-fn first_words(layout: &[u32; WORDS], n: usize) -> &[u32] {
-    let all: &[u32] = layout;
-    if n <= all.len() {
-        return &all[0..n];
-    }
-    all
-}
-
 fn layout_agrees(line: &[u8], layout: &[u32]) -> bool {
     let space = [0u8; BYTES];
-    let masks = first(&space, least(arg(line, 2), BYTES));
+    let masks = first_bytes(&space, least(arg(line, 2), BYTES));
     let page = low_word(arg(line, 1));
     layout::check_layout(layout, masks, page) as u64 == arg(line, 3)
 }
@@ -285,7 +253,7 @@ fn reserved_agrees(line: &[u8], layout: &[u32]) -> bool {
 fn words_agree(line: &[u8], words: &[u64]) -> bool {
     let mut space = [0u32; WORDS];
     narrow(words, &mut space);
-    let layout = first_words(&space, words.len());
+    let layout = first_layout(&space, words.len());
     let asked = at(line, 0);
     if asked == b'L' {
         return layout_agrees(line, layout);
@@ -300,7 +268,7 @@ fn words_agree(line: &[u8], words: &[u64]) -> bool {
 
 fn items_agree(line: &[u8], items: &[u64]) -> bool {
     let space = [0u8; BYTES];
-    let text = first(&space, least(arg(line, 1), BYTES));
+    let text = first_bytes(&space, least(arg(line, 1), BYTES));
     if items::check_items(items, text) {
         return arg(line, 2) == 1;
     }
@@ -346,41 +314,6 @@ fn fetch_agrees(line: &[u8], items: &[u64]) -> bool {
 
 // ---- layout texts
 
-fn wide(x: u32) -> u64 {
-    x as u64
-}
-
-fn word_at(words: &[u64], i: usize) -> u64 {
-    if i < words.len() {
-        return words[i];
-    }
-    0
-}
-
-// Whether a buffer holds these words, then zeros.
-fn holds_words(buffer: &[u32], words: &[u64]) -> bool {
-    let mut i = 0;
-    while i < buffer.len() {
-        if wide(buffer[i]) != word_at(words, i) {
-            return false;
-        }
-        i += 1;
-    }
-    true
-}
-
-// Whether a buffer holds these bytes, then zeros.
-fn holds_bytes(buffer: &[u8], bytes: &[u8]) -> bool {
-    let mut i = 0;
-    while i < buffer.len() {
-        if buffer[i] != at(bytes, i) {
-            return false;
-        }
-        i += 1;
-    }
-    true
-}
-
 // Reads the text into these buffers, which should then hold the words and masks.
 fn read_into(
     line: &[u8],
@@ -403,7 +336,7 @@ fn read_into(
     if r.masks != masks.len() {
         return false;
     }
-    if holds_words(out, words) {
+    if holds_layout(out, words) {
         return holds_bytes(packed, masks);
     }
     false
@@ -515,33 +448,6 @@ fn kept(line: &[u8], n: usize) -> usize {
     n
 }
 
-fn line_end(all: &[u8], from: usize) -> usize
-    requires { ⌜ from ≤ length (now all) ⌝ }
-    ensures { λ r. ⌜ from ≤ r ⌝ }
-    ensures { λ r. ⌜ r ≤ length (now (all .entry)) ⌝ }
-{
-    let mut i = from;
-    while i < all.len() {
-        if all[i] == 10 {
-            return i;
-        }
-        i += 1;
-    }
-    i
-}
-
-fn first_items(words: &[u64; WORDS], n: usize) -> &[u64] {
-    let all: &[u64] = words;
-    if n <= all.len() {
-        return &all[0..n];
-    }
-    all
-}
-
-fn first_bytes(bytes: &[u8; BYTES], n: usize) -> &[u8] {
-    first(bytes, n)
-}
-
 // How many words, bytes of text and mask bytes are gathered, and the count of the group's cases.
 struct State {
     w: usize,
@@ -563,7 +469,7 @@ fn step(
     let tally = judged(
         s.tally,
         line,
-        first_items(words, w),
+        first_words(words, w),
         first_bytes(text, t),
         first_bytes(masks, m),
     );
@@ -590,9 +496,9 @@ fn run(all: &[u8]) {
     };
     let mut from = 0;
     while from < all.len() {
-        let end = line_end(all, from);
-        s = step(&all[from..end], &mut words, &mut text, &mut masks, s);
-        from = end + 1;
+        let line = line_at(all, from);
+        s = step(line, &mut words, &mut text, &mut masks, s);
+        from = from + line.len() + 1;
     }
 }
 

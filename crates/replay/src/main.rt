@@ -5,30 +5,19 @@
 //   D PAGE NUMBER   reading the record gives the list; a number but 0 refuses, and all is zeros
 //   E PAGE NUMBER   writing the list gives the record; a number but 0 refuses, and all is zeros
 use libc::STDOUT_FILENO;
-ghost use Prim.Native.Nat.{_≤_};
-ghost use lib.ListN.{length};
+use testing::at;
+use testing::first_bytes;
+use testing::first_layout;
+use testing::first_words;
+use testing::holds_bytes;
+use testing::holds_words;
+use testing::line_at;
+use testing::more;
+use testing::narrow;
 
 const WORDS: usize = 512;
 
 const BYTES: usize = 1024;
-
-fn at(s: &[u8], i: usize) -> u8 {
-    if i < s.len() {
-        return s[i];
-    }
-    0
-}
-
-fn word_at(words: &[u64], i: usize) -> u64 {
-    if i < words.len() {
-        return words[i];
-    }
-    0
-}
-
-fn more(n: u64) -> u64 {
-    std::num::wrapping_add_u64(n, 1)
-}
 
 // ---- words and bytes of a line
 
@@ -95,75 +84,7 @@ fn bytes_in(bytes: &mut [u8; BYTES], line: &[u8]) -> usize {
     n
 }
 
-fn low_word(x: u64) -> u32 {
-    (x % 0x1_0000_0000) as u32
-}
-
-fn narrow(layout: &mut [u32; WORDS], words: &[u64; WORDS]) {
-    let mut i = 0;
-    while i < WORDS {
-        layout[i] = low_word(words[i]);
-        i += 1;
-    }
-}
-
-// ---- what is gathered
-
-struct Given {
-    layout: usize,
-    masks: usize,
-    bytes: usize,
-    items: usize,
-    text: usize,
-}
-
-fn first_words(words: &[u64; WORDS], n: usize) -> &[u64] {
-    let all: &[u64] = words;
-    if n <= all.len() {
-        return &all[0..n];
-    }
-    all
-}
-
-fn first_layout(words: &[u32; WORDS], n: usize) -> &[u32] {
-    let all: &[u32] = words;
-    if n <= all.len() {
-        return &all[0..n];
-    }
-    all
-}
-
-fn first_bytes(bytes: &[u8; BYTES], n: usize) -> &[u8] {
-    let all: &[u8] = bytes;
-    if n <= all.len() {
-        return &all[0..n];
-    }
-    all
-}
-
 // ---- answers
-
-fn holds_words(buffer: &[u64; WORDS], words: &[u64]) -> bool {
-    let mut i = 0;
-    while i < WORDS {
-        if buffer[i] != word_at(words, i) {
-            return false;
-        }
-        i += 1;
-    }
-    true
-}
-
-fn holds_bytes(buffer: &[u8; BYTES], bytes: &[u8]) -> bool {
-    let mut i = 0;
-    while i < BYTES {
-        if buffer[i] != at(bytes, i) {
-            return false;
-        }
-        i += 1;
-    }
-    true
-}
 
 fn read_agrees(
     layout: &[u32],
@@ -175,9 +96,17 @@ fn read_agrees(
     number: u64,
 ) -> bool {
     let mut out = [0xA5A5u64; WORDS];
-    let mut said = [0xA5u8; BYTES];
+    let mut out_text = [0xA5u8; BYTES];
     let mut counts = [-3i64; WORDS];
-    let r = decode::decode_record(layout, masks, page, bytes, &mut out, &mut said, &mut counts);
+    let r = decode::decode_record(
+        layout,
+        masks,
+        page,
+        bytes,
+        &mut out,
+        &mut out_text,
+        &mut counts,
+    );
     if r.number as u64 != number {
         return false;
     }
@@ -188,7 +117,7 @@ fn read_agrees(
         return false;
     }
     if holds_words(&out, items) {
-        return holds_bytes(&said, text);
+        return holds_bytes(&out_text, text);
     }
     false
 }
@@ -255,19 +184,8 @@ fn summary(name: &[u8], t: Tally) {
     io::write_all(STDOUT_FILENO, b" differ\n");
 }
 
-fn line_end(all: &[u8], from: usize) -> usize
-    requires { ⌜ from ≤ length (now all) ⌝ }
-    ensures { λ r. ⌜ from ≤ r ⌝ }
-    ensures { λ r. ⌜ r ≤ length (now (all .entry)) ⌝ }
-{
-    let mut i = from;
-    while i < all.len() {
-        if all[i] == 10 {
-            return i;
-        }
-        i += 1;
-    }
-    i
+fn put_layout(layout: &mut [u32; WORDS], words: &[u64; WORDS]) {
+    narrow(words, layout);
 }
 
 // The words of a layout line.
@@ -277,7 +195,7 @@ fn layout_in(layout: &mut [u32; WORDS], n: usize, line: &[u8]) -> usize {
     }
     let mut words = [0u64; WORDS];
     let n = words_in(&mut words, line);
-    narrow(layout, &words);
+    put_layout(layout, &words);
     n
 }
 
@@ -306,78 +224,125 @@ fn number_of(line: &[u8]) -> u64 {
     words[1]
 }
 
-struct Both {
+fn read_case(
+    t: Tally,
+    line: &[u8],
+    layout: &[u32],
+    masks: &[u8],
+    bytes: &[u8],
+    items: &[u64],
+    text: &[u8],
+) -> Tally {
+    if at(line, 0) != b'D' {
+        return t;
+    }
+    let number = number_of(line);
+    let agree = read_agrees(layout, masks, page_of(line), bytes, items, text, number);
+    counted(t, line, number, agree)
+}
+
+fn written_case(
+    t: Tally,
+    line: &[u8],
+    layout: &[u32],
+    masks: &[u8],
+    bytes: &[u8],
+    items: &[u64],
+    text: &[u8],
+) -> Tally {
+    if at(line, 0) != b'E' {
+        return t;
+    }
+    let number = number_of(line);
+    let agree = write_agrees(layout, masks, page_of(line), bytes, items, text, number);
+    counted(t, line, number, agree)
+}
+
+// How much of each is gathered, and the counts of the cases read and written.
+struct State {
+    layout: usize,
+    masks: usize,
+    bytes: usize,
+    items: usize,
+    text: usize,
     read: Tally,
     written: Tally,
 }
 
-fn run(all: &[u8]) -> Both {
+fn step(
+    line: &[u8],
+    layout: &mut [u32; WORDS],
+    masks: &mut [u8; BYTES],
+    bytes: &mut [u8; BYTES],
+    items: &mut [u64; WORDS],
+    text: &mut [u8; BYTES],
+    s: State,
+) -> State {
+    let l = layout_in(layout, s.layout, line);
+    let m = bytes_of(b'm', masks, s.masks, line);
+    let b = bytes_of(b'r', bytes, s.bytes, line);
+    let i = items_in(items, s.items, line);
+    let t = bytes_of(b't', text, s.text, line);
+    let words = first_layout(layout, l);
+    let mask = first_bytes(masks, m);
+    let part = first_bytes(bytes, b);
+    let list = first_words(items, i);
+    let list_text = first_bytes(text, t);
+    State {
+        layout: l,
+        masks: m,
+        bytes: b,
+        items: i,
+        text: t,
+        read: read_case(s.read, line, words, mask, part, list, list_text),
+        written: written_case(s.written, line, words, mask, part, list, list_text),
+    }
+}
+
+fn none() -> Tally {
+    Tally {
+        cases: 0,
+        refused: 0,
+        differ: 0,
+    }
+}
+
+fn run(all: &[u8]) -> State {
     let mut layout = [0u32; WORDS];
     let mut masks = [0u8; BYTES];
     let mut bytes = [0u8; BYTES];
     let mut items = [0u64; WORDS];
     let mut text = [0u8; BYTES];
-    let mut g = Given {
+    let mut s = State {
         layout: 0,
         masks: 0,
         bytes: 0,
         items: 0,
         text: 0,
-    };
-    let mut read = Tally {
-        cases: 0,
-        refused: 0,
-        differ: 0,
-    };
-    let mut written = Tally {
-        cases: 0,
-        refused: 0,
-        differ: 0,
+        read: none(),
+        written: none(),
     };
     let mut from = 0;
     while from < all.len() {
-        let end = line_end(all, from);
-        let line = &all[from..end];
-        g = Given {
-            layout: layout_in(&mut layout, g.layout, line),
-            masks: bytes_of(b'm', &mut masks, g.masks, line),
-            bytes: bytes_of(b'r', &mut bytes, g.bytes, line),
-            items: items_in(&mut items, g.items, line),
-            text: bytes_of(b't', &mut text, g.text, line),
-        };
-        if at(line, 0) == b'D' {
-            let agree = read_agrees(
-                first_layout(&layout, g.layout),
-                first_bytes(&masks, g.masks),
-                page_of(line),
-                first_bytes(&bytes, g.bytes),
-                first_words(&items, g.items),
-                first_bytes(&text, g.text),
-                number_of(line),
-            );
-            read = counted(read, line, number_of(line), agree);
-        }
-        if at(line, 0) == b'E' {
-            let agree = write_agrees(
-                first_layout(&layout, g.layout),
-                first_bytes(&masks, g.masks),
-                page_of(line),
-                first_bytes(&bytes, g.bytes),
-                first_words(&items, g.items),
-                first_bytes(&text, g.text),
-                number_of(line),
-            );
-            written = counted(written, line, number_of(line), agree);
-        }
-        from = end + 1;
+        let line = line_at(all, from);
+        s = step(
+            line,
+            &mut layout,
+            &mut masks,
+            &mut bytes,
+            &mut items,
+            &mut text,
+            s,
+        );
+        from = from + line.len() + 1;
     }
-    Both { read, written }
+    s
 }
 
 fn main() {
     let mut all = [0u8; 393216];
     let n = io::read_full(libc::STDIN_FILENO, &mut all);
-    let t = run(&all[..n]);
-    summary(b"read: ", t.read);
-    summary(b"written: ", t.written);
+    let s = run(&all[..n]);
+    summary(b"read: ", s.read);
+    summary(b"written: ", s.written);
 }

@@ -5,6 +5,8 @@
 
 use float::Parsed;
 use libc::STDOUT_FILENO;
+use testing::at;
+use testing::more;
 use value::Amount;
 use value::Number;
 ghost use Prim.Native.Nat.{_<_, _≤_};
@@ -278,10 +280,6 @@ fn line(name: &[u8], agree: u64, all: u64) {
     io::write_all(STDOUT_FILENO, b" agree\n");
 }
 
-fn more(n: u64) -> u64 {
-    std::num::wrapping_add_u64(n, 1)
-}
-
 // ---- page 037
 
 fn page_agrees(b: u8) -> bool {
@@ -308,13 +306,6 @@ fn page_037() {
 }
 
 // ---- COBOL: rows of 83 bytes, "ed + 000000000000123456 ZZ,ZZ9.99-         10 hex of the bytes"
-
-fn at(s: &[u8], i: usize) -> u8 {
-    if i < s.len() {
-        return s[i];
-    }
-    0
-}
 
 fn row(all: &[u8], k: usize) -> &[u8] {
     if k < 4096 {

@@ -1,3 +1,4 @@
+-- `layouts::run` ends: each line takes at least its 0x0A of what is left.
 use Prim.Native.Nat.{_+_, _-_, _≤_}
 use lib.ListN.{length}
 use borrow.Author.Needs.{needs}
@@ -13,23 +14,17 @@ abbrev μ-loop : tie.MeasureT-loop
 loop-holds : tie.Need-loop-holds Inv-loop μ-loop
 loop-holds c = search needs
 
-line-end-requires : tie.Need-line-end-requires Inv-loop μ-loop
-line-end-requires c κs = search needs
-
-sub-step : tie.Need-sub-step Inv-loop μ-loop
-sub-step c = search needs
-
-part-step-start : tie.Need-part-step-start Inv-loop μ-loop
-part-step-start c = search needs
-
-part-step-end : tie.Need-part-step-end Inv-loop μ-loop
-part-step-end c = search needs
+line-at-requires : tie.Need-line-at-requires Inv-loop μ-loop
+line-at-requires c κs = search needs
 
 step-requires : tie.Need-step-requires Inv-loop μ-loop
 step-requires c κs = search needs
 
 add-from : tie.Need-add-from Inv-loop μ-loop
 add-from c = search needs
+
+add-from-2 : tie.Need-add-from-2 Inv-loop μ-loop
+add-from-2 c = search needs
 
 loop-less : tie.Need-loop-less Inv-loop μ-loop
 loop-less c = search needs
@@ -47,12 +42,10 @@ run-spec =
     Inv-loop
     μ-loop
     loop-holds
-    line-end-requires
-    sub-step
-    part-step-start
-    part-step-end
+    line-at-requires
     step-requires
     add-from
+    add-from-2
     loop-less
     loop-again
     returns)

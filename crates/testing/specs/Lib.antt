@@ -1,0 +1,2 @@
+-- What the programs that compare answers go by.
+pub mod Holds

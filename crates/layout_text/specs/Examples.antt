@@ -9,7 +9,8 @@ use Rattle.layout.specs.Layout.{absent, entryAt, allBelow, wordsOk, upTo, plain
 use Rattle.lines.specs.Lines.{startsWith, numberOf}
 use lib.ListN.{length}
 use Rattle.lines.specs.Names.{equal, indexIn, distinct}
-use Rattle.layout_text.specs.Form.{linesOf, sizeOf, ended, all, entryLawful, lawful, pageWord, nameWord, offsetWord, widthWord, kindWord, occursWord, dependingWord, spanWord, pWord, qWord, rWord, maskWord}
+use Rattle.layout_text.specs.Form.{linesOf, sizeOf, ended, all, entryLawful, lawful, pageWord, nameWord, offsetWord, widthWord, kindWord, occursWord}
+use Rattle.layout_text.specs.Form.{dependingWord, spanWord, pWord, qWord, rWord, maskWord}
 use Rattle.layout_text.specs.Reading.{sightsBelow, masksBelow, entrySaid, twelve, wordsBelow, wordsOf, masksOf, textChecked, refusal, spelling, namesOf, firstAt, firstStart}
 
 abbrev line : List ℕ → List ℕ → List ℕ
@@ -66,16 +67,19 @@ unfolding masksBelow linesOf
 text-masks = refl
 
 text-accepted : refusal text 36 2 ≡ 0
-unfolding refusal textChecked lawful all ended linesOf entryLawful allBelow startsWith numberOf everyBy wordsBelow twelve entrySaid sightsBelow masksBelow indexIn equal wordsOk entriesOk entryOk placeOk optionOk kindOk plainOk editedOk upTo spansOk nested size tree treeIn entryAt
+unfolding refusal textChecked lawful all ended linesOf entryLawful allBelow startsWith numberOf everyBy wordsBelow twelve entrySaid sightsBelow masksBelow indexIn equal
+    wordsOk entriesOk entryOk placeOk optionOk kindOk plainOk editedOk upTo spansOk nested size tree treeIn entryAt
 text-accepted = refl
 
 -- place for 36 words and for 2 mask bytes
 no-place : refusal text 35 2 ≡ 16
-unfolding refusal textChecked lawful all ended linesOf entryLawful allBelow startsWith numberOf everyBy wordsBelow twelve entrySaid sightsBelow masksBelow indexIn equal wordsOk entriesOk entryOk placeOk optionOk kindOk plainOk editedOk upTo spansOk nested size tree treeIn entryAt
+unfolding refusal textChecked lawful all ended linesOf entryLawful allBelow startsWith numberOf everyBy wordsBelow twelve entrySaid sightsBelow masksBelow indexIn equal
+    wordsOk entriesOk entryOk placeOk optionOk kindOk plainOk editedOk upTo spansOk nested size tree treeIn entryAt
 no-place = refl
 
 no-mask-place : refusal text 36 1 ≡ 16
-unfolding refusal textChecked lawful all ended linesOf entryLawful allBelow startsWith numberOf everyBy wordsBelow twelve entrySaid sightsBelow masksBelow indexIn equal wordsOk entriesOk entryOk placeOk optionOk kindOk plainOk editedOk upTo spansOk nested size tree treeIn entryAt
+unfolding refusal textChecked lawful all ended linesOf entryLawful allBelow startsWith numberOf everyBy wordsBelow twelve entrySaid sightsBelow masksBelow indexIn equal
+    wordsOk entriesOk entryOk placeOk optionOk kindOk plainOk editedOk upTo spansOk nested size tree treeIn entryAt
 no-mask-place = refl
 
 -- no entries; the last line not ended; a line too many; nothing at all
@@ -101,7 +105,8 @@ unfolding refusal textChecked lawful all ended linesOf entryLawful allBelow star
 other-page = refl
 
 short-mask : refusal (line pageWord d0 ++ entry (0x41 ∷ []) d2 d8 [] [] d0 d0 (0x39 ∷ [])) 0 0 ≡ 2
-unfolding refusal textChecked lawful all ended linesOf entryLawful allBelow startsWith numberOf everyBy wordsBelow twelve entrySaid sightsBelow masksBelow indexIn equal wordsOk entriesOk entryOk placeOk optionOk kindOk editedOk upTo entryAt
+unfolding refusal textChecked lawful all ended linesOf entryLawful allBelow startsWith numberOf everyBy wordsBelow twelve entrySaid sightsBelow masksBelow indexIn equal
+    wordsOk entriesOk entryOk placeOk optionOk kindOk editedOk upTo entryAt
 short-mask = refl
 
 masked-text : refusal (line pageWord d0 ++ entry (0x41 ∷ []) d2 d0 [] [] d0 d0 (0x39 ∷ 0x39 ∷ [])) 0 0 ≡ 17
@@ -110,15 +115,18 @@ masked-text = refl
 
 -- the first spelling of number 0 is N, of 2 it is A, and 3 is nobody's number
 first-name : spelling text 0 ≡ 0x4E ∷ []
-unfolding spelling textChecked lawful all ended linesOf entryLawful allBelow startsWith numberOf everyBy wordsBelow twelve entrySaid sightsBelow masksBelow indexIn equal wordsOk entriesOk entryOk placeOk optionOk kindOk plainOk editedOk upTo spansOk nested size tree treeIn entryAt
+unfolding spelling textChecked lawful all ended linesOf entryLawful allBelow startsWith numberOf everyBy wordsBelow twelve entrySaid sightsBelow masksBelow indexIn equal
+    wordsOk entriesOk entryOk placeOk optionOk kindOk plainOk editedOk upTo spansOk nested size tree treeIn entryAt
 first-name = refl
 
 last-name : spelling text 2 ≡ 0x41 ∷ []
-unfolding spelling textChecked lawful all ended linesOf entryLawful allBelow startsWith numberOf everyBy wordsBelow twelve entrySaid sightsBelow masksBelow indexIn equal wordsOk entriesOk entryOk placeOk optionOk kindOk plainOk editedOk upTo spansOk nested size tree treeIn entryAt
+unfolding spelling textChecked lawful all ended linesOf entryLawful allBelow startsWith numberOf everyBy wordsBelow twelve entrySaid sightsBelow masksBelow indexIn equal
+    wordsOk entriesOk entryOk placeOk optionOk kindOk plainOk editedOk upTo spansOk nested size tree treeIn entryAt
 last-name = refl
 
 no-name : spelling text 3 ≡ []
-unfolding spelling textChecked lawful all ended linesOf entryLawful allBelow startsWith numberOf everyBy wordsBelow twelve entrySaid sightsBelow masksBelow indexIn equal wordsOk entriesOk entryOk placeOk optionOk kindOk plainOk editedOk upTo spansOk nested size tree treeIn entryAt
+unfolding spelling textChecked lawful all ended linesOf entryLawful allBelow startsWith numberOf everyBy wordsBelow twelve entrySaid sightsBelow masksBelow indexIn equal
+    wordsOk entriesOk entryOk placeOk optionOk kindOk plainOk editedOk upTo spansOk nested size tree treeIn entryAt
 no-name = refl
 
 -- these start behind `name=` of the first and of the third entry: n, which the second depends on, is no first spelling; three names

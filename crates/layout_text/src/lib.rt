@@ -478,7 +478,13 @@ fn at_most(n: usize, most: usize) -> usize
 }
 
 // All questions of a text, with place for 512 spans and flags of groups.
-fn ask(text: &[u8], words: usize, masks: usize, spans: &mut [u32], groups: &mut [u8]) -> LayoutReading
+fn ask(
+    text: &[u8],
+    words: usize,
+    masks: usize,
+    spans: &mut [u32],
+    groups: &mut [u8],
+) -> LayoutReading
     requires { ⌜ length (now spans) ≡ 512 ⌝ }
     requires { ⌜ length (now groups) ≡ 512 ⌝ }
     ensures { λ r. ⌜ r ≡ answerOf (readOf (now (text .entry)) words masks) ⌝ }

@@ -96,7 +96,9 @@ pub extern "C" fn leaf_encode(
     text: &[u8],
 ) -> u32
     ensures { λ n. ⌜ n ≡ judgedOf kind p q r s (now (mask .entry)) (length (now (part .entry))) tag (scalarOf tag a b) (now (text .entry)) ⌝ }
-    ensures { λ _. ⌜ now (part .exit) ≡ partAfter (judgedOf kind p q r s (now (mask .entry)) (length (now (part .entry))) tag (scalarOf tag a b) (now (text .entry))) (bytesOf kind p q r (now (mask .entry)) page (length (now (part .entry))) (scalarOf tag a b) (now (text .entry))) (now (part .entry)) ⌝ }
+    ensures { λ _. ⌜ now (part .exit) ≡ partAfter
+        (judgedOf kind p q r s (now (mask .entry)) (length (now (part .entry))) tag (scalarOf tag a b) (now (text .entry)))
+        (bytesOf kind p q r (now (mask .entry)) page (length (now (part .entry))) (scalarOf tag a b) (now (text .entry))) (now (part .entry)) ⌝ }
 {
     encode_scalar::encode_scalar(part, kind, p, q, r, s, mask, page, tag, a, b, text)
 }

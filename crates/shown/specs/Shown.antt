@@ -60,8 +60,8 @@ abbrev pub numberIn : Item → Scalar
 numberIn it = cond (counted (it .tag)) (Int false (it .a)) (scalarOf (it .tag) (it .a) (it .b))
 
 unfoldable pub valueOf : List ℕ → Item → List ℕ
-valueOf texts it =
-    cond (eqb (it .tag) 1) (escaped (take (it .b) (drop (it .a) texts)))
+valueOf text it =
+    cond (eqb (it .tag) 1) (escaped (take (it .b) (drop (it .a) text)))
     (cond (eqb (it .tag) 4) (floatText (it .a))
     (numberText (numberIn it)))
 
@@ -93,18 +93,18 @@ abbrev pub kindLine : Item → List ℕ
 kindLine it = kindWord ++ (kindText (it .tag) ++ ended)
 
 abbrev pub valueLine : List ℕ → Item → List ℕ
-valueLine texts it = valueWord ++ (valueOf texts it ++ ended)
+valueLine text it = valueWord ++ (valueOf text it ++ ended)
 
 unfoldable pub linesOf : List ℕ → List ℕ → Item → List ℕ
-linesOf layout texts it = nameLine layout it ++ (kindLine it ++ valueLine texts it)
+linesOf layout text it = nameLine layout it ++ (kindLine it ++ valueLine text it)
 
 -- n items from the k-th on
 unfoldable pub listedFrom : List ℕ → List ℕ → List ℕ → ℕ → ℕ → List ℕ
-listedFrom layout items texts zero k = []
-listedFrom layout items texts (suc n) k = linesOf layout texts (itemAt items k) ++ listedFrom layout items texts n (suc k)
+listedFrom layout items text zero k = []
+listedFrom layout items text (suc n) k = linesOf layout text (itemAt items k) ++ listedFrom layout items text n (suc k)
 
 abbrev pub listed : List ℕ → List ℕ → List ℕ → List ℕ
-listed layout items texts = listedFrom layout items texts (length items / 4) 0
+listed layout items text = listedFrom layout items text (length items / 4) 0
 
 -- "a refusal is `refused=` and number"
 unfoldable pub refusedText : ℕ → List ℕ

@@ -14,7 +14,8 @@ use Rattle.hex.specs.Hex.{hexOf}
 use Rattle.text.specs.Text as Text
 use Rattle.text.specs.Shown.{digitCount, decimalText}
 use Rattle.spans.specs.Tree.{tree, treeIn, size, nested}
-use Rattle.layout.specs.Layout.{entryAt, allBelow, someBelow, wordsOk, upTo, plainOk, boolOk, editedOk, floatOk, kindOk, optionOk, placeOk, entryOk, entriesOk, spansOk, checkedOf, layoutAsks, reservedWidth, furthest, recordLength, dependsIn}
+use Rattle.layout.specs.Layout.{entryAt, allBelow, someBelow, wordsOk, upTo, plainOk, boolOk, editedOk, floatOk, kindOk, optionOk, placeOk, entryOk, entriesOk}
+use Rattle.layout.specs.Layout.{spansOk, checkedOf, layoutAsks, reservedWidth, furthest, recordLength, dependsIn}
 use Rattle.lines.specs.Lines.{startsWith, numberOf}
 use Rattle.lines.specs.Names.{equal, indexIn}
 use Rattle.layout_text.specs.Form as Form
@@ -58,12 +59,19 @@ output =
 
 -- "record 30 32 01 2C 34 5D 4F 4B"
 pub worked : shown layoutText false (0x30 ∷ 0x32 ∷ 0x01 ∷ 0x2C ∷ 0x34 ∷ 0x5D ∷ 0x4F ∷ 0x4B ∷ []) false ≡ output
-unfolding shown printed answer answerBy listedFrom linesOf nameOf kindText valueOf escaped numberText scalarOf digitCount decimalText refusal readOf spelling textChecked Form.lawful Form.all Form.ended Form.linesOf Form.entryLawful allBelow startsWith numberOf everyBy wordsBelow twelve entrySaid sightsBelow masksBelow indexIn equal wordsOk entriesOk entryOk placeOk optionOk kindOk plainOk boolOk floatOk editedOk upTo spansOk nested size tree treeIn entryAt layoutAsks checkedOf recordLength furthest reservedWidth dependsIn someBelow decodeRecord R.seq R.field R.elements R.one R.pad R.scalar R.inside single isPad howMany look dec says fromPage leftBy rightBy beforeBy fieldOf Display.intOf Display.intIn Display.digitsIn Display.signAt Display.restOf Display.wholeOf Packed.decodeOf Text.cut
+unfolding shown printed answer answerBy listedFrom linesOf nameOf kindText valueOf escaped numberText scalarOf digitCount decimalText refusal readOf spelling textChecked
+    Form.lawful Form.all Form.ended Form.linesOf Form.entryLawful allBelow startsWith numberOf everyBy wordsBelow twelve entrySaid sightsBelow masksBelow indexIn equal
+    wordsOk entriesOk entryOk placeOk optionOk kindOk plainOk boolOk floatOk editedOk upTo spansOk nested size tree treeIn entryAt layoutAsks checkedOf recordLength
+    furthest reservedWidth dependsIn someBelow decodeRecord R.seq R.field R.elements R.one R.pad R.scalar R.inside single isPad howMany look dec says fromPage leftBy
+    rightBy beforeBy fieldOf Display.intOf Display.intIn Display.digitsIn Display.signAt Display.restOf Display.wholeOf Packed.decodeOf Text.cut
 worked = refl
 
 -- a record above 65,536 bytes, by this layout; a layout text above that, which is asked first
 pub long-record : shown layoutText false [] true ≡ 0x72 ∷ 0x65 ∷ 0x66 ∷ 0x75 ∷ 0x73 ∷ 0x65 ∷ 0x64 ∷ 0x3D ∷ 0x34 ∷ 0x0A ∷ []
-unfolding shown printed answer answerBy listedFrom linesOf nameOf kindText valueOf escaped numberText scalarOf digitCount decimalText refusal readOf spelling textChecked Form.lawful Form.all Form.ended Form.linesOf Form.entryLawful allBelow startsWith numberOf everyBy wordsBelow twelve entrySaid sightsBelow masksBelow indexIn equal wordsOk entriesOk entryOk placeOk optionOk kindOk plainOk boolOk floatOk editedOk upTo spansOk nested size tree treeIn entryAt layoutAsks checkedOf recordLength furthest reservedWidth dependsIn someBelow decodeRecord R.seq R.field R.elements R.one R.pad R.scalar R.inside single isPad howMany look dec says refusedText
+unfolding shown printed answer answerBy listedFrom linesOf nameOf kindText valueOf escaped numberText scalarOf digitCount decimalText refusal readOf spelling textChecked
+    Form.lawful Form.all Form.ended Form.linesOf Form.entryLawful allBelow startsWith numberOf everyBy wordsBelow twelve entrySaid sightsBelow masksBelow indexIn equal
+    wordsOk entriesOk entryOk placeOk optionOk kindOk plainOk boolOk floatOk editedOk upTo spansOk nested size tree treeIn entryAt layoutAsks checkedOf recordLength
+    furthest reservedWidth dependsIn someBelow decodeRecord R.seq R.field R.elements R.one R.pad R.scalar R.inside single isPad howMany look dec says refusedText
 long-record = refl
 
 pub long-layout : shown [] true [] true ≡ 0x72 ∷ 0x65 ∷ 0x66 ∷ 0x75 ∷ 0x73 ∷ 0x65 ∷ 0x64 ∷ 0x3D ∷ 0x31 ∷ 0x36 ∷ 0x0A ∷ []
@@ -71,7 +79,8 @@ unfolding shown printed answer refusedText numberText digitCount
 long-layout = refl
 
 -- ---- values: a Float of 1.5; a text of a backslash, 0x0D and `~`; a decimal of 0.05; the least Int; a Bool; an empty Null
-pub float-shown : valueOf [] (record { name = 0; tag = 4; a = 0x3FF8000000000000; b = 0 }) ≡ 0x33 ∷ 0x66 ∷ 0x66 ∷ 0x38 ∷ 0x30 ∷ 0x30 ∷ 0x30 ∷ 0x30 ∷ 0x30 ∷ 0x30 ∷ 0x30 ∷ 0x30 ∷ 0x30 ∷ 0x30 ∷ 0x30 ∷ 0x30 ∷ []
+pub float-shown : valueOf [] (record { name = 0; tag = 4; a = 0x3FF8000000000000; b = 0 })
+    ≡ 0x33 ∷ 0x66 ∷ 0x66 ∷ 0x38 ∷ 0x30 ∷ 0x30 ∷ 0x30 ∷ 0x30 ∷ 0x30 ∷ 0x30 ∷ 0x30 ∷ 0x30 ∷ 0x30 ∷ 0x30 ∷ 0x30 ∷ 0x30 ∷ []
 unfolding valueOf floatText hexOf bytesOf
 float-shown = refl
 
@@ -83,7 +92,8 @@ pub small-shown : valueOf [] (record { name = 0; tag = 3; a = 184467440737095516
 unfolding valueOf numberText scalarOf decimalText digitCount
 small-shown = refl
 
-pub least-shown : valueOf [] (record { name = 0; tag = 2; a = 9223372036854775808; b = 0 }) ≡ 0x2D ∷ 0x39 ∷ 0x32 ∷ 0x32 ∷ 0x33 ∷ 0x33 ∷ 0x37 ∷ 0x32 ∷ 0x30 ∷ 0x33 ∷ 0x36 ∷ 0x38 ∷ 0x35 ∷ 0x34 ∷ 0x37 ∷ 0x37 ∷ 0x35 ∷ 0x38 ∷ 0x30 ∷ 0x38 ∷ []
+pub least-shown : valueOf [] (record { name = 0; tag = 2; a = 9223372036854775808; b = 0 })
+    ≡ 0x2D ∷ 0x39 ∷ 0x32 ∷ 0x32 ∷ 0x33 ∷ 0x33 ∷ 0x37 ∷ 0x32 ∷ 0x30 ∷ 0x33 ∷ 0x36 ∷ 0x38 ∷ 0x35 ∷ 0x34 ∷ 0x37 ∷ 0x37 ∷ 0x35 ∷ 0x38 ∷ 0x30 ∷ 0x38 ∷ []
 unfolding valueOf numberText scalarOf digitCount
 least-shown = refl
 

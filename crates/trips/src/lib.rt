@@ -29,7 +29,8 @@ pub extern "C" fn trip_is_fitting(
     text: &[u8],
     counts: &mut [i64],
 ) -> u32
-    ensures { λ r. ⌜ r ≡ cond (leb (workFor (now (layout .entry))) (length (now (counts .entry))) && fitting (now (layout .entry)) (now (masks .entry)) (now (items .entry)) (now (text .entry))) 1 0 ⌝ }
+    ensures { λ r. ⌜ r ≡ cond
+        (leb (workFor (now (layout .entry))) (length (now (counts .entry))) && fitting (now (layout .entry)) (now (masks .entry)) (now (items .entry)) (now (text .entry))) 1 0 ⌝ }
     ensures { λ _. ⌜ now (counts .exit) ≡ replicate (length (now (counts .entry))) (pos 0) ⌝ }
 {
     if fitting::is_fitting(layout, masks, items, text, counts) {

@@ -37,7 +37,10 @@ nested-loop-holds : (t : ℕ) → nested-lts.Need-loop-holds (nested-claims t) (
 nested-loop-holds t c = (omega arith, refl)
 
 nested-returns : (t : ℕ) → nested-lts.Need-returns (nested-claims t) (nested-at t) nested.Post nested-Inv-loop nested-μ-loop
-nested-returns t c = sym (c .before .before .loop .inv .1 ∙ in-deep (c .before .before .before .before .before .args .spans .now) (c .before .before .before .before .before .args .groups .now) (c .before .before .loop .i) (c .before .before .before .before .before .args .hi) (c .before .before .before .before .before .args .levels) (c .before .loop-test .taken) (c .if1 .taken))
+nested-returns t c =
+    let at-args = c .before .before .before .before .before .args in
+    let at-loop = c .before .before .loop in
+    sym (at-loop .inv .1 ∙ in-deep (at-args .spans .now) (at-args .groups .now) (at-loop .i) (at-args .hi) (at-args .levels) (c .before .loop-test .taken) (c .if1 .taken))
 
 nested-mul-span : (t : ℕ) → nested-lts.Need-mul-span (nested-claims t) (nested-at t) nested.Post nested-Inv-loop nested-μ-loop
 nested-mul-span t c = search needs
@@ -46,7 +49,9 @@ nested-shared-slice-read-span : (t : ℕ) → nested-lts.Need-shared-slice-read-
 nested-shared-slice-read-span t c = search needs
 
 nested-cast-end-of : (t : ℕ) → nested-lts.Need-cast-end-of (nested-claims t) (nested-at t) nested.Post nested-Inv-loop nested-μ-loop
-nested-cast-end-of t c = omega (arith, c .shared-slice-known3 .given (c .before .before .before .loop .i))
+nested-cast-end-of t c =
+    let at-loop = c .before .before .before .loop in
+    omega (arith, c .shared-slice-known3 .given (at-loop .i))
 
 nested-end-of-requires : (t : ℕ) → nested-lts.Need-end-of-requires (nested-claims t) (nested-at t) nested.Post nested-Inv-loop nested-μ-loop
 nested-end-of-requires t c κs = search needs
@@ -64,7 +69,13 @@ nested-span-ok-requires : (t : ℕ) → nested-lts.Need-span-ok-requires (nested
 nested-span-ok-requires t c κs = search needs
 
 nested-returns-2 : (t : ℕ) → nested-lts.Need-returns-2 (nested-claims t) (nested-at t) nested.Post nested-Inv-loop nested-μ-loop
-nested-returns-2 t c = sym (c .before .before .before .before .before .before .before .loop .inv .1 ∙ in-span (c .before .before .before .before .before .before .before .before .before .before .args .spans .now) (c .before .before .before .before .before .before .before .before .before .before .args .groups .now) (c .before .before .before .before .before .before .before .loop .i) (c .before .before .before .before .before .before .before .before .before .before .args .hi) (c .before .before .before .before .before .before .before .before .before .before .args .levels) (c .before .before .before .end-of .result) (c .before .before .before .before .before .before .loop-test .taken) (c .before .before .before .end-of .ensures) (c .before .before .before .before .before .if1 .left) (c .before .span-ok .result) (c .before .span-ok .ensures) (not-true _ (c .if2 .taken)))
+nested-returns-2 t c =
+    let at-args = c .before .before .before .before .before .before .before .before .before .before .args in
+    let at-loop = c .before .before .before .before .before .before .before .loop in
+    let at-loop-test = c .before .before .before .before .before .before .loop-test in
+    let at-if1 = c .before .before .before .before .before .if1 in
+    let at-end-of = c .before .before .before .end-of in
+    sym (at-loop .inv .1 ∙ in-span (at-args .spans .now) (at-args .groups .now) (at-loop .i) (at-args .hi) (at-args .levels) (at-end-of .result) (at-loop-test .taken) (at-end-of .ensures) (at-if1 .left) (c .before .span-ok .result) (c .before .span-ok .ensures) (not-true _ (c .if2 .taken)))
 
 nested-add-nested : (t : ℕ) → nested-lts.Need-add-nested (nested-claims t) (nested-at t) nested.Post nested-Inv-loop nested-μ-loop
 nested-add-nested t c = omega arith
@@ -76,16 +87,34 @@ nested-nested-requires : (t : ℕ) → nested-lts.Need-nested-requires (nested-c
 nested-nested-requires t c κs = search needs
 
 nested-returns-3 : (t : ℕ) → nested-lts.Need-returns-3 (nested-claims t) (nested-at t) nested.Post nested-Inv-loop nested-μ-loop
-nested-returns-3 t c = sym (c .before .before .before .before .before .before .before .before .before .loop .inv .1 ∙ in-inner (c .before .before .before .before .before .before .before .before .before .before .before .before .args .spans .now) (c .before .before .before .before .before .before .before .before .before .before .before .before .args .groups .now) (c .before .before .before .before .before .before .before .before .before .loop .i) (c .before .before .before .before .before .before .before .before .before .before .before .before .args .hi) (c .before .before .before .before .before .before .before .before .before .before .before .before .args .levels) (c .before .before .before .before .before .end-of .result) (c .before .before .before .before .before .before .before .before .loop-test .taken) (c .before .before .before .before .before .end-of .ensures) (c .before .before .before .before .before .before .before .if1 .left) (c .before .before .before .span-ok .result) (c .before .before .before .span-ok .ensures) (not-false _ (c .before .before .if2 .left)) (sym (c .before .nested .ensures) ∙ not-true _ (c .if3 .taken)))
+nested-returns-3 t c =
+    let at-args = c .before .before .before .before .before .before .before .before .before .before .before .before .args in
+    let at-loop = c .before .before .before .before .before .before .before .before .before .loop in
+    let at-loop-test = c .before .before .before .before .before .before .before .before .loop-test in
+    let at-if1 = c .before .before .before .before .before .before .before .if1 in
+    let at-end-of = c .before .before .before .before .before .end-of in
+    let at-span-ok = c .before .before .before .span-ok in
+    let at-if2 = c .before .before .if2 in
+    sym (at-loop .inv .1 ∙ in-inner (at-args .spans .now) (at-args .groups .now) (at-loop .i) (at-args .hi) (at-args .levels) (at-end-of .result) (at-loop-test .taken) (at-end-of .ensures) (at-if1 .left) (at-span-ok .result) (at-span-ok .ensures) (not-false _ (at-if2 .left)) (sym (c .before .nested .ensures) ∙ not-true _ (c .if3 .taken)))
 
 nested-loop-less : (t : ℕ) → nested-lts.Need-loop-less (nested-claims t) (nested-at t) nested.Post nested-Inv-loop nested-μ-loop
 nested-loop-less t c = omega arith
 
 nested-loop-again : (t : ℕ) → nested-lts.Need-loop-again (nested-claims t) (nested-at t) nested.Post nested-Inv-loop nested-μ-loop
-nested-loop-again t c = (omega arith, c .before .before .before .before .before .before .before .before .before .loop .inv .1 ∙ in-next (c .before .before .before .before .before .before .before .before .before .before .before .before .args .spans .now) (c .before .before .before .before .before .before .before .before .before .before .before .before .args .groups .now) (c .before .before .before .before .before .before .before .before .before .loop .i) (c .before .before .before .before .before .before .before .before .before .before .before .before .args .hi) (c .before .before .before .before .before .before .before .before .before .before .before .before .args .levels) (c .before .before .before .before .before .end-of .result) (c .before .before .before .before .before .before .before .before .loop-test .taken) (c .before .before .before .before .before .end-of .ensures) (c .before .before .before .before .before .before .before .if1 .left) (c .before .before .before .span-ok .result) (c .before .before .before .span-ok .ensures) (not-false _ (c .before .before .if2 .left)) (sym (c .before .nested .ensures) ∙ not-false _ (c .if3 .left)))
+nested-loop-again t c =
+    let at-args = c .before .before .before .before .before .before .before .before .before .before .before .before .args in
+    let at-loop = c .before .before .before .before .before .before .before .before .before .loop in
+    let at-loop-test = c .before .before .before .before .before .before .before .before .loop-test in
+    let at-if1 = c .before .before .before .before .before .before .before .if1 in
+    let at-end-of = c .before .before .before .before .before .end-of in
+    let at-span-ok = c .before .before .before .span-ok in
+    let at-if2 = c .before .before .if2 in
+    (omega arith, at-loop .inv .1 ∙ in-next (at-args .spans .now) (at-args .groups .now) (at-loop .i) (at-args .hi) (at-args .levels) (at-end-of .result) (at-loop-test .taken) (at-end-of .ensures) (at-if1 .left) (at-span-ok .result) (at-span-ok .ensures) (not-false _ (at-if2 .left)) (sym (c .before .nested .ensures) ∙ not-false _ (c .if3 .left)))
 
 nested-returns-4 : (t : ℕ) → nested-lts.Need-returns-4 (nested-claims t) (nested-at t) nested.Post nested-Inv-loop nested-μ-loop
-nested-returns-4 t c = sym (c .before .loop .inv .1 ∙ in-end (c .before .before .before .before .args .spans .now) (c .before .before .before .before .args .groups .now) (c .before .loop .i) (c .before .before .before .before .args .hi) (c .before .before .before .before .args .levels) (c .loop-test .left))
+nested-returns-4 t c =
+    let at-args = c .before .before .before .before .args in
+    sym (c .before .loop .inv .1 ∙ in-end (at-args .spans .now) (at-args .groups .now) (c .before .loop .i) (at-args .hi) (at-args .levels) (c .loop-test .left))
 
 pub +nested-spec : {M : Type 1} → statement M
 +nested-spec = close μ-nested λ t. nested-lts.spec (nested-claims t)

@@ -25,10 +25,13 @@ same-length-2 : tie.Need-same-length-2
 same-length-2 c = search needs
 
 returns : tie.Need-returns
-returns c = (
-  c .answer .ensures ∙ answer-is (c .before .before .before .before .before .before .before .before .before .before .before .before .before .before .before .args .text .now) (c .before .before .before .before .before .before .before .before .before .judge .result) _ _ (c .before .before .before .before .before .before .before .before .before .judge .ensures) (c .before .before .at-most .result) (c .before .before .at-most .ensures) (c .before .nested .result) (c .before .nested .ensures) (c .before .before .before .before .before .before .before .before .before .before .before .before .before .before .before .args .words) (c .before .before .before .before .before .before .before .before .before .before .before .before .before .before .before .args .masks),
-  λ z. text-small (c .before .before .before .before .before .before .before .before .before .before .before .before .before .before .before .args .text .now) (c .before .before .before .before .before .before .before .before .before .judge .result) _ _ (c .before .before .before .before .before .before .before .before .before .judge .ensures) (c .before .before .at-most .result) (c .before .before .at-most .ensures) (c .before .nested .result) (c .before .nested .ensures) (c .before .before .before .before .before .before .before .before .before .before .before .before .before .before .before .args .words) (c .before .before .before .before .before .before .before .before .before .before .before .before .before .before .before .args .masks) (number-given (c .before .before .before .before .before .before .before .before .before .judge .result) (c .before .nested .result) (c .before .before .before .before .before .before .before .before .before .before .before .before .before .before .before .args .words) (c .before .before .before .before .before .before .before .before .before .before .before .before .before .before .before .args .masks) (c .answer .result) (c .answer .ensures) z),
-)
+returns c =
+    let at-args = c .before .before .before .before .before .before .before .before .before .before .before .before .before .before .before .args in
+    let at-judge = c .before .before .before .before .before .before .before .before .before .judge in
+    let at-at-most = c .before .before .at-most in (
+      c .answer .ensures ∙ answer-is (at-args .text .now) (at-judge .result) _ _ (at-judge .ensures) (at-at-most .result) (at-at-most .ensures) (c .before .nested .result) (c .before .nested .ensures) (at-args .words) (at-args .masks),
+      λ z. text-small (at-args .text .now) (at-judge .result) _ _ (at-judge .ensures) (at-at-most .result) (at-at-most .ensures) (c .before .nested .result) (c .before .nested .ensures) (at-args .words) (at-args .masks) (number-given (at-judge .result) (c .before .nested .result) (at-args .words) (at-args .masks) (c .answer .result) (c .answer .ensures) z),
+    )
 
 pub ask-spec : {M : Type 1} → statement M
 ask-spec =

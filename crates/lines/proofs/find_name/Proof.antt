@@ -21,8 +21,10 @@ loop-holds c = ((omega arith, omega arith), sym (zero-add _))
 
 returns : tie.Need-returns Inv-loop μ-loop
 returns c =
-    let a = c .before .before .before .before .before .before .args in
-    sym (c .before .before .loop .inv .1 ∙ index-end (a .text .now) (a .starts .now) (a .count) (c .before .before .loop .k) (a .name .now) (omega arith))
+    let at-args = c .before .before .before .before .before .before .args in
+    let at-loop = c .before .before .loop in
+    let a = at-args in
+    sym (at-loop .inv .1 ∙ index-end (a .text .now) (a .starts .now) (a .count) (at-loop .k) (a .name .now) (omega arith))
 
 mul-wide : tie.Need-mul-wide Inv-loop μ-loop
 mul-wide c = search needs
@@ -41,8 +43,14 @@ same-name-requires c κs = search needs
 
 returns-2 : tie.Need-returns-2 Inv-loop μ-loop
 returns-2 c =
-    let a = c .before .before .before .before .before .before .before .before .before .before .before .args in
-    sym (c .before .before .before .before .before .before .before .loop .inv .1 ∙ index-stop (a .text .now) (a .starts .now) (a .count) (c .before .before .before .before .before .before .before .loop .k) (a .name .now) (c .before .before .before .before .before .before .loop-test .taken) (c .before .before .before .before .before .if1 .left) (ap (sameName (a .name .now)) (sym (c .before .before .name-at .ensures .0 ∙ ap (lineFrom (a .text .now)) (c .before .before .before .wide .ensures))) ∙ sym (c .before .same-name .ensures) ∙ c .if2 .taken))
+    let at-args = c .before .before .before .before .before .before .before .before .before .before .before .args in
+    let at-loop = c .before .before .before .before .before .before .before .loop in
+    let at-loop-test = c .before .before .before .before .before .before .loop-test in
+    let at-if1 = c .before .before .before .before .before .if1 in
+    let at-wide = c .before .before .before .wide in
+    let at-name-at = c .before .before .name-at in
+    let a = at-args in
+    sym (at-loop .inv .1 ∙ index-stop (a .text .now) (a .starts .now) (a .count) (at-loop .k) (a .name .now) (at-loop-test .taken) (at-if1 .left) (ap (sameName (a .name .now)) (sym (at-name-at .ensures .0 ∙ ap (lineFrom (a .text .now)) (at-wide .ensures))) ∙ sym (c .before .same-name .ensures) ∙ c .if2 .taken))
 
 add-k : tie.Need-add-k Inv-loop μ-loop
 add-k c = search needs
@@ -52,12 +60,19 @@ loop-less c = search needs
 
 loop-again : tie.Need-loop-again Inv-loop μ-loop
 loop-again c =
-    let a = c .before .before .before .before .before .before .before .before .before .before .before .args in
-    ((omega arith, omega arith), c .before .before .before .before .before .before .before .loop .inv .1 ∙ index-go (a .text .now) (a .starts .now) (a .count) (c .before .before .before .before .before .before .before .loop .k) (a .name .now) (c .before .before .before .before .before .before .loop-test .taken) (c .before .before .before .before .before .if1 .left) (ap (sameName (a .name .now)) (sym (c .before .before .name-at .ensures .0 ∙ ap (lineFrom (a .text .now)) (c .before .before .before .wide .ensures))) ∙ sym (c .before .same-name .ensures) ∙ c .if2 .left))
+    let at-args = c .before .before .before .before .before .before .before .before .before .before .before .args in
+    let at-loop = c .before .before .before .before .before .before .before .loop in
+    let at-loop-test = c .before .before .before .before .before .before .loop-test in
+    let at-if1 = c .before .before .before .before .before .if1 in
+    let at-wide = c .before .before .before .wide in
+    let at-name-at = c .before .before .name-at in
+    let a = at-args in
+    ((omega arith, omega arith), at-loop .inv .1 ∙ index-go (a .text .now) (a .starts .now) (a .count) (at-loop .k) (a .name .now) (at-loop-test .taken) (at-if1 .left) (ap (sameName (a .name .now)) (sym (at-name-at .ensures .0 ∙ ap (lineFrom (a .text .now)) (at-wide .ensures))) ∙ sym (c .before .same-name .ensures) ∙ c .if2 .left))
 
 returns-3 : tie.Need-returns-3 Inv-loop μ-loop
 returns-3 c =
-    let a = c .before .before .before .before .before .args in
+    let at-args = c .before .before .before .before .before .args in
+    let a = at-args in
     sym (c .before .loop .inv .1 ∙ index-end (a .text .now) (a .starts .now) (a .count) (c .before .loop .k) (a .name .now) (omega arith))
 
 pub find-name-spec : {M : Type 1} → statement M

@@ -15,7 +15,9 @@ abbrev μ-loop : tie.MeasureT-loop
 μ-loop a b i₀ i = length a - i
 
 returns : tie.Need-returns Inv-loop μ-loop
-returns c = sym (same-short (c .before .before .before .args .a .now) (c .before .before .before .args .b .now) (c .if1 .taken))
+returns c =
+    let at-args = c .before .before .before .args in
+    sym (same-short (at-args .a .now) (at-args .b .now) (c .if1 .taken))
 
 loop-holds : tie.Need-loop-holds Inv-loop μ-loop
 loop-holds c = (omega arith, (c .if1 .left, refl))
@@ -33,7 +35,12 @@ fold-requires-2 : tie.Need-fold-requires-2 Inv-loop μ-loop
 fold-requires-2 c κs = search needs
 
 returns-2 : tie.Need-returns-2 Inv-loop μ-loop
-returns-2 c = sym (c .before .before .before .before .before .before .loop .inv .1 .1 ∙ same-stop (c .before .before .before .before .before .before .before .before .before .before .args .a .now) (c .before .before .before .before .before .before .before .before .before .before .args .b .now) (c .before .before .before .before .before .before .loop .i) (c .before .before .before .before .before .loop-test .taken) (omega arith) (λ q. c .if2 .taken (c .before .before .before .fold .ensures ∙ q ∙ sym (c .before .fold2 .ensures))))
+returns-2 c =
+    let at-args = c .before .before .before .before .before .before .before .before .before .before .args in
+    let at-loop = c .before .before .before .before .before .before .loop in
+    let at-loop-test = c .before .before .before .before .before .loop-test in
+    let at-fold = c .before .before .before .fold in
+    sym (at-loop .inv .1 .1 ∙ same-stop (at-args .a .now) (at-args .b .now) (at-loop .i) (at-loop-test .taken) (omega arith) (λ q. c .if2 .taken (at-fold .ensures ∙ q ∙ sym (c .before .fold2 .ensures))))
 
 add-i : tie.Need-add-i Inv-loop μ-loop
 add-i c = search needs
@@ -42,10 +49,17 @@ loop-less : tie.Need-loop-less Inv-loop μ-loop
 loop-less c = search needs
 
 loop-again : tie.Need-loop-again Inv-loop μ-loop
-loop-again c = (omega arith, (c .before .before .before .before .before .before .loop .inv .1 .0, c .before .before .before .before .before .before .loop .inv .1 .1 ∙ same-go (c .before .before .before .before .before .before .before .before .before .before .args .a .now) (c .before .before .before .before .before .before .before .before .before .before .args .b .now) (c .before .before .before .before .before .before .loop .i) (c .before .before .before .before .before .loop-test .taken) (omega arith) (sym (c .before .before .before .fold .ensures) ∙ c .if2 .left ∙ c .before .fold2 .ensures)))
+loop-again c =
+    let at-args = c .before .before .before .before .before .before .before .before .before .before .args in
+    let at-loop = c .before .before .before .before .before .before .loop in
+    let at-loop-test = c .before .before .before .before .before .loop-test in
+    let at-fold = c .before .before .before .fold in
+    (omega arith, (at-loop .inv .1 .0, at-loop .inv .1 .1 ∙ same-go (at-args .a .now) (at-args .b .now) (at-loop .i) (at-loop-test .taken) (omega arith) (sym (at-fold .ensures) ∙ c .if2 .left ∙ c .before .fold2 .ensures)))
 
 returns-3 : tie.Need-returns-3 Inv-loop μ-loop
-returns-3 c = sym (c .before .loop .inv .1 .1 ∙ same-end (c .before .before .before .before .before .args .a .now) (c .before .before .before .before .before .args .b .now) (c .before .loop .i) (c .loop-test .left) (omega arith))
+returns-3 c =
+    let at-args = c .before .before .before .before .before .args in
+    sym (c .before .loop .inv .1 .1 ∙ same-end (at-args .a .now) (at-args .b .now) (c .before .loop .i) (c .loop-test .left) (omega arith))
 
 pub same-name-spec : {M : Type 1} → statement M
 same-name-spec =

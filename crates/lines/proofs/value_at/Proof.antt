@@ -7,7 +7,9 @@ use Rattle.lines.proofs.value_at.Statement.{statement}
 use Rattle.lines.proofs.value_at.Tie as tie
 
 returns : tie.Need-returns
-returns c = line-past (c .before .before .before .args .word .now) (c .before .before .before .args .text .now) (c .before .before .before .args .at) (c .if1 .taken)
+returns c =
+    let at-args = c .before .before .before .args in
+    line-past (at-args .word .now) (at-args .text .now) (at-args .at) (c .if1 .taken)
 
 sub-rest : tie.Need-sub-rest
 sub-rest c = search needs
@@ -22,7 +24,9 @@ line-end-requires : tie.Need-line-end-requires
 line-end-requires c κs = search needs
 
 returns-2 : tie.Need-returns-2
-returns-2 c = line-open (c .before .before .before .before .before .before .args .text .now) (c .before .before .before .before .before .before .args .at) (c .before .line-end .result) (c .before .line-end .ensures .1) (c .before .line-end .ensures .0) (c .before .before .before .before .before .before .args .word .now) (c .if2 .taken)
+returns-2 c =
+    let at-args = c .before .before .before .before .before .before .args in
+    line-open (at-args .text .now) (at-args .at) (c .before .line-end .result) (c .before .line-end .ensures .1) (c .before .line-end .ensures .0) (at-args .word .now) (c .if2 .taken)
 
 sub-line : tie.Need-sub-line
 sub-line c = search needs
@@ -49,10 +53,18 @@ add-t18 : tie.Need-add-t18
 add-t18 c = search needs
 
 returns-3 : tie.Need-returns-3
-returns-3 c = line-found (c .before .before .before .before .before .before .before .before .before .args .text .now) (c .before .before .before .before .before .before .before .before .before .args .at) (c .before .before .before .before .line-end .result) (c .before .before .before .before .line-end .ensures .1) (c .before .before .before .before .line-end .ensures .0) (c .before .before .before .before .before .before .before .before .before .args .word .now) (c .before .before .before .if2 .left) (sym (c .before .starts-with .ensures) ∙ c .if3 .taken)
+returns-3 c =
+    let at-args = c .before .before .before .before .before .before .before .before .before .args in
+    let at-line-end = c .before .before .before .before .line-end in
+    let at-if2 = c .before .before .before .if2 in
+    line-found (at-args .text .now) (at-args .at) (at-line-end .result) (at-line-end .ensures .1) (at-line-end .ensures .0) (at-args .word .now) (at-if2 .left) (sym (c .before .starts-with .ensures) ∙ c .if3 .taken)
 
 returns-4 : tie.Need-returns-4
-returns-4 c = line-other (c .before .before .before .before .before .before .before .before .before .args .text .now) (c .before .before .before .before .before .before .before .before .before .args .at) (c .before .before .before .before .line-end .result) (c .before .before .before .before .line-end .ensures .1) (c .before .before .before .before .line-end .ensures .0) (c .before .before .before .before .before .before .before .before .before .args .word .now) (c .before .before .before .if2 .left) (sym (c .before .starts-with .ensures) ∙ c .if3 .left)
+returns-4 c =
+    let at-args = c .before .before .before .before .before .before .before .before .before .args in
+    let at-line-end = c .before .before .before .before .line-end in
+    let at-if2 = c .before .before .before .if2 in
+    line-other (at-args .text .now) (at-args .at) (at-line-end .result) (at-line-end .ensures .1) (at-line-end .ensures .0) (at-args .word .now) (at-if2 .left) (sym (c .before .starts-with .ensures) ∙ c .if3 .left)
 
 pub value-at-spec : {M : Type 1} → statement M
 value-at-spec =

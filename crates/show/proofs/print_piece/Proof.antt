@@ -18,10 +18,17 @@ show-at-requires : tie.Need-show-at-requires
 show-at-requires c κs = search needs
 
 array-share-prefix-out : tie.Need-array-share-prefix-out
-array-share-prefix-out c = inside (c .before .before .before .before .before .before .args .at) (length (c .before .before .before .large-buffer .result)) (shown (c .before .before .before .before .before .before .args .layout .now) (c .before .before .before .before .before .before .args .layout-more) (c .before .before .before .before .before .before .args .«record» .now) (c .before .before .before .before .before .before .args .record-more)) (c .before .before .before .large-buffer .result) _ (c .before .show-at .result) (c .before .show-at .ensures .0) (c .before .show-at .ensures .1)
+array-share-prefix-out c =
+    let at-args = c .before .before .before .before .before .before .args in
+    let at-large-buffer = c .before .before .before .large-buffer in
+    inside (at-args .at) (length (at-large-buffer .result)) (shown (at-args .layout .now) (at-args .layout-more) (at-args .«record» .now) (at-args .record-more)) (at-large-buffer .result) _ (c .before .show-at .result) (c .before .show-at .ensures .0) (c .before .show-at .ensures .1)
 
 slice-aggregate-write-all : tie.Need-slice-aggregate-write-all
-slice-aggregate-write-all c = sym (length-take-le (c .before .before .show-at .result) _ (inside (c .before .before .before .before .before .before .before .args .at) (length (c .before .before .before .before .large-buffer .result)) (shown (c .before .before .before .before .before .before .before .args .layout .now) (c .before .before .before .before .before .before .before .args .layout-more) (c .before .before .before .before .before .before .before .args .«record» .now) (c .before .before .before .before .before .before .before .args .record-more)) (c .before .before .before .before .large-buffer .result) _ (c .before .before .show-at .result) (c .before .before .show-at .ensures .0) (c .before .before .show-at .ensures .1)))
+slice-aggregate-write-all c =
+    let at-args = c .before .before .before .before .before .before .before .args in
+    let at-large-buffer = c .before .before .before .before .large-buffer in
+    let at-show-at = c .before .before .show-at in
+    sym (length-take-le (at-show-at .result) _ (inside (at-args .at) (length (at-large-buffer .result)) (shown (at-args .layout .now) (at-args .layout-more) (at-args .«record» .now) (at-args .record-more)) (at-large-buffer .result) _ (at-show-at .result) (at-show-at .ensures .0) (at-show-at .ensures .1)))
 
 write-all-requires : tie.Need-write-all-requires
 write-all-requires c κs = search needs

@@ -22,7 +22,12 @@ same-length : tie.Need-same-length
 same-length c = search needs
 
 returns : tie.Need-returns
-returns c = next (state (c .before .before .before .before .before .before .before .before .before .before .before .before .before .before .before .args .out .now) (c .before .before .before .before .before .before .before .before .before .before .before .before .before .before .before .args .s)) _ _ _ _ _ _ (c .before .before .before .before .before .before .before .before .before .before .push-all .ensures) (next _ _ _ _ _ _ _ (c .before .before .before .before .before .before .push-name .ensures) (c .before .before .push .ensures))
+returns c =
+    let at-args = c .before .before .before .before .before .before .before .before .before .before .before .before .before .before .before .args in
+    let at-push-all = c .before .before .before .before .before .before .before .before .before .before .push-all in
+    let at-push-name = c .before .before .before .before .before .before .push-name in
+    let at-push = c .before .before .push in
+    next (state (at-args .out .now) (at-args .s)) _ _ _ _ _ _ (at-push-all .ensures) (next _ _ _ _ _ _ _ (at-push-name .ensures) (at-push .ensures))
 
 pub name-line-spec : {M : Type 1} → statement M
 name-line-spec =

@@ -18,7 +18,12 @@ same-length : tie.Need-same-length
 same-length c = search needs
 
 returns : tie.Need-returns
-returns c = c .before .before .push .ensures ∙ ap (all (state (c .before .before .before .before .before .before .before .args .out .now) (c .before .before .before .before .before .before .before .args .s))) (escape-plain (c .before .before .before .before .before .before .before .args .b) (sym (c .before .before .before .before .before .is-plain .ensures) ∙ c .before .before .before .before .if1 .taken))
+returns c =
+    let at-args = c .before .before .before .before .before .before .before .args in
+    let at-is-plain = c .before .before .before .before .before .is-plain in
+    let at-if1 = c .before .before .before .before .if1 in
+    let at-push = c .before .before .push in
+    at-push .ensures ∙ ap (all (state (at-args .out .now) (at-args .s))) (escape-plain (at-args .b) (sym (at-is-plain .ensures) ∙ at-if1 .taken))
 
 push-requires-2 : tie.Need-push-requires-2
 push-requires-2 c κs = search needs
@@ -33,7 +38,13 @@ same-length-2 : tie.Need-same-length-2
 same-length-2 c = search needs
 
 returns-2 : tie.Need-returns-2
-returns-2 c = next (state (c .before .before .before .before .before .before .before .before .before .before .before .before .args .out .now) (c .before .before .before .before .before .before .before .before .before .before .before .before .args .s)) _ _ _ _ _ _ (c .before .before .before .before .before .before .before .push2 .ensures) (c .before .before .push-hex .ensures) ∙ ap (all (state (c .before .before .before .before .before .before .before .before .before .before .before .before .args .out .now) (c .before .before .before .before .before .before .before .before .before .before .before .before .args .s))) (escape-other (c .before .before .before .before .before .before .before .before .before .before .before .before .args .b) (sym (c .before .before .before .before .before .before .before .before .before .before .is-plain .ensures) ∙ c .before .before .before .before .before .before .before .before .before .if1 .left))
+returns-2 c =
+    let at-args = c .before .before .before .before .before .before .before .before .before .before .before .before .args in
+    let at-is-plain = c .before .before .before .before .before .before .before .before .before .before .is-plain in
+    let at-if1 = c .before .before .before .before .before .before .before .before .before .if1 in
+    let at-push2 = c .before .before .before .before .before .before .before .push2 in
+    let at-push-hex = c .before .before .push-hex in
+    next (state (at-args .out .now) (at-args .s)) _ _ _ _ _ _ (at-push2 .ensures) (at-push-hex .ensures) ∙ ap (all (state (at-args .out .now) (at-args .s))) (escape-other (at-args .b) (sym (at-is-plain .ensures) ∙ at-if1 .left))
 
 pub push-escape-spec : {M : Type 1} → statement M
 push-escape-spec =

@@ -32,7 +32,12 @@ same-length : tie.Need-same-length
 same-length c = search needs
 
 returns : tie.Need-returns
-returns c = c .before .before .push-all .ensures ∙ ap (all (state (c .before .before .before .before .before .before .before .before .before .before .before .args .out .now) (c .before .before .before .before .before .before .before .before .before .before .before .args .s))) (hex-front (c .before .before .before .before .before .before .before .before .before .before .before .args .part .now) (replicate 16 0) _ (c .before .before .before .before .before .before .before .before .before .before .before .pre) refl (c .before .before .before .before .before .before .before .to-hex .ensures .1))
+returns c =
+    let at-args = c .before .before .before .before .before .before .before .before .before .before .before .args in
+    let at-pre = c .before .before .before .before .before .before .before .before .before .before .before .pre in
+    let at-to-hex = c .before .before .before .before .before .before .before .to-hex in
+    let at-push-all = c .before .before .push-all in
+    at-push-all .ensures ∙ ap (all (state (at-args .out .now) (at-args .s))) (hex-front (at-args .part .now) (replicate 16 0) _ (at-pre) refl (at-to-hex .ensures .1))
 
 pub push-hex-spec : {M : Type 1} → statement M
 push-hex-spec =

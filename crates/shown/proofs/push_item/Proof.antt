@@ -21,7 +21,12 @@ same-length : tie.Need-same-length
 same-length c = search needs
 
 returns : tie.Need-returns
-returns c = next (state (c .before .before .before .before .before .before .before .before .before .before .before .before .before .before .before .args .out .now) (c .before .before .before .before .before .before .before .before .before .before .before .before .before .before .before .args .s)) _ _ _ _ _ _ (c .before .before .before .before .before .before .before .before .before .before .name-line .ensures) (next _ _ _ _ _ _ _ (c .before .before .before .before .before .before .kind-line .ensures) (c .before .before .value-line .ensures)) ∙ ap (all (state (c .before .before .before .before .before .before .before .before .before .before .before .before .before .before .before .args .out .now) (c .before .before .before .before .before .before .before .before .before .before .before .before .before .before .before .args .s))) (lines-is (c .before .before .before .before .before .before .before .before .before .before .before .before .before .before .before .args .layout .now) (c .before .before .before .before .before .before .before .before .before .before .before .before .before .before .before .args .text .now) (c .before .before .before .before .before .before .before .before .before .before .before .before .before .before .before .args .it))
+returns c =
+    let at-args = c .before .before .before .before .before .before .before .before .before .before .before .before .before .before .before .args in
+    let at-name-line = c .before .before .before .before .before .before .before .before .before .before .name-line in
+    let at-kind-line = c .before .before .before .before .before .before .kind-line in
+    let at-value-line = c .before .before .value-line in
+    next (state (at-args .out .now) (at-args .s)) _ _ _ _ _ _ (at-name-line .ensures) (next _ _ _ _ _ _ _ (at-kind-line .ensures) (at-value-line .ensures)) ∙ ap (all (state (at-args .out .now) (at-args .s))) (lines-is (at-args .layout .now) (at-args .text .now) (at-args .it))
 
 pub push-item-spec : {M : Type 1} → statement M
 push-item-spec =

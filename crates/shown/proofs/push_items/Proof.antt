@@ -16,7 +16,9 @@ abbrev μ-loop : tie.MeasureT-loop
 μ-loop out₀ layout starts count items text n s₀ k₀ out s k = n - k
 
 loop-holds : tie.Need-loop-holds Inv-loop μ-loop
-loop-holds c = (ap (λ (m : ℕ). all (state (c .before .before .before .before .args .out .now) (c .before .before .before .before .args .from)) (listedFrom (c .before .before .before .before .args .layout .now) (c .before .before .before .before .args .items .now) (c .before .before .before .before .args .text .now) m 0)) (sub-zero _), refl)
+loop-holds c =
+    let at-args = c .before .before .before .before .args in
+    (ap (λ (m : ℕ). all (state (at-args .out .now) (at-args .from)) (listedFrom (at-args .layout .now) (at-args .items .now) (at-args .text .now) m 0)) (sub-zero _), refl)
 
 fetch-requires : tie.Need-fetch-requires Inv-loop μ-loop
 fetch-requires c κs = search needs
@@ -31,7 +33,13 @@ loop-less : tie.Need-loop-less Inv-loop μ-loop
 loop-less c = search needs
 
 loop-again : tie.Need-loop-again Inv-loop μ-loop
-loop-again c = (item-turn _ (c .before .before .before .before .before .before .before .before .before .before .before .args .items .now) _ _ _ (c .before .before .before .before .before .before .loop .out) _ (c .before .before .before .before .before .before .loop .s) _ (c .before .before .before .before .before .before .loop .k) (c .before .before .before .fetch .result) (c .before .before .before .before .before .loop-test .taken) (c .before .before .before .fetch .ensures) (c .before .before .before .before .before .before .loop .inv .0) (c .before .before .push-item .ensures), search needs)
+loop-again c =
+    let at-args = c .before .before .before .before .before .before .before .before .before .before .before .args in
+    let at-loop = c .before .before .before .before .before .before .loop in
+    let at-loop-test = c .before .before .before .before .before .loop-test in
+    let at-fetch = c .before .before .before .fetch in
+    let at-push-item = c .before .before .push-item in
+    (item-turn _ (at-args .items .now) _ _ _ (at-loop .out) _ (at-loop .s) _ (at-loop .k) (at-fetch .result) (at-loop-test .taken) (at-fetch .ensures) (at-loop .inv .0) (at-push-item .ensures), search needs)
 
 same-length : tie.Need-same-length Inv-loop μ-loop
 same-length c = c .before .loop .inv .1

@@ -21,10 +21,18 @@ same-length : tie.Need-same-length
 same-length c = search needs
 
 returns : tie.Need-returns
-returns c = c .before .before .push-all .ensures ∙ ap (all (state (c .before .before .before .before .before .before .before .before .before .args .out .now) (c .before .before .before .before .before .before .before .before .before .args .s))) (name-in (c .before .before .before .before .before .before .before .before .before .args .layout .now) (c .before .before .before .before .before .before .before .before .before .args .name) _ (c .before .before .before .before .before .before .if1 .taken) (c .before .before .before .before .name-with .ensures .0 ∙ c .before .before .before .before .before .before .before .before .before .pre (c .before .before .before .before .before .before .before .before .before .args .name)))
+returns c =
+    let at-args = c .before .before .before .before .before .before .before .before .before .args in
+    let at-pre = c .before .before .before .before .before .before .before .before .before .pre in
+    let at-if1 = c .before .before .before .before .before .before .if1 in
+    let at-name-with = c .before .before .before .before .name-with in
+    let at-push-all = c .before .before .push-all in
+    at-push-all .ensures ∙ ap (all (state (at-args .out .now) (at-args .s))) (name-in (at-args .layout .now) (at-args .name) _ (at-if1 .taken) (at-name-with .ensures .0 ∙ at-pre (at-args .name)))
 
 returns-2 : tie.Need-returns-2
-returns-2 c = nothing (c .before .before .before .args .out .now) (c .before .before .before .args .s) ∙ ap (all (state (c .before .before .before .args .out .now) (c .before .before .before .args .s))) (name-out (c .before .before .before .args .layout .now) (c .before .before .before .args .name) (c .if1 .left))
+returns-2 c =
+    let at-args = c .before .before .before .args in
+    nothing (at-args .out .now) (at-args .s) ∙ ap (all (state (at-args .out .now) (at-args .s))) (name-out (at-args .layout .now) (at-args .name) (c .if1 .left))
 
 pub push-name-spec : {M : Type 1} → statement M
 push-name-spec =

@@ -24,8 +24,11 @@ part-t-start c = search needs
 
 part-t-end : tie.Need-part-t-end
 part-t-end c =
-    let d = c .before .before .before .before .display-scalar in
-    room-told (shownOf (c .before .before .before .before .before .before .before .args .v)) (c .before .before .n .given .0 .0) _ (d .last .1 .0) (sym (ap shownAs (c .before .before .n .given .1)) ∙ d .ensures .0) (d .ensures .1 .0)
+    let at-args = c .before .before .before .before .before .before .before .args in
+    let at-display-scalar = c .before .before .before .before .display-scalar in
+    let at-n = c .before .before .n in
+    let d = at-display-scalar in
+    room-told (shownOf (at-args .v)) (at-n .given .0 .0) _ (d .last .1 .0) (sym (ap shownAs (at-n .given .1)) ∙ d .ensures .0) (d .ensures .1 .0)
 
 push-all-requires : tie.Need-push-all-requires
 push-all-requires c κs = search needs
@@ -35,14 +38,21 @@ same-length c = search needs
 
 returns : tie.Need-returns
 returns c =
-    let d = c .before .before .before .before .before .before .before .before .before .display-scalar in
-    c .before .before .push-all .ensures ∙ ap (all (state (c .before .before .before .before .before .before .before .before .before .before .before .before .args .out .now) (c .before .before .before .before .before .before .before .before .before .before .before .before .args .s))) (number-told (c .before .before .before .before .before .before .before .before .before .before .before .before .args .v) _ (text-told (shownOf (c .before .before .before .before .before .before .before .before .before .before .before .before .args .v)) (c .before .before .before .before .before .before .before .n .given .0 .0) _ (d .last .1 .0) (sym (ap shownAs (c .before .before .before .before .before .before .before .n .given .1)) ∙ d .ensures .0) (d .ensures .1 .0)))
+    let at-args = c .before .before .before .before .before .before .before .before .before .before .before .before .args in
+    let at-display-scalar = c .before .before .before .before .before .before .before .before .before .display-scalar in
+    let at-n = c .before .before .before .before .before .before .before .n in
+    let at-push-all = c .before .before .push-all in
+    let d = at-display-scalar in
+    at-push-all .ensures ∙ ap (all (state (at-args .out .now) (at-args .s))) (number-told (at-args .v) _ (text-told (shownOf (at-args .v)) (at-n .given .0 .0) _ (d .last .1 .0) (sym (ap shownAs (at-n .given .1)) ∙ d .ensures .0) (d .ensures .1 .0)))
 
 enum-told : tie.Need-enum-told
 enum-told c = search needs
 
 returns-2 : tie.Need-returns-2
-returns-2 c = nothing (c .before .before .before .before .before .args .out .now) (c .before .before .before .before .before .args .s) ∙ ap (all (state (c .before .before .before .before .before .args .out .now) (c .before .before .before .before .before .args .s))) (number-none (c .before .before .before .before .before .args .v) (none-told (shownOf (c .before .before .before .before .before .args .v)) (sym (ap shownAs (c .enum-told .given .1)) ∙ c .before .before .display-scalar .ensures .0)))
+returns-2 c =
+    let at-args = c .before .before .before .before .before .args in
+    let at-display-scalar = c .before .before .display-scalar in
+    nothing (at-args .out .now) (at-args .s) ∙ ap (all (state (at-args .out .now) (at-args .s))) (number-none (at-args .v) (none-told (shownOf (at-args .v)) (sym (ap shownAs (c .enum-told .given .1)) ∙ at-display-scalar .ensures .0)))
 
 pub push-number-spec : {M : Type 1} → statement M
 push-number-spec =

@@ -24,7 +24,12 @@ same-length : tie.Need-same-length
 same-length c = search needs
 
 returns : tie.Need-returns
-returns c = next (state (c .before .before .before .before .before .before .before .before .before .before .before .before .before .before .args .out .now) (c .before .before .before .before .before .before .before .before .before .before .before .before .before .before .args .s)) _ _ _ _ _ _ (c .before .before .before .before .before .before .before .before .before .before .push-all .ensures) (next _ _ _ _ _ _ _ (c .before .before .before .before .before .before .push-number .ensures) (c .before .before .push .ensures)) ∙ ap (all (state (c .before .before .before .before .before .before .before .before .before .before .before .before .before .before .args .out .now) (c .before .before .before .before .before .before .before .before .before .before .before .before .before .before .args .s))) (refused-is (c .before .before .before .before .before .before .before .before .before .before .before .before .before .before .args .number))
+returns c =
+    let at-args = c .before .before .before .before .before .before .before .before .before .before .before .before .before .before .args in
+    let at-push-all = c .before .before .before .before .before .before .before .before .before .before .push-all in
+    let at-push-number = c .before .before .before .before .before .before .push-number in
+    let at-push = c .before .before .push in
+    next (state (at-args .out .now) (at-args .s)) _ _ _ _ _ _ (at-push-all .ensures) (next _ _ _ _ _ _ _ (at-push-number .ensures) (at-push .ensures)) ∙ ap (all (state (at-args .out .now) (at-args .s))) (refused-is (at-args .number))
 
 pub push-refused-spec : {M : Type 1} → statement M
 push-refused-spec =

@@ -17,7 +17,12 @@ same-length : tie.Need-same-length
 same-length c = search needs
 
 returns : tie.Need-returns
-returns c = c .before .before .push-text .ensures ∙ ap (all (state (c .before .before .before .before .before .before .before .before .before .args .out .now) (c .before .before .before .before .before .before .before .before .before .args .s))) (value-text (c .before .before .before .before .before .before .before .before .before .args .text .now) (c .before .before .before .before .before .before .before .before .before .args .it) _ (c .before .before .before .before .before .if1 .taken) (c .before .before .before .part-of .ensures))
+returns c =
+    let at-args = c .before .before .before .before .before .before .before .before .before .args in
+    let at-if1 = c .before .before .before .before .before .if1 in
+    let at-part-of = c .before .before .before .part-of in
+    let at-push-text = c .before .before .push-text in
+    at-push-text .ensures ∙ ap (all (state (at-args .out .now) (at-args .s))) (value-text (at-args .text .now) (at-args .it) _ (at-if1 .taken) (at-part-of .ensures))
 
 push-word-requires : tie.Need-push-word-requires
 push-word-requires c κs = search needs
@@ -26,7 +31,11 @@ same-length-2 : tie.Need-same-length-2
 same-length-2 c = search needs
 
 returns-2 : tie.Need-returns-2
-returns-2 c = c .before .before .push-word .ensures ∙ ap (all (state (c .before .before .before .before .before .before .before .before .before .before .args .out .now) (c .before .before .before .before .before .before .before .before .before .before .args .s))) (value-float (c .before .before .before .before .before .before .before .before .before .before .args .text .now) (c .before .before .before .before .before .before .before .before .before .before .args .it) (c .before .before .before .before .if2 .taken))
+returns-2 c =
+    let at-args = c .before .before .before .before .before .before .before .before .before .before .args in
+    let at-if2 = c .before .before .before .before .if2 in
+    let at-push-word = c .before .before .push-word in
+    at-push-word .ensures ∙ ap (all (state (at-args .out .now) (at-args .s))) (value-float (at-args .text .now) (at-args .it) (at-if2 .taken))
 
 number-in-requires : tie.Need-number-in-requires
 number-in-requires c κs = search needs
@@ -38,7 +47,13 @@ same-length-3 : tie.Need-same-length-3
 same-length-3 c = search needs
 
 returns-3 : tie.Need-returns-3
-returns-3 c = c .before .before .push-number .ensures ∙ ap (all (state (c .before .before .before .before .before .before .before .before .before .before .before .args .out .now) (c .before .before .before .before .before .before .before .before .before .before .before .args .s))) (value-number (c .before .before .before .before .before .before .before .before .before .before .before .args .text .now) (c .before .before .before .before .before .before .before .before .before .before .before .args .it) (c .before .before .before .number-in .result) (c .before .before .before .number-in .ensures) (c .before .before .before .before .before .before .before .if1 .left) (c .before .before .before .before .before .if2 .left))
+returns-3 c =
+    let at-args = c .before .before .before .before .before .before .before .before .before .before .before .args in
+    let at-if1 = c .before .before .before .before .before .before .before .if1 in
+    let at-if2 = c .before .before .before .before .before .if2 in
+    let at-number-in = c .before .before .before .number-in in
+    let at-push-number = c .before .before .push-number in
+    at-push-number .ensures ∙ ap (all (state (at-args .out .now) (at-args .s))) (value-number (at-args .text .now) (at-args .it) (at-number-in .result) (at-number-in .ensures) (at-if1 .left) (at-if2 .left))
 
 pub push-value-spec : {M : Type 1} → statement M
 push-value-spec =

@@ -1,7 +1,7 @@
 -- `text_field::place_in` meets its contract: the start is `start_in`'s, the length that of the part which `text_in` cuts.
 use mathlib.Core.Path.{refl, ap}
 use Prim.Native.Nat.{_-_}
-use lib.ListN.{length, take}
+use lib.ListN.{length}
 use borrow.Author.Needs.{needs}
 use Rattle.text_field.proofs.place_in.Statement.{statement}
 use Rattle.text_field.proofs.place_in.Tie as tie

@@ -13,7 +13,8 @@ flag-requires c κs = search needs
 
 returns : tie.Need-returns
 returns c =
-    let a = c .before .before .before .args in
+    let at-args = c .before .before .before .args in
+    let a = at-args in
     unpadded (a .e) (a .at) (c .before .flag .result) (c .before .flag .ensures) (not-true _ (c .if1 .taken)) _
 
 flag-requires-2 : tie.Need-flag-requires-2
@@ -21,11 +22,14 @@ flag-requires-2 c κs = search needs
 
 returns-2 : tie.Need-returns-2
 returns-2 c =
-    let a = c .before .before .before .before .before .args in
+    let at-args = c .before .before .before .before .before .args in
+    let a = at-args in
     unmoved (a .e) (a .at) (c .before .flag2 .result) (c .before .flag2 .ensures) (not-true _ (c .if2 .taken)) _
 
 field-requires : tie.Need-field-requires
-field-requires c κs = c .before .before .before .before .before .pre .0
+field-requires c κs =
+    let at-pre = c .before .before .before .before .before .pre in
+    at-pre .0
 
 low-byte-requires : tie.Need-low-byte-requires
 low-byte-requires c κs = search needs
@@ -35,15 +39,25 @@ pad-start-requires c κs = search needs
 
 add-result : tie.Need-add-result
 add-result c =
-    let a = c .before .before .before .before .before .before .before .before .args in
-    let k : a .at + c .pad-start .result ≤ length (a .s .now) = within (a .at) (a .e .width) (c .pad-start .result) (a .s .now) (c .before .before .field .result .now) (c .before .before .before .before .before .before .before .before .pre .0) (c .before .before .field .ensures .0) (omega (arith, c .pad-start .ensures .0)) in
+    let at-args = c .before .before .before .before .before .before .before .before .args in
+    let at-pre = c .before .before .before .before .before .before .before .before .pre in
+    let at-field = c .before .before .field in
+    let a = at-args in
+    let k : a .at + c .pad-start .result ≤ length (a .s .now) = within (a .at) (a .e .width) (c .pad-start .result) (a .s .now) (at-field .result .now) (at-pre .0) (at-field .ensures .0) (omega (arith, c .pad-start .ensures .0)) in
     omega (arith, k)
 
 returns-3 : tie.Need-returns-3
 returns-3 c =
-    let a = c .before .before .before .before .before .before .before .before .args in
-    padded-start (a .e) (a .at) (c .before .before .before .before .before .before .flag .result) (c .before .before .before .before .before .before .flag .ensures) (not-false _ (c .before .before .before .before .before .if1 .left)) (c .before .before .before .before .flag2 .result) (c .before .before .before .before .flag2 .ensures) (not-false _ (c .before .before .before .if2 .left)) (c .before .low-byte .result) (c .before .low-byte .ensures) (c .before .before .before .before .before .before .before .before .pre .1)
-    (c .pad-start .result) (c .before .before .field .result .now) _ (c .before .before .field .ensures .0) (c .pad-start .ensures .0)
+    let at-args = c .before .before .before .before .before .before .before .before .args in
+    let at-pre = c .before .before .before .before .before .before .before .before .pre in
+    let at-flag = c .before .before .before .before .before .before .flag in
+    let at-if1 = c .before .before .before .before .before .if1 in
+    let at-flag2 = c .before .before .before .before .flag2 in
+    let at-if2 = c .before .before .before .if2 in
+    let at-field = c .before .before .field in
+    let a = at-args in
+    padded-start (a .e) (a .at) (at-flag .result) (at-flag .ensures) (not-false _ (at-if1 .left)) (at-flag2 .result) (at-flag2 .ensures) (not-false _ (at-if2 .left)) (c .before .low-byte .result) (c .before .low-byte .ensures) (at-pre .1)
+    (c .pad-start .result) (at-field .result .now) _ (at-field .ensures .0) (c .pad-start .ensures .0)
 
 pub start-in-spec : {M : Type 1} → statement M
 start-in-spec =

@@ -1,5 +1,4 @@
 -- `text_field::translate_text` meets its contract: a refusal leaves the zeros that `fill` put, and else the translated field is copied over their front.
-use mathlib.Core.Path.{_∙_}
 use Prim.Native.Nat.{_-_}
 use lib.ListN.{length, take}
 use Rattle.text_field.proofs.Scratch.{translated-inside, refused-all, translated-all}

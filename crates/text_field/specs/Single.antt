@@ -6,7 +6,7 @@ use mathlib.Core.List.{List, [], _++_, map}
 use Prim.Native.Nat.{ℕ, _+_, _-_}
 use lib.Dec.{eqb, leb}
 use lib.ListN.{length, take, drop, replicate}
-use denote.Ref.{RefT, now}
+use denote.Ref.{RefT, now, ptr}
 use Rattle.ebcdic.specs.Ebcdic.{fromPage}
 use Rattle.lists.specs.Part.{placeIn}
 use Rattle.text.specs.Text.{cut, cutFrom}
@@ -93,7 +93,13 @@ startOf l page s scratch =
 unfoldable pub placeOf : List ℕ → ℕ → RefT (List ℕ) → RefT (List ℕ) → ℕ × ℕ
 placeOf l page s scratch = placeIn (cond (eqb page 1) scratch s) (startOf l page (now s) (now scratch))
 
--- All that a call hands out of where the text stands: its number, the text's start and its length.
+-- All that the call leaves: its number, and the part with its bytes and its place.
+pub record TextFound (l : List ℕ) (page : ℕ) (s scratch : RefT (List ℕ)) (number : ℕ) (part : RefT (List ℕ)) : Type 0 where
+  pub numbered : number ≡ textAsks l page (now s) (now scratch)
+  pub bytes : now part ≡ fieldText l page (now s) (now scratch)
+  pub place : ptr part ≡ placeOf l page s scratch
+
+-- The same with the part given by numbers: the text's start and its length.
 pub record TextPlaced (l : List ℕ) (page : ℕ) (s scratch : List ℕ) (number start bytes : ℕ) : Type 0 where
   pub numbered : number ≡ textAsks l page s scratch
   pub starts : start ≡ startOf l page s scratch

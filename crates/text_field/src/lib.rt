@@ -11,7 +11,7 @@ ghost use denote.Ref.{ptr};
 ghost use Rattle.lists.specs.Part.{placeIn};
 ghost use Rattle.text.specs.Text.{cut, cutFrom};
 ghost use Rattle.decode_scalar.specs.Decode.{flag};
-ghost use Rattle.text_field.specs.Single.{entryOf, textEntry, roomOf, askedOf, textAsks, FieldTranslated, fieldText, placeOf, TextPlaced};
+ghost use Rattle.text_field.specs.Single.{entryOf, textEntry, roomOf, askedOf, FieldTranslated, TextFound, TextPlaced};
 
 // What translate_text answers: 0 or the number it refuses by, and how many bytes it translated.
 pub struct Translated {
@@ -130,9 +130,7 @@ pub fn text_field<'a>(
     scratch: &'a [u8],
     number: &mut u32,
 ) -> &'a [u8]
-    ensures { λ r. ⌜ now r ≡ fieldText (now (layout .entry)) page (now («record» .entry)) (now (scratch .entry)) ⌝ }
-    ensures { λ r. ⌜ ptr r ≡ placeOf (now (layout .entry)) page («record» .entry) (scratch .entry) ⌝ }
-    ensures { λ _. ⌜ now (number .exit) ≡ textAsks (now (layout .entry)) page (now («record» .entry)) (now (scratch .entry)) ⌝ }
+    ensures { λ r. ⌜ TextFound (now (layout .entry)) page («record» .entry) (scratch .entry) (now (number .exit)) r ⌝ }
 {
     let n = asked(layout, page, record.len(), scratch.len(), false);
     *number = n;

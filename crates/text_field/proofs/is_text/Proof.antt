@@ -1,3 +1,4 @@
+-- `text_field::is_text` meets its contract: each way settles one clause of `textEntry`.
 use mathlib.Core.Path.{sym, _∙_}
 use mathlib.Core.Bool.{true, false}
 use Prim.Native.Nat.{_-_}

@@ -1,3 +1,4 @@
+-- `text_field::room_for` meets its contract: the scratch is needed by the translating call, and on page 1.
 use Prim.Native.Nat.{_-_}
 use borrow.Author.Tests.{eq-eqb, ne-eqb}
 use lib.Dec.{eqb}

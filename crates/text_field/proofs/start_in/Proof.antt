@@ -1,3 +1,4 @@
+-- `text_field::start_in` meets its contract: only a trimmed and right-justified text starts behind the pads that `pad_start` counts.
 use mathlib.Core.Bool.{true, false}
 use Prim.Native.Nat.{_+_, _-_, _≤_}
 use native.Mathlib.Omega.{arith}

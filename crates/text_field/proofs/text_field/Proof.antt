@@ -1,3 +1,4 @@
+-- `text_field::text_field` meets its contract: the part that `text_in` cuts is the text, of the scratch on page 1 and of the record else (`Parts`).
 use mathlib.Core.Path.{sym, _∙_}
 use Prim.Native.Nat.{_-_}
 use lib.ListN.{length, take}
@@ -20,13 +21,15 @@ text-in-requires c κs =
 
 returns : tie.Need-returns
 returns c =
-    let a = c .before .before .before .before .before .before .before .args in (
-      c .text-in .ensures .0 ∙ text-scratch (a .layout .now) (a .page) (a .«record») (a .scratch) (c .before .before .load .result) (c .before .before .load .ensures) (c .before .before .before .asked .result) (c .before .before .before .asked .ensures) (c .before .if1 .taken),
-      (
-        c .text-in .ensures .1 ∙ place-scratch (a .layout .now) (a .page) (a .«record») (a .scratch) (c .before .before .load .result) (c .before .before .load .ensures) (c .before .before .before .asked .result) (c .before .before .before .asked .ensures) (c .before .if1 .taken),
-        c .before .before .before .asked .ensures,
-      ),
-    )
+    let a = c .before .before .before .before .before .before .before .args in
+    let at-asked = c .before .before .before .asked in
+    let at-load = c .before .before .load in
+    let t = c .text-in .ensures in
+    record {
+      numbered = at-asked .ensures;
+      bytes = t .0 ∙ text-scratch (a .layout .now) (a .page) (a .«record») (a .scratch) (at-load .result) (at-load .ensures) (at-asked .result) (at-asked .ensures) (c .before .if1 .taken);
+      place = t .1 ∙ place-scratch (a .layout .now) (a .page) (a .«record») (a .scratch) (at-load .result) (at-load .ensures) (at-asked .result) (at-asked .ensures) (c .before .if1 .taken);
+    }
 
 cast-text-in : tie.Need-cast-text-in
 cast-text-in c = search needs
@@ -38,13 +41,15 @@ text-in-requires-2 c κs =
 
 returns-2 : tie.Need-returns-2
 returns-2 c =
-    let a = c .before .before .before .before .before .before .before .before .args in (
-      c .text-in2 .ensures .0 ∙ text-record (a .layout .now) (a .page) (a .«record») (a .scratch) (c .before .before .before .load .result) (c .before .before .before .load .ensures) (c .before .before .before .before .asked .result) (c .before .before .before .before .asked .ensures) (c .before .before .if1 .left),
-      (
-        c .text-in2 .ensures .1 ∙ place-record (a .layout .now) (a .page) (a .«record») (a .scratch) (c .before .before .before .load .result) (c .before .before .before .load .ensures) (c .before .before .before .before .asked .result) (c .before .before .before .before .asked .ensures) (c .before .before .if1 .left),
-        c .before .before .before .before .asked .ensures,
-      ),
-    )
+    let a = c .before .before .before .before .before .before .before .before .args in
+    let at-asked = c .before .before .before .before .asked in
+    let at-load = c .before .before .before .load in
+    let t = c .text-in2 .ensures in
+    record {
+      numbered = at-asked .ensures;
+      bytes = t .0 ∙ text-record (a .layout .now) (a .page) (a .«record») (a .scratch) (at-load .result) (at-load .ensures) (at-asked .result) (at-asked .ensures) (c .before .before .if1 .left);
+      place = t .1 ∙ place-record (a .layout .now) (a .page) (a .«record») (a .scratch) (at-load .result) (at-load .ensures) (at-asked .result) (at-asked .ensures) (c .before .before .if1 .left);
+    }
 
 pub text-field-spec : {M : Type 1} → statement M
 text-field-spec =

@@ -1,3 +1,4 @@
+-- `text_field::text_in` meets its contract: a refusal hands out the empty part at the front, and else the field is cut as `trimmed` does it on page 0.
 use mathlib.Core.Path.{refl, ap, _∙_}
 use mathlib.Core.List.{List}
 use Prim.Native.Nat.{ℕ, _+_, _-_, _≤_}

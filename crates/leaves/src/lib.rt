@@ -1,6 +1,9 @@
 // The leaves as C functions, for the comparison with the Rust.
 
 use decode_scalar::Decoded;
+use items::ITEM_WORDS;
+use items::item_of;
+use items::put;
 ghost use mathlib.Core.Path.{_≡_};
 ghost use lib.ListN.{length};
 ghost use Rattle.ebcdic.specs.Ebcdic.{toAscii, toEbcdic};
@@ -30,10 +33,11 @@ fn put_answer(d: Decoded, item: &mut [u64]) -> u32
 {
     match d {
         Decoded::Value(v) => {
-            if value::put_item(item, 0, v) {
-                return 0;
+            if item.len() < ITEM_WORDS {
+                return 16;
             }
-            16
+            put(item, item_of(0, v));
+            0
         }
         Decoded::Refused(n) => n,
     }

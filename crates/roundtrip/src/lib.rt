@@ -1,8 +1,8 @@
 // A list written by a layout and read back by it: demand 3 of the two calls.
 use decode::decode_record;
-use decode_leaf::clear_items;
-use decode_leaf::clear_text;
 use encode::encode_record;
+use zeros::clear_items;
+use zeros::clear_text;
 ghost use mathlib.Core.Path.{_≡_};
 ghost use mathlib.Core.List.{List, [], _++_};
 ghost use Prim.Native.Nat.{ℕ, _+_, _-_, _≤_, min};

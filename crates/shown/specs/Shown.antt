@@ -12,7 +12,7 @@ use Rattle.binary.specs.Bytes.{bytesOf}
 use Rattle.hex.specs.Hex.{hexOf}
 use Rattle.text.specs.Shown.{Shows, shows, none, shownOf, intText}
 use Rattle.items.specs.declared.Item.{Item}
-use Rattle.items.specs.Items.{itemAt}
+use Rattle.items.specs.Items.{itemCount, itemAt}
 use Rattle.layout_text.specs.Form.{nameWord, kindWord}
 use Rattle.layout_text.specs.Reading as L
 use Rattle.walks.specs.Records.{Decoded, refused, decodeRecord, numberOf, itemsOf, textsOf}
@@ -104,7 +104,7 @@ listedFrom layout items text zero k = []
 listedFrom layout items text (suc n) k = linesOf layout text (itemAt items k) ++ listedFrom layout items text n (suc k)
 
 abbrev pub listed : List ℕ → List ℕ → List ℕ → List ℕ
-listed layout items text = listedFrom layout items text (length items / 4) 0
+listed layout items text = listedFrom layout items text (itemCount items) 0
 
 -- "a refusal is `refused=` and number"
 unfoldable pub refusedText : ℕ → List ℕ
@@ -119,8 +119,8 @@ most = 65536
 abbrev pub layoutWords : ℕ
 layoutWords = 6144
 
-abbrev pub itemWords : ℕ
-itemWords = 8192
+abbrev pub itemRoom : ℕ
+itemRoom = 8192
 
 abbrev pub workWords : ℕ
 workWords = 1024
@@ -132,7 +132,7 @@ tooLong bytes more = more || ltb most (length bytes)
 -- what reading says of a record, by what reading its layout's text said
 unfoldable pub answerBy : L.Read → List ℕ → Bool → Decoded
 answerBy (L.refused n) bytes more = refused n
-answerBy (L.read page words masks) bytes more = cond (tooLong bytes more) (refused 4) (decodeRecord words masks page bytes itemWords most workWords)
+answerBy (L.read page words masks) bytes more = cond (tooLong bytes more) (refused 4) (decodeRecord words masks page bytes itemRoom most workWords)
 
 -- the layout's questions first, then the record's
 unfoldable pub answer : List ℕ → Bool → List ℕ → Bool → Decoded

@@ -14,7 +14,7 @@ use Rattle.hex.specs.Hex.{hexOf}
 use Rattle.text.specs.Text as Text
 use Rattle.text.specs.Shown.{digitCount, decimalText}
 use Rattle.spans.specs.Tree.{tree, treeIn, size, nested}
-use Rattle.layout.specs.Layout.{entryAt, allBelow, someBelow, wordsOk, upTo, plainOk, boolOk, editedOk, floatOk, kindOk, optionOk, placeOk, entryOk, entriesOk}
+use Rattle.layout.specs.Layout.{unrepeated, isPad, controls, entryAt, allBelow, someBelow, wordsOk, upTo, plainOk, boolOk, editedOk, floatOk, kindOk, optionOk, placeOk, entryOk, entriesOk}
 use Rattle.layout.specs.Layout.{spansOk, checkedOf, layoutAsks, reservedWidth, furthest, recordLength, dependsIn}
 use Rattle.lines.specs.Lines.{startsWith, numberOf}
 use Rattle.lines.specs.Names.{equal, indexIn}
@@ -22,7 +22,7 @@ use Rattle.layout_text.specs.Form as Form
 use Rattle.layout_text.specs.Form.{pageWord, nameWord, offsetWord, widthWord, kindWord, occursWord, dependingWord, spanWord, pWord, qWord, rWord, maskWord}
 use Rattle.layout_text.specs.Reading.{sightsBelow, masksBelow, entrySaid, twelve, wordsBelow, textChecked, refusal, readOf, spelling}
 use Rattle.decode_scalar.specs.Decode.{says}
-use Rattle.walks.specs.Walk.{single, isPad, howMany}
+use Rattle.walks.specs.Walk.{howMany}
 use Rattle.walks.specs.Kinds.{look, dec}
 use Rattle.walks.specs.Reading as R
 use Rattle.walks.specs.Records.{decodeRecord}
@@ -62,7 +62,7 @@ pub worked : shown layoutText false (0x30 ∷ 0x32 ∷ 0x01 ∷ 0x2C ∷ 0x34 �
 unfolding shown printed answer answerBy listedFrom linesOf nameOf kindText valueOf escaped numberText scalarOf digitCount decimalText refusal readOf spelling textChecked
     Form.lawful Form.all Form.ended Form.linesOf Form.entryLawful allBelow startsWith numberOf everyBy wordsBelow twelve entrySaid sightsBelow masksBelow indexIn equal
     wordsOk entriesOk entryOk placeOk optionOk kindOk plainOk boolOk floatOk editedOk upTo spansOk nested size tree treeIn entryAt layoutAsks checkedOf recordLength
-    furthest reservedWidth dependsIn someBelow decodeRecord R.seq R.field R.elements R.one R.pad R.scalar R.inside single isPad howMany look dec says fromPage leftBy
+    furthest reservedWidth dependsIn someBelow decodeRecord R.seq R.field R.elements R.one R.pad R.scalar R.container unrepeated isPad controls howMany look dec says fromPage leftBy
     rightBy beforeBy fieldOf Display.intOf Display.intIn Display.digitsIn Display.signAt Display.restOf Display.wholeOf Packed.decodeOf Text.cut
 worked = refl
 
@@ -71,7 +71,7 @@ pub long-record : shown layoutText false [] true ≡ 0x72 ∷ 0x65 ∷ 0x66 ∷ 
 unfolding shown printed answer answerBy listedFrom linesOf nameOf kindText valueOf escaped numberText scalarOf digitCount decimalText refusal readOf spelling textChecked
     Form.lawful Form.all Form.ended Form.linesOf Form.entryLawful allBelow startsWith numberOf everyBy wordsBelow twelve entrySaid sightsBelow masksBelow indexIn equal
     wordsOk entriesOk entryOk placeOk optionOk kindOk plainOk boolOk floatOk editedOk upTo spansOk nested size tree treeIn entryAt layoutAsks checkedOf recordLength
-    furthest reservedWidth dependsIn someBelow decodeRecord R.seq R.field R.elements R.one R.pad R.scalar R.inside single isPad howMany look dec says refusedText
+    furthest reservedWidth dependsIn someBelow decodeRecord R.seq R.field R.elements R.one R.pad R.scalar R.container unrepeated isPad controls howMany look dec says refusedText
 long-record = refl
 
 pub long-layout : shown [] true [] true ≡ 0x72 ∷ 0x65 ∷ 0x66 ∷ 0x75 ∷ 0x73 ∷ 0x65 ∷ 0x64 ∷ 0x3D ∷ 0x31 ∷ 0x36 ∷ 0x0A ∷ []

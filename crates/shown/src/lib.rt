@@ -2,15 +2,16 @@
 
 use decode::Reading;
 use decode::decode_record;
+use items::ITEM_WORDS;
 use items::Item;
 use items::fetch;
+use items::scalar_in;
 use layout_text::name_starts;
 use layout_text::name_with;
 use layout_text::read_layout;
 use text::Shown;
 use text::display_scalar;
 use value::Scalar;
-use value::item_scalar;
 ghost use mathlib.Core.Path.{_≡_};
 ghost use mathlib.Core.Bool.{Bool};
 ghost use mathlib.Core.List.{[], _∷_};
@@ -19,7 +20,7 @@ ghost use lib.ListN.{length, take, drop, replicate};
 ghost use Rattle.hex.specs.Hex.{hexOf};
 ghost use Rattle.layout_text.specs.Reading.{Spells};
 ghost use Rattle.shown.specs.Shown.{isPlain, escape, escaped, numberText, floatText, numberIn, kindText, valueOf, nameOf, nameLine, kindLine, valueLine, linesOf, listed};
-ghost use Rattle.shown.specs.Shown.{refusedText, itemWords, most, tooLong, answer, shown, piece};
+ghost use Rattle.shown.specs.Shown.{refusedText, itemRoom, most, tooLong, answer, shown, piece};
 ghost use Rattle.text.specs.Text.{front};
 ghost use Rattle.walks.specs.Records.{RecordRead};
 ghost use Rattle.shown.specs.Sink.{state, Took};
@@ -158,10 +159,10 @@ fn number_in(it: Item) -> Scalar
     ensures { λ r. ⌜ r ≡ numberIn it ⌝ }
 {
     if it.tag < 5 {
-        return item_scalar(it.tag, it.a, it.b);
+        return scalar_in(it);
     }
     if it.tag > 7 {
-        return item_scalar(it.tag, it.a, it.b);
+        return scalar_in(it);
     }
     Scalar::Int(false, it.a)
 }
@@ -278,7 +279,7 @@ fn push_items(
     requires { ⌜ Spells (now layout) (now starts) count ⌝ }
     ensures { λ r. ⌜ Took (state (now (out .entry)) from) (listed (now (layout .entry)) (now (items .entry)) (now (text .entry))) (now (out .exit)) r ⌝ }
 {
-    let n = items.len() / 4;
+    let n = items.len() / ITEM_WORDS;
     let mut s = from;
     let mut k = 0;
     while k < n {
@@ -336,7 +337,7 @@ fn read_both(
     items: &mut [u64],
     text: &mut [u8],
 ) -> Reading
-    requires { ⌜ (now items ≡ replicate itemWords 0) × (now text ≡ replicate most 0) ⌝ }
+    requires { ⌜ (now items ≡ replicate itemRoom 0) × (now text ≡ replicate most 0) ⌝ }
     ensures { λ r. ⌜
         RecordRead (answer (now (layout .entry)) «layout_more» (now (bytes .entry)) more)
         (r .number) (r .items) (r .text) (now (items .entry)) (now (items .exit)) (now (text .entry)) (now (text .exit)) [] [] ⌝ }

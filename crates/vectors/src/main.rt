@@ -500,12 +500,8 @@ fn cobol(all: &[u8], kind: u8, name: &[u8]) {
 // ---- IEEE 754
 
 fn word_in(f: Parsed) -> u64 {
-    let mut item = [0u64; 4];
     match f {
-        Parsed::Value(v) => {
-            value::put_item(&mut item, 0, v);
-            item[2]
-        }
+        Parsed::Value(v) => value::words_of(v).a,
         Parsed::Bad => 0,
     }
 }

@@ -6,21 +6,21 @@ use borrow.Author.Needs.{needs}
 use Rattle.shown.proofs.number_in.Statement.{statement}
 use Rattle.shown.proofs.number_in.Tie as tie
 
-item-scalar-requires : tie.Need-item-scalar-requires
-item-scalar-requires c κs = search needs
+scalar-in-requires : tie.Need-scalar-in-requires
+scalar-in-requires c κs = search needs
 
 returns : tie.Need-returns
-returns c = c .item-scalar .ensures ∙ number-low (c .before .before .before .args .it) (c .before .if1 .taken)
+returns c = c .scalar-in .ensures ∙ number-low (c .before .before .before .args .it) (c .before .if1 .taken)
 
-item-scalar-requires-2 : tie.Need-item-scalar-requires-2
-item-scalar-requires-2 c κs = search needs
+scalar-in-requires-2 : tie.Need-scalar-in-requires-2
+scalar-in-requires-2 c κs = search needs
 
 returns-2 : tie.Need-returns-2
-returns-2 c = c .item-scalar2 .ensures ∙ number-high (c .before .before .before .before .before .args .it) (c .before .before .before .if1 .left) (c .before .if2 .taken)
+returns-2 c = c .scalar-in2 .ensures ∙ number-high (c .before .before .before .before .before .args .it) (c .before .before .before .if1 .left) (c .before .if2 .taken)
 
 returns-3 : tie.Need-returns-3
 returns-3 c = number-counted (c .before .before .before .before .args .it) (c .before .before .if1 .left) (c .if2 .left)
 
 pub number-in-spec : {M : Type 1} → statement M
 number-in-spec =
-    tie.close (tie.spec item-scalar-requires returns item-scalar-requires-2 returns-2 returns-3)
+    tie.close (tie.spec scalar-in-requires returns scalar-in-requires-2 returns-2 returns-3)

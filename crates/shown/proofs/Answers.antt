@@ -11,8 +11,8 @@ use Rattle.decode.specs.declared.Reading.{Reading}
 use Rattle.layout_text.specs.Form.{linesOf as textLines}
 use Rattle.layout_text.specs.Reading.{wordsOf, masksOf, pageOf, refusal, layoutInto, LayoutRead}
 use Rattle.layout_text.proofs.Answers.{read-taken, read-refused, number-is-refusal, in-front, page-held, words-held, masks-held}
-use Rattle.walks.specs.Records.{Decoded, refused, decodeRecord, numberOf, itemsOf, textsOf, filled, RecordRead}
-use Rattle.shown.specs.Shown.{most, layoutWords, itemRoom, workWords, tooLong, answerBy, answer, printed, shown, listed, refusedText}
+use Rattle.walks.specs.Records.{most, Decoded, refused, decodeRecord, numberOf, itemsOf, textsOf, filled, RecordRead}
+use Rattle.shown.specs.Shown.{layoutWords, itemRoom, workWords, tooLong, answerBy, answer, printed, shown, listed, refusedText}
 
 -- ---- the answer, by its ways
 

@@ -15,7 +15,7 @@ use Rattle.items.specs.declared.Item.{Item}
 use Rattle.items.specs.Items.{itemCount, itemAt}
 use Rattle.layout_text.specs.Form.{nameWord, kindWord}
 use Rattle.layout_text.specs.Reading as L
-use Rattle.walks.specs.Records.{Decoded, refused, decodeRecord, numberOf, itemsOf, textsOf}
+use Rattle.walks.specs.Records.{most, Decoded, refused, decodeRecord, numberOf, itemsOf, textsOf}
 
 -- `value=` and `refused=`; `name=` and `kind=` are those of a layout's text
 abbrev pub valueWord : List ℕ
@@ -112,10 +112,7 @@ refusedText number = refusedWord ++ (numberText (Int false number) ++ ended)
 
 -- ---- the whole: "no buffer above 65,536 bytes, else 4 for the record, 16 for the rest"
 
--- bytes in a buffer; so many layout words, item words and words of work space
-abbrev pub most : ℕ
-most = 65536
-
+-- so many layout words, item words and words of work space
 abbrev pub layoutWords : ℕ
 layoutWords = 6144
 

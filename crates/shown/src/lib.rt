@@ -20,9 +20,9 @@ ghost use lib.ListN.{length, take, drop, replicate};
 ghost use Rattle.hex.specs.Hex.{hexOf};
 ghost use Rattle.layout_text.specs.Reading.{Spells};
 ghost use Rattle.shown.specs.Shown.{isPlain, escape, escaped, numberText, floatText, numberIn, kindText, valueOf, nameOf, nameLine, kindLine, valueLine, linesOf, listed};
-ghost use Rattle.shown.specs.Shown.{refusedText, itemRoom, most, tooLong, answer, shown, piece};
+ghost use Rattle.shown.specs.Shown.{refusedText, itemRoom, tooLong, answer, shown, piece};
 ghost use Rattle.text.specs.Text.{front};
-ghost use Rattle.walks.specs.Records.{RecordRead};
+ghost use Rattle.walks.specs.Records.{most, RecordRead};
 ghost use Rattle.shown.specs.Sink.{state, Took};
 
 // ---- a buffer that takes bytes from a place on

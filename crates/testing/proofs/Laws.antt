@@ -11,6 +11,7 @@ use lib.Dec.{eqb}
 use lib.ListN.{length, drop, getD, length-drop}
 use Rattle.lists.specs.Scan.{beforeBy}
 use Rattle.lines.specs.Lines.{isEnd, lineFrom}
+use Rattle.lines.proofs.Laws.{and-false}
 use Rattle.testing.specs.Holds.{holdsBelow, holds}
 
 pub holds-start : (buffer given : List ℕ) → holdsBelow buffer given 0 ≡ true
@@ -20,10 +21,6 @@ holds-start buffer given = refl
 pub holds-go : (buffer given : List ℕ) (i y : ℕ) → y ≡ getD given i 0 → getD buffer i 0 ≡ y → holdsBelow buffer given i ≡ true → holdsBelow buffer given (i + 1) ≡ true
 unfolding holdsBelow
 holds-go buffer given i y e q h = rw (add-one, h, eq-eqb (getD buffer i 0) (getD given i 0) (q ∙ e)) refl
-
-and-false : (b : Bool) → (b && false) ≡ false
-and-false true = refl
-and-false false = refl
 
 -- a cell that differs, in any longer run
 differs : (buffer given : List ℕ) (i n : ℕ) → eqb (getD buffer i 0) (getD given i 0) ≡ false → i < n → holdsBelow buffer given n ≡ false

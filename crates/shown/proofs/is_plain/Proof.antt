@@ -1,3 +1,4 @@
+-- `shown::is_plain` meets its contract: each way settles one clause of `isPlain`.
 use Prim.Native.Nat.{_-_}
 use lib.ListN.{take}
 use Rattle.shown.proofs.Texts.{plain-below, plain-above, plain-between}

@@ -1,3 +1,4 @@
+-- `shown::number_in` meets its contract: tags 5 to 7 show their third word, any other its scalar.
 use mathlib.Core.Path.{_∙_}
 use Prim.Native.Nat.{_-_}
 use lib.ListN.{take}

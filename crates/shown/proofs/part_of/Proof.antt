@@ -1,3 +1,4 @@
+-- `shown::part_of` meets its contract: a start behind the text gives nothing, a count past its end the rest, any other the part (`Texts`).
 use Prim.Native.Nat.{_-_}
 use lib.ListN.{take}
 use Rattle.shown.proofs.Texts.{part-none, part-rest, part-front}

@@ -1,3 +1,4 @@
+-- `shown::push` meets its contract: a byte is passed over, stored or dropped, by the three cases of `one`.
 use Prim.Native.Nat.{_-_}
 use lib.ListN.{length, take, drop}
 use Rattle.shown.proofs.Sinks.{skipped, kept, dropped}

@@ -1,3 +1,4 @@
+-- `shown::push_all` meets its contract. The invariant: what the bytes left still do to the buffer gives what all of them do to it. The bytes left fall.
 use mathlib.Core.Path.{_≡_, refl, ap, _∙_}
 use Prim.Native.Nat.{_-_}
 use lib.ListN.{length, take, drop}

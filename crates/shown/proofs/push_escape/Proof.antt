@@ -1,3 +1,4 @@
+-- `shown::push_escape` meets its contract: a plain byte stands for itself, any other as a backslash and its two digits.
 use mathlib.Core.Path.{sym, ap, _∙_}
 use Prim.Native.Nat.{_-_}
 use lib.ListN.{length, take}

@@ -1,3 +1,4 @@
+-- `shown::push_hex` meets its contract: the digits that `to_hex` leaves at the front are handed over.
 use mathlib.Core.Path.{refl, ap, _∙_}
 use Prim.Native.Nat.{_-_}
 use lib.ListN.{length, replicate}

@@ -1,3 +1,4 @@
+-- `shown::push_item` meets its contract: its three lines are handed over one after the other.
 use mathlib.Core.Path.{ap, _∙_}
 use Prim.Native.Nat.{_-_}
 use lib.ListN.{length}

@@ -1,3 +1,4 @@
+-- `shown::push_items` meets its contract. The invariant: what the lines of the items left still do to the buffer gives what all of them do to it. The items left fall.
 use mathlib.Core.Path.{_≡_, refl, ap}
 use Prim.Native.Nat.{ℕ, zero, _-_}
 use lib.ListN.{length, take}

@@ -1,3 +1,4 @@
+-- `shown::push_kind` meets its contract: each tag hands over its word.
 use Prim.Native.Nat.{_-_}
 use borrow.Author.Tests.{ne-eqb}
 use lib.Dec.{eqb}

@@ -1,3 +1,4 @@
+-- `shown::push_name` meets its contract: a name below 65,536 hands over its first spelling, any other none.
 use mathlib.Core.Path.{ap, _∙_}
 use Prim.Native.Nat.{_-_}
 use lib.ListN.{length, take}

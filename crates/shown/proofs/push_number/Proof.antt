@@ -1,3 +1,4 @@
+-- `shown::push_number` meets its contract: a scalar with a text hands over the bytes that `display_scalar` left, any other none.
 use mathlib.Core.Path.{sym, ap, _∙_}
 use Prim.Native.Nat.{_-_}
 use lib.ListN.{length}

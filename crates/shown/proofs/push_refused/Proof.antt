@@ -1,3 +1,4 @@
+-- `shown::push_refused` meets its contract: the word, the number and the end of the line are handed over one after the other.
 use mathlib.Core.Path.{ap, _∙_}
 use Prim.Native.Nat.{_-_}
 use lib.ListN.{length}

@@ -1,3 +1,4 @@
+-- `shown::push_value` meets its contract: a text, a float and the numbers, by the three cases of `valueOf`.
 use mathlib.Core.Path.{ap, _∙_}
 use Prim.Native.Nat.{_-_}
 use lib.ListN.{length, take}

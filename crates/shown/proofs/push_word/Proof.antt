@@ -1,3 +1,4 @@
+-- `shown::push_word` meets its contract: the eight bytes of the word are handed over as digits.
 use mathlib.Core.Path.{ap, _∙_}
 use Prim.Native.Nat.{_-_}
 use lib.ListN.{length}

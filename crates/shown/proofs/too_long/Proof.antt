@@ -1,3 +1,4 @@
+-- `shown::too_long` meets its contract: each way settles one clause of `tooLong`.
 use Prim.Native.Nat.{_-_}
 use lib.ListN.{take}
 use Rattle.shown.proofs.too_long.Statement.{statement}

@@ -1,7 +1,7 @@
 -- The laws by which a turn of a loop goes on in the definition.
 use mathlib.Core.Path.{_≡_, refl, sym, ap, ap₂, _∙_, subst}
 use mathlib.Core.Bool.{Bool, true, false, _||_, _&&_, not, cond}
-use mathlib.Core.List.{List, [], _∷_, _++_, append-nil, append-assoc}
+use mathlib.Core.List.{List, [], _++_, append-nil, append-assoc}
 use Prim.Native.Nat.{ℕ, zero, suc, _+_, _-_, _*_, _≤_, _<_, max}
 use native.Mathlib.Omega.{arith}
 use lib.Dec.{eqb, leb}
@@ -167,6 +167,10 @@ module _ {S : Type 0} where
   unfolding container
   inside-small name tag inner at room s h = rw (lt-leb itemWords room h) refl
 
+  both-refuse : (b : Bool) (m : ℕ) → cond {A = Outcome S} b (refused m) (refused m) ≡ refused m
+  both-refuse true m = refl
+  both-refuse false m = refl
+
   -- ---- a table of n elements behind head words
 
   module _ (e : Entry) (f : Reader S) (n at room : ℕ) (s : S) (head : ℕ) (g : unrepeated e ≡ false) (p : head ≡ headOf e) where
@@ -203,11 +207,7 @@ module _ {S : Type 0} where
             ∙ ap (withHeader (e .name) 6) (sym (turns-table f n at (room - head) s))
 
     pub table-refused : head ≤ room → (m : ℕ) → Turned ≡ refused m → table satSum e f (times n) at room s ≡ refused m
-    table-refused h m q = table-is h ∙ rw q (go (bare e))
-      where
-        go : (b : Bool) → cond {A = Outcome S} b (refused m) (refused m) ≡ refused m
-        go true = refl
-        go false = refl
+    table-refused h m q = table-is h ∙ rw q (both-refuse (bare e) m)
 
   -- ---- the ways of a field: once is whether the entry is single
 
@@ -262,11 +262,7 @@ module _ {S : Type 0} where
               ∙ table-is e (one k r e inner 65536 false) n at room s head o p h
 
       pub field-refused : (once : Bool) → once ≡ unrepeated e → head ≤ room → Capped (Element once at room s) → (m : ℕ) → All once ≡ refused m → Field ≡ refused m
-      field-refused once o h g m q = field-is once o h g ∙ rw q (go (bare e))
-        where
-          go : (b : Bool) → cond {A = Outcome S} b (refused m) (refused m) ≡ refused m
-          go true = refl
-          go false = refl
+      field-refused once o h g m q = field-is once o h g ∙ rw q (both-refuse (bare e) m)
 
   -- ---- the bytes of one element are at most 2^63
 

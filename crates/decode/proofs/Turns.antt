@@ -1,13 +1,13 @@
 -- The invariants of the two loops, and what a turn makes of them; the items of Lists and Structs around what was read.
 use mathlib.Core.Path.{_≡_, refl, sym, ap, ap₂, _∙_}
 use mathlib.Core.Bool.{Bool, true, false, _&&_, not}
-use mathlib.Core.List.{List, [], _∷_, _++_}
-use Prim.Native.Nat.{ℕ, zero, suc, _+_, _-_, _/_, _<_, _≤_, max}
+use mathlib.Core.List.{List, [], _++_}
+use Prim.Native.Nat.{ℕ, _+_, _-_, _/_, _<_, _≤_, max}
 use native.Mathlib.Omega.{arith}
 use lib.Dec.{eqb}
 use lib.IntN.{ℤ}
 use lib.ListN.{length, take, drop, length-drop, length-take, drop-of-length-le}
-use lib.Seq.{length-take-le, drop-append-le, take-nil, take-append-add}
+use lib.Seq.{length-take-le, drop-append-le, take-append-add}
 use Rattle.layout.specs.declared.Entry.{Entry}
 use Rattle.layout.specs.Layout.{entryAt, part, reservedWidth, unrepeated}
 use Rattle.spans.specs.Tree.{endOf}
@@ -20,7 +20,9 @@ use Rattle.positions.specs.Positions.{satSum, sat}
 use Rattle.decode_leaf.specs.Machine.{Held, out, state, leafAt, Fine, Met}
 use Rattle.decode_leaf.proofs.Meets.{refuse, fine}
 use Rattle.decode.proofs.Steps.{follow-none, follow-end, follow-follow, behind-none, behind-end, behind-behind, seq-end, seq-refused, seq-read, turns, turns-end, turns-refused, turns-empty, turns-read, leaf-takes}
-use Rattle.decode.proofs.Tail.{lent, back, back-length, back-take}
+use Rattle.lists.proofs.Part.{drop-take}
+use Rattle.lists.proofs.Scan.{tail-part}
+use Rattle.decode.proofs.Tail.{back, back-length, back-take}
 
 -- ---- a tail lent and come back
 
@@ -41,10 +43,10 @@ module _ {i₀ items : List ℕ} {used : ℕ} (w : Written i₀ items used) (ys 
   within′ = omega (arith, w .within, w .same)
 
   pub room-left : length (tail items used) ≡ length i₀ - used
-  room-left = ap length (lent items used) ∙ length-drop used items ∙ omega (arith, w .same)
+  room-left = ap length (tail-part items used) ∙ length-drop used items ∙ omega (arith, w .same)
 
   same′ : length ys ≡ length (drop used items)
-  same′ = same ∙ ap length (lent items used)
+  same′ = same ∙ ap length (tail-part items used)
 
   pub returned-same : length (returned items used ys) ≡ length items
   returned-same = ap length (back items ys used) ∙ back-length items ys used 0 within′ same′
@@ -159,14 +161,14 @@ pub record TurnsInv (once : Bool) (F : ℕ → Reader Held) (i₀ t₀ : List �
   pub few : members + head ≤ used
   pub capped : taken ≤ 9223372036854775808
 
-drop-take : (n : ℕ) (xs : List ℕ) → drop n (take n xs) ≡ []
-drop-take n xs = drop-of-length-le (take n xs) {i = n} (omega (arith, length-take n xs))
+drop-taken : (n : ℕ) (xs : List ℕ) → drop n (take n xs) ≡ []
+drop-taken n xs = drop-of-length-le (take n xs) {i = n} (omega (arith, length-take n xs))
 
 pub turns-starts : (once : Bool) (F : ℕ → Reader Held) (i₀ t₀ : List ℕ) (c₀ : List ℤ) (n at told head : ℕ) → told ≤ length t₀ → head ≤ length i₀
     → TurnsInv once F i₀ t₀ c₀ n at told head i₀ t₀ c₀ 0 head 0 at 0 told
 turns-starts once F i₀ t₀ c₀ n at told head h g = record {
   whole = (let z : n ≡ n - 0 = omega arith in behind-none once (F (length t₀)) n at (length i₀ - head) (state c₀ told t₀)
-      ∙ ap₂ (λ ws m. thenElement satSum ws 0 0 (turns once (F (length t₀)) m at (length i₀ - head) (state c₀ told t₀))) (sym (drop-take head i₀)) z);
+      ∙ ap₂ (λ ws m. thenElement satSum ws 0 0 (turns once (F (length t₀)) m at (length i₀ - head) (state c₀ told t₀))) (sym (drop-taken head i₀)) z);
   written = record { within = g; same = refl };
   texts = refl;
   kept = refl;
@@ -228,12 +230,6 @@ module _ {once : Bool} {F : ℕ → Reader Held} {i₀ t₀ : List ℕ} {c₀ : 
 
 -- ---- the items of Lists and Structs
 
--- behind the first k of k + n words
-drop-taken : (k n : ℕ) (ys : List ℕ) → drop k (take (k + n) ys) ≡ take n (drop k ys)
-drop-taken zero n ys = let z : 0 + n ≡ n = omega arith in ap (λ m. take m ys) z
-drop-taken (suc k) n [] = let z : suc k + n ≡ suc (k + n) = omega arith in ap (λ m. drop (suc k) (take m [])) z ∙ sym (take-nil n)
-drop-taken (suc k) n (y ∷ ys) = let z : suc k + n ≡ suc (k + n) = omega arith in ap (λ m. drop (suc k) (take m (y ∷ ys))) z ∙ drop-taken k n ys
-
 -- the words of a header and those behind it
 module _ (name tag members used : ℕ) (xs : List ℕ) (h : itemWords ≤ used) (g : used ≤ length xs) where
   abbrev Head : ℕ → List ℕ
@@ -246,7 +242,7 @@ module _ (name tag members used : ℕ) (xs : List ℕ) (h : itemWords ≤ used) 
   take-head span = ap (λ n. take n (Head span ++ drop itemWords xs)) more ∙ take-append-add (Head span) (drop itemWords xs) (used - itemWords)
 
   behind-head : drop itemWords (take used xs) ≡ take (used - itemWords) (drop itemWords xs)
-  behind-head = ap (λ n. drop itemWords (take n xs)) more ∙ drop-taken itemWords (used - itemWords) xs
+  behind-head = ap (λ n. drop itemWords (take n xs)) more ∙ drop-take itemWords (used - itemWords) xs
 
   head-length : length (take (used - itemWords) (drop itemWords xs)) ≡ used - itemWords
   head-length = length-take-le (used - itemWords) (drop itemWords xs) (omega (arith, length-drop itemWords xs))

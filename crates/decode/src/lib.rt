@@ -1,4 +1,8 @@
 // The record reader: a sequence reads fields, a field reads elements, a group element reads a sequence.
+use codes::KIND_GROUP;
+use codes::KIND_PAD;
+use codes::MAX_RECORD;
+use codes::TAG_STRUCT;
 use decode_leaf::Out;
 use decode_leaf::decode_element;
 use decode_leaf::decode_lone;
@@ -34,6 +38,7 @@ ghost use mathlib.Core.List.{List, []};
 ghost use Prim.Native.Nat.{ℕ, _+_, _≤_};
 ghost use lib.IntN.{pos};
 ghost use lib.ListN.{length, replicate};
+ghost use Rattle.codes.specs.Codes.{most, element, tagStruct};
 ghost use Rattle.layout.specs.Layout.{unrepeatedLeaf, part, unrepeated};
 ghost use Rattle.walks.specs.Walk.{howMany};
 ghost use Rattle.walks.specs.Reading.{container, seq, field, table};
@@ -64,7 +69,7 @@ fn decode_seq(
     told: usize,
 ) -> Out
     requires { ⌜ told ≤ length (now text) ⌝ }
-    requires { ⌜ length (now «record») ≤ 65536 ⌝ }
+    requires { ⌜ length (now «record») ≤ most ⌝ }
     ensures { λ r. ⌜ Met
         (seq satSum (kept (now (layout .entry)) page (length (now (text .entry))) deps) (now («record» .entry)) (part (now (layout .entry)) lo hi) base 0 (length (now (items .entry)))
         (state (now (counts .entry)) told (now (text .entry)))) r (now (items .exit)) (now (text .exit)) (now (counts .exit)) ⌝ }
@@ -151,9 +156,9 @@ fn decode_table(
 ) -> Out
     requires { ⌜ told ≤ length (now text) ⌝ }
     requires { ⌜ unrepeated e ≡ false ⌝ }
-    requires { ⌜ length (now «record») ≤ 65536 ⌝ }
+    requires { ⌜ length (now «record») ≤ most ⌝ }
     ensures { λ r. ⌜ Elements
-        (λ deps. table satSum e (leafAt (kept (now (layout .entry)) page (length (now (text .entry))) deps) (now («record» .entry)) e 65536 false)
+        (λ deps. table satSum e (leafAt (kept (now (layout .entry)) page (length (now (text .entry))) deps) (now («record» .entry)) e element false)
         (howMany (λ name run. heldIn (now (layout .entry)) name run) e (now (counts .entry))) at (length (now (items .entry)))
         (state (now (counts .entry)) told (now (text .entry)))) r (now (items .exit)) (now (text .exit)) (now (counts .entry)) ⌝ }
 {
@@ -161,7 +166,7 @@ fn decode_table(
     if c.refused != 0 {
         return refusal(c.refused);
     }
-    let head = head_words(false, e.kind == 6);
+    let head = head_words(false, e.kind == KIND_PAD);
     if items.len() < head {
         return refusal(16);
     }
@@ -207,13 +212,13 @@ fn decode_field(
 ) -> Out
     requires { ⌜ told ≤ length (now text) ⌝ }
     requires { ⌜ unrepeatedLeaf e ≡ false ⌝ }
-    requires { ⌜ length (now «record») ≤ 65536 ⌝ }
+    requires { ⌜ length (now «record») ≤ most ⌝ }
     ensures { λ r. ⌜ Met
         (field satSum (kept (now (layout .entry)) page (length (now (text .entry))) deps) (now («record» .entry)) e
         (λ b n s. seq satSum (kept (now (layout .entry)) page (length (now (text .entry))) deps) (now («record» .entry)) (part (now (layout .entry)) lo hi) b 0 n s) at (length (now (items .entry)))
         (state (now (counts .entry)) told (now (text .entry)))) r (now (items .exit)) (now (text .exit)) (now (counts .exit)) ⌝ }
 {
-    if e.kind != 9 {
+    if e.kind != KIND_GROUP {
         return decode_table(layout, record, items, text, counts, page, e, at, told);
     }
     let once = unrepeated(e);
@@ -280,9 +285,9 @@ fn decode_one(
     told: usize,
 ) -> Out
     requires { ⌜ told ≤ length (now text) ⌝ }
-    requires { ⌜ length (now «record») ≤ 65536 ⌝ }
+    requires { ⌜ length (now «record») ≤ most ⌝ }
     ensures { λ r. ⌜ Met
-        (container name 7 (λ b n s. seq satSum (kept (now (layout .entry)) page (length (now (text .entry))) deps) (now («record» .entry)) (part (now (layout .entry)) lo hi) b 0 n s) at
+        (container name tagStruct (λ b n s. seq satSum (kept (now (layout .entry)) page (length (now (text .entry))) deps) (now («record» .entry)) (part (now (layout .entry)) lo hi) b 0 n s) at
         (length (now (items .entry))) (state (now (counts .entry)) told (now (text .entry)))) r (now (items .exit)) (now (text .exit)) (now (counts .exit)) ⌝ }
 {
     if items.len() < ITEM_WORDS {
@@ -305,7 +310,13 @@ fn decode_one(
         return refusal(o.refused);
     }
     let used = o.used + ITEM_WORDS;
-    put_header(items, name, 7, o.members, (used / ITEM_WORDS) as u64);
+    put_header(
+        items,
+        name,
+        TAG_STRUCT,
+        o.members,
+        (used / ITEM_WORDS) as u64,
+    );
     Out {
         refused: 0,
         used,
@@ -319,7 +330,7 @@ fn decode_one(
 fn ask_record(layout: &[u32], bytes: usize, deps: bool) -> u32
     ensures { λ r. ⌜ r ≡ recordAsks (now (layout .entry)) bytes deps ⌝ }
 {
-    if 65536 < bytes {
+    if MAX_RECORD < bytes {
         return 4;
     }
     if deps {

@@ -19,7 +19,6 @@ use Rattle.value.specs.Answer.{Answer, refused as refusedBy, given}
 use Rattle.value.specs.Number.{Whole, number}
 use Rattle.value.specs.declared.Scalar.{Scalar}
 use Rattle.value.specs.declared.Scalar.the-variants.{Null, Text, Int, Decimal, Float as FloatV, FloatBits, Bool as BoolV}
-use Rattle.value.specs.Scalar.{tagOf, firstOf, secondOf}
 use Rattle.ebcdic.specs.Ebcdic.{fromPage}
 use Rattle.display.specs.Display as Display
 use Rattle.binary.specs.Binary.{integerOf}
@@ -29,7 +28,7 @@ use Rattle.walks.specs.Kinds as W
 use Rattle.walks.specs.Kinds.{Count, State, start, countOf, noted, kinds}
 use Rattle.walks.specs.Reading as R
 use Rattle.positions.specs.Positions.{satSum}
-use Rattle.decode_leaf.specs.Counts.{setAll, first, setIn, noteIn}
+use Rattle.decode_leaf.specs.Counts.{setAll, first, noteIn}
 use Rattle.decode_leaf.specs.Machine as M
 use Rattle.decode_leaf.specs.Machine.{Held, kept}
 use Rattle.decode_leaf.proofs.Ranges.{Small, int-small, binary-small}

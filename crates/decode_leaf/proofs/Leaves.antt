@@ -1,21 +1,20 @@
 -- How the reader's leaves come to what they promise.
-use mathlib.Core.Path.{_≡_, refl, sym, ap, ap₂, _∙_}
+use mathlib.Core.Path.{_≡_, refl, ap, ap₂, _∙_}
 use mathlib.Core.Bool.{Bool, true, false, _&&_, not, cond}
 use mathlib.Core.List.{List, [], _∷_, _++_, append-nil}
-use Prim.Native.Nat.{ℕ, _+_, _-_, _/_, _≤_}
+use Prim.Native.Nat.{ℕ, _+_, _-_, _/_}
 use native.Mathlib.Omega.{arith}
 use mathlib.Core.Logic.{⊎-elim}
 use types.Run.{OneOf}
 use denote.Enum.Declared as Declared
-use lib.Dec.{eqb, leb, ltb}
-use lib.ListN.{length, set, take, drop, length-drop, drop-of-length-le}
+use lib.Dec.{eqb, ltb}
+use lib.ListN.{length, take, drop, length-drop, drop-of-length-le}
 use lib.Seq.{take-all}
-use borrow.Author.Tests.{lt-ltb, le-leb, lt-leb, eq-eqb, ne-eqb, leb-true, leb-false}
+use borrow.Author.Tests.{lt-ltb}
 use Rattle.layout.specs.declared.Entry.{Entry}
 use Rattle.value.specs.Answer.{Answer}
 use Rattle.decode_scalar.specs.Decode.{says, answerOf, textAfter}
 use Rattle.walks.specs.Walk.{Many, times}
-use Rattle.layout.specs.Layout.{unrepeated}
 use Rattle.decode_leaf.specs.declared.Count.{Count}
 use Rattle.value.specs.declared.Scalar.{Scalar}
 use Rattle.value.proofs.Scalar.{the-type}

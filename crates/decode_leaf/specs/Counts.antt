@@ -1,12 +1,12 @@
 -- The counts of a walk in a lent run: "work space of two 64-bit words an entry". A name's two words stand at its first entry.
-use mathlib.Core.Bool.{Bool, true, false, _&&_, _||_, cond}
+use mathlib.Core.Bool.{Bool, _&&_, cond}
 use mathlib.Core.List.{List, [], _∷_}
 use Prim.Native.Nat.{ℕ, zero, suc, _+_, _*_, min}
 use lib.Dec.{eqb, ltb}
 use lib.IntN.{ℤ, pos, negsuc}
 use lib.ListN.{getD, set}
 use Rattle.layout.specs.declared.Entry.{Entry}
-use Rattle.layout.specs.Layout.{entryCount, entryAt}
+use Rattle.layout.specs.Layout.{entryCount}
 use Rattle.value.specs.declared.Scalar.{Scalar}
 use Rattle.walks.specs.Walk.{Many, never, times}
 use Rattle.walks.specs.Kinds.{Count, countOf}

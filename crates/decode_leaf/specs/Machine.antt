@@ -1,11 +1,12 @@
 -- What the reader's inner functions promise: the walk with the state as the code holds it, by its own answer.
 use mathlib.Core.Path.{_≡_}
 use mathlib.Core.Bool.{Bool, _||_, _&&_, not, cond}
-use mathlib.Core.List.{List, _∷_, _++_}
+use mathlib.Core.List.{List, _++_}
 use Prim.Native.Nat.{ℕ, _+_, _/_, _≤_}
 use lib.Dec.{eqb, leb}
 use lib.IntN.{ℤ}
 use lib.ListN.{length, take, drop}
+use Rattle.codes.specs.Codes.{kindPad, tagList}
 use Rattle.layout.specs.declared.Entry.{Entry}
 use Rattle.value.specs.declared.Scalar.{Scalar}
 use Rattle.value.specs.declared.Scalar.the-variants.{Null, Text, Int, Decimal, Float as FloatV, FloatBits, Bool as BoolV}
@@ -52,7 +53,7 @@ leafAt k r e name once at room s = cond (isPad e) (pad r e at room s) (scalar k 
 
 -- a single entry and a table of Pads have no List's item
 abbrev pub bare : Entry → Bool
-bare e = unrepeated e || eqb (e .kind) 6
+bare e = unrepeated e || eqb (e .kind) kindPad
 
 -- the words of a table's own item
 abbrev pub headOf : Entry → ℕ
@@ -139,7 +140,7 @@ pub record Placed (o : Held → Outcome Held) (behind width : ℕ) (before : Lis
 
 -- a table's own item around the elements behind it
 abbrev pub headed : Entry → ℕ → ℕ → List ℕ → List ℕ
-headed e used members items = cond (bare e) items (wordsOf (header (e .name) 6 members (used / itemWords)) ++ drop itemWords items)
+headed e used members items = cond (bare e) items (wordsOf (header (e .name) tagList members (used / itemWords)) ++ drop itemWords items)
 
 pub record Listed (e : Entry) (end members width behind : ℕ) (r : Out) (before items : List ℕ) : Type 0 where
   pub is : items ≡ headed e end members before

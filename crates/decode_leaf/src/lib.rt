@@ -1,4 +1,8 @@
 // The parts of the record reader: the counts of a walk, one scalar or Pad with its item.
+use codes::ABSENT;
+use codes::ELEMENT;
+use codes::KIND_PAD;
+use codes::TAG_LIST;
 use decode_scalar::Decoded;
 use items::ITEM_WORDS;
 use items::item_count;
@@ -18,6 +22,7 @@ ghost use Prim.Native.Nat.{ℕ, _+_, _-_, _*_, _/_, _≤_, _<_, min, max};
 ghost use lib.IntN.{ℤ, pos};
 ghost use lib.Dec.{eqb, leb, ltb};
 ghost use lib.ListN.{length, take, drop, getD, set, replicate};
+ghost use Rattle.codes.specs.Codes.{element};
 ghost use Rattle.walks.specs.Walk.{times, howMany, leaf};
 ghost use Rattle.items.specs.Items.{itemWords};
 ghost use Rattle.layout.specs.Layout.{unrepeated, isPad};
@@ -171,7 +176,7 @@ fn held(layout: &[u32], counts: &[i64], name: u32) -> Count
 pub fn how_many(layout: &[u32], counts: &[i64], e: Entry) -> Count
     ensures { λ r. ⌜ Counted (howMany (λ name run. heldIn (now (layout .entry)) name run) e (now (counts .entry))) r ⌝ }
 {
-    if e.depending == 4294967295 {
+    if e.depending == ABSENT {
         return Count {
             refused: 0,
             n: e.occurs as u64,
@@ -181,7 +186,7 @@ pub fn how_many(layout: &[u32], counts: &[i64], e: Entry) -> Count
     if c.refused != 0 {
         return c;
     }
-    if e.occurs == 4294967295 {
+    if e.occurs == ABSENT {
         return c;
     }
     if c.n <= e.occurs as u64 {
@@ -204,12 +209,12 @@ pub fn element_count(layout: &[u32], counts: &[i64], e: Entry) -> Count
 
 // The name of an element's item: 65,536 in a table.
 pub fn element_name(e: Entry, once: bool) -> u64
-    ensures { λ r. ⌜ r ≡ cond once (e .name) 65536 ⌝ }
+    ensures { λ r. ⌜ r ≡ cond once (e .name) element ⌝ }
 {
     if once {
         return e.name as u64;
     }
-    65536
+    ELEMENT
 }
 
 // Whether an element of a table took no byte.
@@ -256,7 +261,13 @@ pub fn listed(
             told,
         };
     }
-    put_header(items, e.name as u64, 6, members, item_count(used) as u64);
+    put_header(
+        items,
+        e.name as u64,
+        TAG_LIST,
+        members,
+        item_count(used) as u64,
+    );
     Out {
         refused: 0,
         used,
@@ -325,12 +336,12 @@ fn place_lone(
 // The item of a table's element at the front.
 fn place_element(items: &mut [u64], e: Entry, told: usize, v: Scalar) -> Out
     requires { ⌜ toldIn told v < 9223372036854775808 ⌝ }
-    ensures { λ r. ⌜ Placed (λ st. placed 65536 false (e .width) (length (now (items .entry))) (leaf (movedIn told v) st)) (toldIn told v) (e .width) (now (items .entry)) r (now (items .exit)) ⌝ }
+    ensures { λ r. ⌜ Placed (λ st. placed element false (e .width) (length (now (items .entry))) (leaf (movedIn told v) st)) (toldIn told v) (e .width) (now (items .entry)) r (now (items .exit)) ⌝ }
 {
     if e.width == 0 {
         return refusal(10);
     }
-    place(items, 65536, e.width, told, v)
+    place(items, ELEMENT, e.width, told, v)
 }
 
 // What the bytes of a field say; a text goes behind the texts so far. An entry is told by its words, so that no caller keeps one in memory.
@@ -417,7 +428,7 @@ pub fn decode_lone(
     if !inside(record.len() as u64, at, e.width as u64) {
         return refusal(7);
     }
-    if e.kind == 6 {
+    if e.kind == KIND_PAD {
         return passed(e.width, told);
     }
     lone_value(layout, record, items, text, counts, page, deps, e, at, told)
@@ -436,7 +447,7 @@ fn element_value(
     requires { ⌜ unrepeated e ≡ false ⌝ }
     requires { ⌜ at + e .width ≤ length (now «record») ⌝ }
     requires { ⌜ told ≤ length (now text) ⌝ }
-    ensures { λ r. ⌜ Element (λ l deps. scalar (kept l page (length (now (text .entry))) deps) (now («record» .entry)) e 65536 false at (length (now (items .entry))))
+    ensures { λ r. ⌜ Element (λ l deps. scalar (kept l page (length (now (text .entry))) deps) (now («record» .entry)) e element false at (length (now (items .entry))))
         told (now (text .entry)) (now (items .entry)) r (now (items .exit)) (now (text .exit)) ⌝ }
     ensures { λ _. ⌜ now (text .exit) ≡ textIn page (now («record» .entry)) e at told (now (text .entry)) ⌝ }
 {
@@ -458,14 +469,14 @@ pub fn decode_element(
 ) -> Out
     requires { ⌜ unrepeated e ≡ false ⌝ }
     requires { ⌜ told ≤ length (now text) ⌝ }
-    ensures { λ r. ⌜ Element (λ l deps. leafAt (kept l page (length (now (text .entry))) deps) (now («record» .entry)) e 65536 false at (length (now (items .entry))))
+    ensures { λ r. ⌜ Element (λ l deps. leafAt (kept l page (length (now (text .entry))) deps) (now («record» .entry)) e element false at (length (now (items .entry))))
         told (now (text .entry)) (now (items .entry)) r (now (items .exit)) (now (text .exit)) ⌝ }
     ensures { λ _. ⌜ now (text .exit) ≡ textBehind page (now («record» .entry)) e at told (now (text .entry)) ⌝ }
 {
     if !inside(record.len() as u64, at, e.width as u64) {
         return refusal(7);
     }
-    if e.kind == 6 {
+    if e.kind == KIND_PAD {
         return passed(e.width, told);
     }
     element_value(record, items, text, page, e, at, told)

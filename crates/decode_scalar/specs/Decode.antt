@@ -4,6 +4,7 @@ use mathlib.Core.Bool.{Bool, not, cond}
 use Prim.Native.Nat.{ℕ, _%_}
 use lib.Dec.{eqb, leb}
 use lib.ListN.{length}
+use Rattle.codes.specs.Codes.{kindText, kindInt, kindBinary, kindFloat, kindHex, kindBool, kindDecimal, kindEdited}
 use Rattle.value.specs.declared.Scalar.{Scalar}
 use Rattle.value.specs.declared.Scalar.the-variants.{Null, Text, Int, Bool as BoolV}
 use Rattle.value.specs.Answer.{Answer, refused as refusedBy, given}
@@ -53,14 +54,14 @@ decimalIn p q page part =
 -- 0 Text, 1 Int, 2 Binary, 3 Float, 4 Hex, 5 Bool, 7 Decimal, 8 Edited; a Pad says nothing
 unfoldable pub says : ℕ → ℕ → ℕ → ℕ → ℕ → List ℕ → Says
 says kind p q r page part =
-    cond (eqb kind 0) (text (readText page (flag p) (flag q) (r % 256) part))
-    (cond (eqb kind 1) (intSays (Display.intOf q (map (fromPage page) part)))
-    (cond (eqb kind 2) (intSays (integerOf p (flag q) part))
-    (cond (eqb kind 3) (floatSays (floatIn p q part))
-    (cond (eqb kind 4) (text (hexOf p part))
-    (cond (eqb kind 5) (value (BoolV (boolOf part)))
-    (cond (eqb kind 7) (decimalSays r (decimalIn p q page part))
-    (cond (eqb kind 8) (decimalSays r (Edited.decodedOf (flag p) (map (fromPage page) part)))
+    cond (eqb kind kindText) (text (readText page (flag p) (flag q) (r % 256) part))
+    (cond (eqb kind kindInt) (intSays (Display.intOf q (map (fromPage page) part)))
+    (cond (eqb kind kindBinary) (intSays (integerOf p (flag q) part))
+    (cond (eqb kind kindFloat) (floatSays (floatIn p q part))
+    (cond (eqb kind kindHex) (text (hexOf p part))
+    (cond (eqb kind kindBool) (value (BoolV (boolOf part)))
+    (cond (eqb kind kindDecimal) (decimalSays r (decimalIn p q page part))
+    (cond (eqb kind kindEdited) (decimalSays r (Edited.decodedOf (flag p) (map (fromPage page) part)))
     (value Null))))))))
 
 -- "Place for item and text? 16": a text goes to the front of the text buffer, if it has room

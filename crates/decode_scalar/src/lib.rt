@@ -1,5 +1,13 @@
 // One scalar field of any kind, read: a field is told by the words kind, p, q, r of its layout entry.
 
+use codes::KIND_BINARY;
+use codes::KIND_BOOL;
+use codes::KIND_DECIMAL;
+use codes::KIND_EDITED;
+use codes::KIND_FLOAT;
+use codes::KIND_HEX;
+use codes::KIND_INT;
+use codes::KIND_TEXT;
 use float::Parsed;
 use text::Put;
 use value::Number;
@@ -118,14 +126,14 @@ pub fn decode_scalar(
     ensures { λ _. ⌜ now (text .exit) ≡ textAfter (says kind p q r page (now (part .entry))) (now (text .entry)) ⌝ }
 {
     match kind {
-        0 => read_text(part, page, flag(p), flag(q), low_byte(r), text),
-        1 => int_scalar(display::parse_display_int(part, page, q)),
-        2 => int_scalar(binary::parse_binary_int(part, p, flag(q))),
-        3 => float_answer(float::parse_float(part, q, p)),
-        4 => read_hex(part, p, text),
-        5 => Decoded::Value(Scalar::Bool(binary::parse_bool(part))),
-        7 => decimal_scalar(parse_decimal(part, page, p, q), r),
-        8 => decimal_scalar(edited::decode(part, page, flag(p)), r),
+        KIND_TEXT => read_text(part, page, flag(p), flag(q), low_byte(r), text),
+        KIND_INT => int_scalar(display::parse_display_int(part, page, q)),
+        KIND_BINARY => int_scalar(binary::parse_binary_int(part, p, flag(q))),
+        KIND_FLOAT => float_answer(float::parse_float(part, q, p)),
+        KIND_HEX => read_hex(part, p, text),
+        KIND_BOOL => Decoded::Value(Scalar::Bool(binary::parse_bool(part))),
+        KIND_DECIMAL => decimal_scalar(parse_decimal(part, page, p, q), r),
+        KIND_EDITED => decimal_scalar(edited::decode(part, page, flag(p)), r),
         _ => Decoded::Value(Scalar::Null),
     }
 }

@@ -3,7 +3,6 @@ use mathlib.Core.Path.{_≡_}
 use mathlib.Core.List.{List}
 use Prim.Native.Nat.{ℕ, _+_, _≤_, _<_}
 use lib.ListN.{length, take, drop}
-use Rattle.layout.specs.declared.Entry.{Entry}
 use Rattle.layout.specs.Layout.{entryAt, entryCount, part, checkedOf}
 use Rattle.items.specs.Items.{Values}
 use Rattle.walks.specs.Kinds.{kinds}

@@ -1,4 +1,7 @@
 // The record writer: a sequence writes fields, a field writes elements, a group element writes a sequence.
+use codes::KIND_GROUP;
+use codes::KIND_PAD;
+use codes::TAG_STRUCT;
 use encode_leaf::Out;
 use encode_leaf::clear;
 use encode_leaf::elements_of;
@@ -33,6 +36,7 @@ ghost use mathlib.Core.Bool.{_&&_, _||_};
 ghost use lib.Dec.{eqb, ltb};
 ghost use lib.IntN.{pos};
 ghost use lib.ListN.{length, replicate};
+ghost use Rattle.codes.specs.Codes.{kindPad};
 ghost use Rattle.layout.specs.Layout.{part, entries, recordLength, unrepeated, isPad};
 ghost use Rattle.items.specs.Items.{itemCount, values};
 ghost use Rattle.walks.specs.Records.{listAsks, writerAsks, writtenInto, RecordWritten, supplied};
@@ -71,7 +75,7 @@ struct Place {
 fn is_lone_pad(e: Entry) -> bool
     ensures { λ r. ⌜ r ≡ (isPad e && unrepeated e) ⌝ }
 {
-    if e.kind == 6 {
+    if e.kind == KIND_PAD {
         return unrepeated(e);
     }
     false
@@ -110,7 +114,7 @@ fn place_of(items: &[u64], e: Entry, from: usize, f: Place, to: usize) -> Place
 fn is_lone_leaf(e: Entry) -> bool
     ensures { λ r. ⌜ r ≡ lone e ⌝ }
 {
-    if e.kind == 9 {
+    if e.kind == KIND_GROUP {
         return false;
     }
     if !unrepeated(e) {
@@ -205,7 +209,7 @@ fn encode_field(
         return refusal(s.refused);
     }
     let end = s.end;
-    if e.kind != 9 {
+    if e.kind != KIND_GROUP {
         if s.from < end {
             return encode_table(masks, text, items, rec, page, e, s.n, s.from, end, at);
         }
@@ -260,7 +264,7 @@ fn encode_one(
         r (now (rec .exit)) ⌝ }
 {
     let it = fetch(items, i, to);
-    if !takes(it.tag, 7) {
+    if !takes(it.tag, TAG_STRUCT) {
         return refusal(13);
     }
     let end = item_end(items, i, to);
@@ -270,9 +274,9 @@ fn encode_one(
 
 // Whether an entry is a Pad, or its name is in the list.
 fn has_value(e: Entry, j: usize, to: usize) -> bool
-    ensures { λ r. ⌜ r ≡ (eqb (e .kind) 6 || ltb j to) ⌝ }
+    ensures { λ r. ⌜ r ≡ (eqb (e .kind) kindPad || ltb j to) ⌝ }
 {
-    if e.kind == 6 {
+    if e.kind == KIND_PAD {
         return true;
     }
     j < to
@@ -283,7 +287,7 @@ fn has_value(e: Entry, j: usize, to: usize) -> bool
 fn seek(items: &[u64], e: Entry, next: usize, to: usize) -> usize
     ensures { λ r. ⌜ values (now (items .entry)) r to ≡ sought e (values (now (items .entry)) next to) (values (now (items .entry)) 0 to) ⌝ }
 {
-    if e.kind == 6 {
+    if e.kind == KIND_PAD {
         return next;
     }
     if has_name(items, e.name as u64, next, to) {

@@ -1,10 +1,11 @@
 -- The writer's walk as its loops do it: the record buffer and the bytes taken are carried along, sums stop at 2^63, and elements that would all go alike
 -- are settled at once. A law joins it to the walk that yields puts.
-use mathlib.Core.Bool.{Bool, true, false, _&&_, _||_, cond}
-use mathlib.Core.List.{List, [], _∷_, _++_}
-use Prim.Native.Nat.{ℕ, zero, suc, _+_, _-_, _*_, min, max}
+use mathlib.Core.Bool.{Bool, _&&_, _||_, cond}
+use mathlib.Core.List.{List}
+use Prim.Native.Nat.{ℕ, zero, suc, _+_, _-_, _*_, max}
 use lib.Dec.{eqb, leb}
 use lib.ListN.{length}
+use Rattle.codes.specs.Codes.{tagNull, tagList, tagStruct}
 use Rattle.layout.specs.declared.Entry.{Entry}
 use Rattle.layout.specs.Layout.{isGroup, reservedWidth, unrepeated}
 use Rattle.spans.specs.Tree.{Tree, none, node}
@@ -37,11 +38,11 @@ leaf k room e it at b = coded room (e .width) at b (k .enc e it)
 
 -- a List (tag 6) or Struct (tag 7) by its members, Null as one of none
 unfoldable pub container : ℕ → (Values → Laid) → Values → Laid
-container tag f vs = cond (eqb (headOf vs .tag) tag) (f (membersOf vs)) (cond (eqb (headOf vs .tag) 0) (f none) (refused 13))
+container tag f vs = cond (eqb (headOf vs .tag) tag) (f (membersOf vs)) (cond (eqb (headOf vs .tag) tagNull) (f none) (refused 13))
 
 -- an element: of a group, and of any other entry
 abbrev pub group : Layer → Layer
-group inner vs at b = container 7 (λ ms. inner ms at b) vs
+group inner vs at b = container tagStruct (λ ms. inner ms at b) vs
 
 abbrev pub leaves : {S : Type 0} → Codec S → ℕ → Entry → Layer
 leaves k room e vs at b = leaf k room e (headOf vs) at b
@@ -62,7 +63,7 @@ elements f (suc n) vs at taken past b =
     (elements f n (restOf vs) (sat (at + t)) (sat (taken + t)) (max past past′) b′))
 
 unfoldable pub table : Entry → Layer → Layer
-table e f vs at b = container 6 (λ ms. elements f (tableLength e ms) ms at 0 0 b) vs
+table e f vs at b = container tagList (λ ms. elements f (tableLength e ms) ms at 0 0 b) vs
 
 unfoldable pub field : {S : Type 0} → Codec S → ℕ → Entry → Layer → Layer
 field k room e inner vs at b = cond (unrepeated e) (one k room e inner vs at b) (table e (one k room e inner) vs at b)

@@ -5,6 +5,7 @@ use mathlib.Core.List.{List, []}
 use Prim.Native.Nat.{ℕ, zero, suc, _+_, min}
 use lib.Dec.{eqb, leb}
 use lib.ListN.{length}
+use Rattle.codes.specs.Codes.{kindBool, kindEdited, tagNull}
 use Rattle.layout.specs.declared.Entry.{Entry}
 use Rattle.items.specs.declared.Item.{Item}
 use Rattle.encode_scalar.specs.Encode.{judgedOf, bytesOf}
@@ -40,7 +41,7 @@ bufferBehind f (suc n) vs at b = onward b (λ b′ past t. cond (settled vs past
 
 -- whether a value of this tag, or Null, is taken
 abbrev pub taking : ℕ → ℕ → Bool
-taking tag wanted = eqb tag wanted || eqb tag 0
+taking tag wanted = eqb tag wanted || eqb tag tagNull
 
 -- where the first of the items i up to `to` ends
 abbrev pub endIn : List ℕ → ℕ → ℕ → ℕ
@@ -67,14 +68,14 @@ roomIn b = min (length b) most
 
 -- the bytes that a scalar or Pad puts: "Bool sets one byte"; no lawful kind is above 9
 abbrev pub putting : ℕ → ℕ → ℕ
-putting kind width = cond (eqb kind 5) 1 (cond (leb kind 8) width 0)
+putting kind width = cond (eqb kind kindBool) 1 (cond (leb kind kindEdited) width 0)
 
 abbrev pub putWidth : Entry → ℕ
 putWidth e = putting (e .kind) (e .width)
 
 -- only an Edited, kind 8, has a mask
 abbrev pub masking : ℕ → List ℕ → List ℕ
-masking kind mask = cond (eqb kind 8) mask []
+masking kind mask = cond (eqb kind kindEdited) mask []
 
 abbrev pub maskFor : List ℕ → Entry → List ℕ
 maskFor masks e = masking (e .kind) (maskOf masks e)

@@ -1,4 +1,12 @@
 // The parts of the record writer: the elements of an entry, and one scalar or Pad put into the record.
+use codes::ABSENT;
+use codes::KIND_BOOL;
+use codes::KIND_EDITED;
+use codes::KIND_PAD;
+use codes::MAX_RECORD;
+use codes::TAG_LIST;
+use codes::TAG_NULL;
+use codes::TAG_TEXT;
 use items::Item;
 use items::after;
 use items::fetch;
@@ -19,6 +27,7 @@ ghost use Prim.Native.Nat.{ℕ, _+_, _-_, _*_, _≤_, min, max};
 ghost use lib.IntN.{pos};
 ghost use lib.Dec.{eqb, leb};
 ghost use lib.ListN.{length, replicate};
+ghost use Rattle.codes.specs.Codes.{most, tagText};
 ghost use Rattle.items.specs.Items.{values, textOf};
 ghost use Rattle.layout.specs.Layout.{unrepeated};
 ghost use Rattle.walks.specs.Walk.{valuesAfter};
@@ -53,14 +62,14 @@ pub fn takes(tag: u64, wanted: u64) -> bool
     if tag == wanted {
         return true;
     }
-    tag == 0
+    tag == TAG_NULL
 }
 
 // How many elements a table has: occurs, or under depending as many as the items from..to.
 fn table_length(items: &[u64], e: Entry, from: usize, to: usize) -> u64
     ensures { λ r. ⌜ r ≡ tableLength e (values (now (items .entry)) from to) ⌝ }
 {
-    if e.depending == 4294967295 {
+    if e.depending == ABSENT {
         return e.occurs as u64;
     }
     members(items, from, to)
@@ -87,7 +96,7 @@ pub fn elements_of(items: &[u64], e: Entry, i: usize, to: usize) -> Run
         };
     }
     let it = fetch(items, i, to);
-    if !takes(it.tag, 6) {
+    if !takes(it.tag, TAG_LIST) {
         return Run {
             refused: 13,
             n: 0,
@@ -110,7 +119,7 @@ pub fn elements_of(items: &[u64], e: Entry, i: usize, to: usize) -> Run
 pub fn values_after(items: &[u64], e: Entry, j: usize, to: usize) -> usize
     ensures { λ r. ⌜ values (now (items .entry)) r to ≡ valuesAfter e (values (now (items .entry)) j to) ⌝ }
 {
-    if e.kind == 6 {
+    if e.kind == KIND_PAD {
         return j;
     }
     item_end(items, j, to)
@@ -133,9 +142,13 @@ pub fn settles(j: usize, end: usize, past: u64, taken: u64) -> bool
 
 // The bytes that a record may have in a buffer.
 pub fn room_of(bytes: usize) -> u64
-    ensures { λ r. ⌜ r ≡ min bytes 65536 ⌝ }
+    ensures { λ r. ⌜ r ≡ min bytes most ⌝ }
 {
-    if bytes < 65536 { bytes as u64 } else { 65536 }
+    if bytes < MAX_RECORD {
+        bytes as u64
+    } else {
+        MAX_RECORD as u64
+    }
 }
 
 pub fn clip(n: u64, bytes: usize) -> usize
@@ -146,9 +159,9 @@ pub fn clip(n: u64, bytes: usize) -> usize
 
 // The length of a Text, 0 for any other item.
 pub fn text_size(it: Item) -> u64
-    ensures { λ r. ⌜ r ≡ cond (eqb (it .tag) 1) (it .b) 0 ⌝ }
+    ensures { λ r. ⌜ r ≡ cond (eqb (it .tag) tagText) (it .b) 0 ⌝ }
 {
-    if it.tag == 1 {
+    if it.tag == TAG_TEXT {
         return it.b;
     }
     0
@@ -157,10 +170,10 @@ pub fn text_size(it: Item) -> u64
 fn put_width(e: Entry) -> u64
     ensures { λ r. ⌜ r ≡ putWidth e ⌝ }
 {
-    if e.kind == 5 {
+    if e.kind == KIND_BOOL {
         return 1;
     }
-    if e.kind <= 8 {
+    if e.kind <= KIND_EDITED {
         return e.width as u64;
     }
     0
@@ -170,7 +183,7 @@ fn put_width(e: Entry) -> u64
 fn mask_of(masks: &[u8], e: Entry) -> &[u8]
     ensures { λ r. ⌜ now r ≡ maskFor (now (masks .entry)) e ⌝ }
 {
-    if e.kind != 8 {
+    if e.kind != KIND_EDITED {
         return &masks[0..0];
     }
     let m = clip(e.mask as u64, masks.len());
@@ -182,7 +195,7 @@ fn mask_of(masks: &[u8], e: Entry) -> &[u8]
 fn text_of(text: &[u8], it: Item) -> &[u8]
     ensures { λ r. ⌜ now r ≡ textOf (now (text .entry)) it ⌝ }
 {
-    if it.tag != 1 {
+    if it.tag != TAG_TEXT {
         return &text[0..0];
     }
     let a = clip(it.a, text.len());

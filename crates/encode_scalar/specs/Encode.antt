@@ -4,6 +4,7 @@ use mathlib.Core.Bool.{Bool, false, not, _&&_, cond}
 use Prim.Native.Nat.{ℕ, _%_}
 use lib.Dec.{eqb, leb}
 use lib.ListN.{length}
+use Rattle.codes.specs.Codes.{kindText, kindInt, kindBinary, kindFloat, kindHex, kindBool, kindPad, kindDecimal, kindEdited}
 use Rattle.value.specs.declared.Scalar.{Scalar}
 use Rattle.value.specs.declared.Scalar.the-variants.{Null, Text, Int, Decimal, Float as FloatV, FloatBits, Bool as BoolV}
 use Rattle.value.specs.Answer.{Answer, refused, given}
@@ -121,39 +122,39 @@ editedWritten page mask (given (number negative size)) = map (ontoPage page) (Ed
 -- the kinds that take a number, and Hex: the number that refuses the value at this width, 0 for none
 unfoldable pub numberJudged : ℕ → ℕ → ℕ → ℕ → ℕ → List ℕ → ℕ → Scalar → List ℕ → ℕ
 numberJudged kind p q r s mask w v text =
-    cond (eqb kind 1) (intJudged w (flag p) q (wholeIn v text))
-    (cond (eqb kind 2) (binaryJudged w (wholeIn v text))
-    (cond (eqb kind 3) (floatJudged q w (floatedOf v))
-    (cond (eqb kind 4) (hexJudged w (hexText v text))
-    (cond (eqb kind 7) (decimalJudged p q s w (decimalFor v r))
-    (cond (eqb kind 8) (Edited.answerOf w mask (decimalFor v r))
+    cond (eqb kind kindInt) (intJudged w (flag p) q (wholeIn v text))
+    (cond (eqb kind kindBinary) (binaryJudged w (wholeIn v text))
+    (cond (eqb kind kindFloat) (floatJudged q w (floatedOf v))
+    (cond (eqb kind kindHex) (hexJudged w (hexText v text))
+    (cond (eqb kind kindDecimal) (decimalJudged p q s w (decimalFor v r))
+    (cond (eqb kind kindEdited) (Edited.answerOf w mask (decimalFor v r))
     0)))))
 
 unfoldable pub numberBytes : ℕ → ℕ → ℕ → ℕ → List ℕ → ℕ → ℕ → Scalar → List ℕ → List ℕ
 numberBytes kind p q r mask page w v text =
-    cond (eqb kind 1) (intWritten page w q (wholeIn v text))
-    (cond (eqb kind 2) (binaryWritten p w (wholeIn v text))
-    (cond (eqb kind 3) (floatWritten p q w (floatedOf v))
-    (cond (eqb kind 4) (hexWritten p w (hexText v text))
-    (cond (eqb kind 7) (decimalWritten p q page w (decimalFor v r))
-    (cond (eqb kind 8) (editedWritten page mask (decimalFor v r))
+    cond (eqb kind kindInt) (intWritten page w q (wholeIn v text))
+    (cond (eqb kind kindBinary) (binaryWritten p w (wholeIn v text))
+    (cond (eqb kind kindFloat) (floatWritten p q w (floatedOf v))
+    (cond (eqb kind kindHex) (hexWritten p w (hexText v text))
+    (cond (eqb kind kindDecimal) (decimalWritten p q page w (decimalFor v r))
+    (cond (eqb kind kindEdited) (editedWritten page mask (decimalFor v r))
     [])))))
 
 -- "per field: value of a kind Rust takes there .. ? 13. Mask without a repeated $, + or -? 15. Value fits .. ? 14. Mask characters lawful? 15."
 -- A List or Struct (tags 6 and 7) is refused by 13, but a Text, a Bool and a Pad take it as they take Null
 unfoldable pub judgedOf : ℕ → ℕ → ℕ → ℕ → ℕ → List ℕ → ℕ → ℕ → Scalar → List ℕ → ℕ
 judgedOf kind p q r s mask w tag v text =
-    cond (eqb kind 0) (refusalAt w (textIn v text))
-    (cond (eqb kind 5) 0
-    (cond (eqb kind 6) 0
+    cond (eqb kind kindText) (refusalAt w (textIn v text))
+    (cond (eqb kind kindBool) 0
+    (cond (eqb kind kindPad) 0
     (cond (leb 6 tag) 13 (numberJudged kind p q r s mask w v text))))
 
 -- the bytes that are written: one for a Bool, and for all others as many as the field has
 unfoldable pub bytesOf : ℕ → ℕ → ℕ → ℕ → List ℕ → ℕ → ℕ → Scalar → List ℕ → List ℕ
 bytesOf kind p q r mask page w v text =
-    cond (eqb kind 0) (textBytes page (flag p) (r % 256) w (textIn v text))
-    (cond (eqb kind 5) (cond (boolIn v) 1 0 ∷ [])
-    (cond (eqb kind 6) (padded page (r % 256) w)
+    cond (eqb kind kindText) (textBytes page (flag p) (r % 256) w (textIn v text))
+    (cond (eqb kind kindBool) (cond (boolIn v) 1 0 ∷ [])
+    (cond (eqb kind kindPad) (padded page (r % 256) w)
     (numberBytes kind p q r mask page w v text)))
 
 -- the part after writing: the bytes at its front, or, refused, the part as it was

@@ -1,6 +1,16 @@
 // One scalar field of any kind, written: a field is told by the words kind, p, q, r, s of its layout entry and an Edited's mask, and a value by
 // the tag and the two words of its item and, for a Text, its bytes.
 
+use codes::KIND_BINARY;
+use codes::KIND_BOOL;
+use codes::KIND_DECIMAL;
+use codes::KIND_EDITED;
+use codes::KIND_FLOAT;
+use codes::KIND_HEX;
+use codes::KIND_INT;
+use codes::KIND_PAD;
+use codes::KIND_TEXT;
+use codes::TAG_DECIMAL;
 use float::Floated;
 use value::Amount;
 use value::Number;
@@ -117,12 +127,12 @@ fn judge_number(
     ensures { λ n. ⌜ n ≡ numberJudged kind p q r s (now (mask .entry)) width v (now (text .entry)) ⌝ }
 {
     match kind {
-        1 => judge_int(width, decode_scalar::flag(p), q, display::as_i128(v, text)),
-        2 => judge_binary(width, display::as_i128(v, text)),
-        3 => judge_float(q, width, float::as_f64(v)),
-        4 => judge_hex(width, v, text),
-        7 => judge_decimal(p, q, s, width, float::as_decimal(v, r as u64)),
-        8 => judge_edited(width, mask, float::as_decimal(v, r as u64)),
+        KIND_INT => judge_int(width, decode_scalar::flag(p), q, display::as_i128(v, text)),
+        KIND_BINARY => judge_binary(width, display::as_i128(v, text)),
+        KIND_FLOAT => judge_float(q, width, float::as_f64(v)),
+        KIND_HEX => judge_hex(width, v, text),
+        KIND_DECIMAL => judge_decimal(p, q, s, width, float::as_decimal(v, r as u64)),
+        KIND_EDITED => judge_edited(width, mask, float::as_decimal(v, r as u64)),
         _ => 0,
     }
 }
@@ -154,13 +164,13 @@ pub fn judge_scalar(
     ensures { λ n. ⌜ n ≡ judgedOf kind p q r s (now (mask .entry)) width tag (scalarOf tag a b) (now (text .entry)) ⌝ }
 {
     let v = value::item_scalar(tag, a, b);
-    if kind == 0 {
+    if kind == KIND_TEXT {
         return text::fits_text(width, v, text);
     }
-    if kind == 5 {
+    if kind == KIND_BOOL {
         return 0;
     }
-    if kind == 6 {
+    if kind == KIND_PAD {
         return 0;
     }
     if tag >= 6 {
@@ -310,7 +320,7 @@ fn write_decimal(part: &mut [u8], page: u32, p: u32, q: u32, s: u32, n: Amount) 
 fn decimal_item(tag: u64, a: u64, b: u64, scale: u64) -> Amount
     ensures { λ n. ⌜ amountAs n ≡ itemNumber tag a b scale ⌝ }
 {
-    if tag == 3 {
+    if tag == TAG_DECIMAL {
         if b == scale {
             return value::amount_of(value::is_minus(a), value::size_of(a));
         }
@@ -346,17 +356,17 @@ fn write_number(
         (numberBytes kind p q r (now (mask .entry)) page (length (now (part .entry))) v (now (text .entry))) (now (part .entry)) ⌝ }
 {
     match kind {
-        1 => write_int(
+        KIND_INT => write_int(
             part,
             page,
             decode_scalar::flag(p),
             q,
             display::as_i128(v, text),
         ),
-        2 => write_binary(part, p, display::as_i128(v, text)),
-        3 => write_float(part, p, q, float::as_f64(v)),
-        4 => write_hex(part, p, v, text),
-        8 => write_edited(part, page, mask, float::as_decimal(v, r as u64)),
+        KIND_BINARY => write_binary(part, p, display::as_i128(v, text)),
+        KIND_FLOAT => write_float(part, p, q, float::as_f64(v)),
+        KIND_HEX => write_hex(part, p, v, text),
+        KIND_EDITED => write_edited(part, page, mask, float::as_decimal(v, r as u64)),
         _ => 0,
     }
 }
@@ -381,11 +391,11 @@ pub fn encode_scalar(
     ensures { λ _. ⌜ now (part .exit) ≡ partAfter (judgedOf kind p q r s (now (mask .entry)) (length (now (part .entry))) tag (scalarOf tag a b) (now (text .entry)))
         (bytesOf kind p q r (now (mask .entry)) page (length (now (part .entry))) (scalarOf tag a b) (now (text .entry))) (now (part .entry)) ⌝ }
 {
-    if kind == 7 {
+    if kind == KIND_DECIMAL {
         return write_decimal(part, page, p, q, s, decimal_item(tag, a, b, r as u64));
     }
     let v = value::item_scalar(tag, a, b);
-    if kind == 0 {
+    if kind == KIND_TEXT {
         return write_text(
             part,
             page,
@@ -395,11 +405,11 @@ pub fn encode_scalar(
             text,
         );
     }
-    if kind == 5 {
+    if kind == KIND_BOOL {
         write_bool(part, v);
         return 0;
     }
-    if kind == 6 {
+    if kind == KIND_PAD {
         text::fill_pad(part, decode_scalar::low_byte(r), page);
         return 0;
     }

@@ -5,6 +5,7 @@ use Prim.Native.Nat.{ℕ, _-_, _*_, _/_, _%_, _^_}
 use lib.Dec.{eqb, leb, ltb}
 use lib.ListN.{length, getD}
 use lib.Ieee.{binary64, fits, isNan, toBits, nanBits}
+use Rattle.codes.specs.Codes.{kindText, kindInt, kindBinary, kindFloat, kindHex, kindBool, kindDecimal, kindEdited, tagNull, tagText, tagInt, tagDecimal, tagFloat, tagBool}
 use Rattle.lists.specs.Scan.{everyBy}
 use Rattle.value.specs.declared.Scalar.{Scalar}
 use Rattle.value.specs.declared.Scalar.the-variants.{Null, Text, Int, Decimal, Float as FloatV, FloatBits, Bool as BoolV}
@@ -125,19 +126,19 @@ editedFits signed w negative size mask = eqb (length mask) w && (maskFits size m
 
 unfoldable pub fitsOf : (p q r s : ℕ) (mask : List ℕ) (w kind : ℕ) → Scalar → List ℕ → Bool
 fitsOf p q r s mask w kind Null t = false
-fitsOf p q r s mask w kind (Text start count) t = cond (eqb kind 0) (textFits (flag p) (flag q) (r % 256) w t) (eqb kind 4 && hexFits w t)
-fitsOf p q r s mask w kind (Int negative size) t = cond (eqb kind 1) (intFits w q negative size) (eqb kind 2 && binaryFits w (flag q) negative size)
+fitsOf p q r s mask w kind (Text start count) t = cond (eqb kind kindText) (textFits (flag p) (flag q) (r % 256) w t) (eqb kind kindHex && hexFits w t)
+fitsOf p q r s mask w kind (Int negative size) t = cond (eqb kind kindInt) (intFits w q negative size) (eqb kind kindBinary && binaryFits w (flag q) negative size)
 fitsOf p q r s mask w kind (Decimal negative size scale) t =
-    eqb scale r && cond (eqb kind 7) (decimalFits p q s w negative size) (eqb kind 8 && editedFits (flag p) w negative size mask)
-fitsOf p q r s mask w kind (FloatV x) t = eqb kind 3 && ((fits binary64 x && not (isNan x)) && wordFits q w (toBits binary64 x))
-fitsOf p q r s mask w kind (FloatBits x) t = eqb kind 3 && (nanBits binary64 x && wordFits q w x)
-fitsOf p q r s mask w kind (BoolV b) t = eqb kind 5 && eqb w 1
+    eqb scale r && cond (eqb kind kindDecimal) (decimalFits p q s w negative size) (eqb kind kindEdited && editedFits (flag p) w negative size mask)
+fitsOf p q r s mask w kind (FloatV x) t = eqb kind kindFloat && ((fits binary64 x && not (isNan x)) && wordFits q w (toBits binary64 x))
+fitsOf p q r s mask w kind (FloatBits x) t = eqb kind kindFloat && (nanBits binary64 x && wordFits q w x)
+fitsOf p q r s mask w kind (BoolV b) t = eqb kind kindBool && eqb w 1
 
 -- the tag of the values that fit a kind; 0 for a kind that takes none
 abbrev pub tagFor : ℕ → ℕ
 tagFor kind =
-    cond (eqb kind 0 || eqb kind 4) 1
-    (cond (eqb kind 1 || eqb kind 2) 2
-    (cond (eqb kind 7 || eqb kind 8) 3
-    (cond (eqb kind 3) 4
-    (cond (eqb kind 5) 5 0))))
+    cond (eqb kind kindText || eqb kind kindHex) tagText
+    (cond (eqb kind kindInt || eqb kind kindBinary) tagInt
+    (cond (eqb kind kindDecimal || eqb kind kindEdited) tagDecimal
+    (cond (eqb kind kindFloat) tagFloat
+    (cond (eqb kind kindBool) tagBool tagNull))))

@@ -1,6 +1,14 @@
 // Whether a value fits a scalar field: a field is told by the words kind, p, q, r, s of its layout entry, an Edited's mask and its width, and a Text's bytes stand
 // beside the value.
 
+use codes::KIND_BINARY;
+use codes::KIND_BOOL;
+use codes::KIND_DECIMAL;
+use codes::KIND_EDITED;
+use codes::KIND_FLOAT;
+use codes::KIND_HEX;
+use codes::KIND_INT;
+use codes::KIND_TEXT;
 use value::Amount;
 use value::Scalar;
 ghost use mathlib.Core.Path.{_≡_};
@@ -112,7 +120,7 @@ fn fits_hex(width: usize, t: &[u8]) -> bool
 fn text_fits(kind: u32, p: u32, q: u32, r: u32, width: usize, t: &[u8]) -> bool
     ensures { λ b. ⌜ b ≡ cond (eqb kind 0) (textFits (Decode.flag p) (Decode.flag q) (r % 256) width (now (t .entry))) (eqb kind 4 && hexFits width (now (t .entry))) ⌝ }
 {
-    if kind == 0 {
+    if kind == KIND_TEXT {
         return fits_text(
             decode_scalar::flag(p),
             decode_scalar::flag(q),
@@ -121,7 +129,7 @@ fn text_fits(kind: u32, p: u32, q: u32, r: u32, width: usize, t: &[u8]) -> bool
             t,
         );
     }
-    if kind == 4 {
+    if kind == KIND_HEX {
         return fits_hex(width, t);
     }
     false
@@ -191,10 +199,10 @@ fn fits_binary(width: usize, signed: bool, negative: bool, size: u64) -> bool
 fn int_fits(kind: u32, q: u32, width: usize, negative: bool, size: u64) -> bool
     ensures { λ r. ⌜ r ≡ cond (eqb kind 1) (intFits width q negative size) (eqb kind 2 && binaryFits width (Decode.flag q) negative size) ⌝ }
 {
-    if kind == 1 {
+    if kind == KIND_INT {
         return fits_int(width, q, negative, size);
     }
-    if kind == 2 {
+    if kind == KIND_BINARY {
         return fits_binary(width, decode_scalar::flag(q), negative, size);
     }
     false
@@ -214,7 +222,7 @@ fn fits_word(bits: u32, width: usize, x: u64) -> bool
 fn float_fits(kind: u32, bits: u32, width: usize, x: f64) -> bool
     ensures { λ r. ⌜ r ≡ (eqb kind 3 && ((Ieee.fits binary64 x && not (Ieee.isNan x)) && wordFits bits width (Ieee.toBits binary64 x))) ⌝ }
 {
-    if kind != 3 {
+    if kind != KIND_FLOAT {
         return false;
     }
     if x == x {
@@ -226,7 +234,7 @@ fn float_fits(kind: u32, bits: u32, width: usize, x: f64) -> bool
 fn nan_fits(kind: u32, bits: u32, width: usize, x: u64) -> bool
     ensures { λ r. ⌜ r ≡ (eqb kind 3 && (Ieee.nanBits binary64 x && wordFits bits width x)) ⌝ }
 {
-    if kind != 3 {
+    if kind != KIND_FLOAT {
         return false;
     }
     if x % 0x8000_0000_0000_0000 > 0x7FF0_0000_0000_0000 {
@@ -377,10 +385,10 @@ fn decimal_fits(
 ) -> bool
     ensures { λ r. ⌜ r ≡ cond (eqb kind 7) (decimalFits p q s width negative size) (eqb kind 8 && editedFits (Decode.flag p) width negative size (now (mask .entry))) ⌝ }
 {
-    if kind == 7 {
+    if kind == KIND_DECIMAL {
         return fits_decimal(p, q, s, width, negative, size);
     }
-    if kind == 8 {
+    if kind == KIND_EDITED {
         return fits_edited(decode_scalar::flag(p), width, negative, size, mask);
     }
     false
@@ -411,7 +419,7 @@ fn scaled_fits(
 fn bool_fits(kind: u32, width: usize) -> bool
     ensures { λ r. ⌜ r ≡ (eqb kind 5 && eqb width 1) ⌝ }
 {
-    if kind == 5 {
+    if kind == KIND_BOOL {
         return width == 1;
     }
     false

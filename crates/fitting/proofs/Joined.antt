@@ -2,7 +2,7 @@
 use mathlib.Core.Path.{_≡_, refl, sym, ap, ap₂, _∙_, subst, subst⁻¹}
 use mathlib.Core.Bool.{Bool, true, false, _&&_, _||_, not, cond, true≢false}
 use mathlib.Core.List.{List, [], _∷_, _++_}
-use Prim.Native.Nat.{ℕ, zero, suc, _+_, _-_, _/_, _^_, _<_, _≤_}
+use Prim.Native.Nat.{ℕ, zero, suc, _+_, _-_, _^_, _<_, _≤_}
 use native.Mathlib.Omega.{arith}
 use lib.Dec.{eqb, leb, ltb}
 use lib.IntN.{ℤ, pos}
@@ -13,7 +13,7 @@ use borrow.Author.Tests.{eq-eqb, ne-eqb, eqb-true, eqb-false, lt-ltb, ltb-true, 
 use Rattle.spans.specs.Tree.{Tree, none, node, endOf, treeIn, tree}
 use Rattle.lists.proofs.Logic.{and-left, and-right}
 use Rattle.layout.specs.declared.Entry.{Entry}
-use Rattle.layout.specs.Layout.{workFor, present, entryAt, entryCount, spanOf, isGroup, part, entries, unrepeated, isPad, controls}
+use Rattle.layout.specs.Layout.{workFor, present, entryAt, entryCount, spanOf, isGroup, entries, unrepeated, isPad, controls}
 use Rattle.items.specs.declared.Item.{Item}
 use Rattle.items.specs.Items.{Values, itemCount, values, count, headOf, membersOf, restOf, scalarOk, wellFormed, textOf, scalarIn, missing}
 use Rattle.value.specs.declared.Scalar.{Scalar}

@@ -5,11 +5,12 @@ use Prim.Native.Nat.{ℕ, _+_}
 use lib.Dec.{eqb}
 use lib.IntN.{ℤ}
 use lib.ListN.{replicate}
+use Rattle.codes.specs.Codes.{tagText, tagList, tagStruct, element}
 use Rattle.layout.specs.declared.Entry.{Entry}
 use Rattle.layout.specs.Layout.{isGroup, unrepeated, isPad}
 use Rattle.spans.specs.Tree.{Tree, none, node}
 use Rattle.items.specs.declared.Item.{Item}
-use Rattle.items.specs.Items.{Values, count, headOf, membersOf, restOf, scalarIn}
+use Rattle.items.specs.Items.{Values, count, headOf, membersOf, scalarIn}
 use Rattle.walks.specs.Walk.{valuesAfter, howMany}
 use Rattle.walks.specs.Kinds.{State}
 use Rattle.walks.specs.Decide.{Fit, misfit, fit, bind, guard, holds, goodOf, numbers}
@@ -37,14 +38,14 @@ saying told = record { counts = []; text = replicate told 0 }
 
 -- the name of an entry's element
 abbrev pub nameOf : Entry → ℕ
-nameOf e = cond (unrepeated e) (e .name) 65536
+nameOf e = cond (unrepeated e) (e .name) element
 
 abbrev pub toldAfter : Item → ℕ → ℕ
-toldAfter it told = told + cond (eqb (it .tag) 1) (it .b) 0
+toldAfter it told = told + cond (eqb (it .tag) tagText) (it .b) 0
 
 -- the first item is a List of as many elements as a table has
 unfoldable pub tabled : List ℕ → Entry → Values → List ℤ → Bool
-tabled l e vs run = headed (e .name) 6 vs && numbers (howMany (λ name r. heldIn l name r) e run) (count (membersOf vs))
+tabled l e vs run = headed (e .name) tagList vs && numbers (howMany (λ name r. heldIn l name r) e run) (count (membersOf vs))
 
 -- the first item is a scalar that fits an entry, under this name
 abbrev pub good : List ℕ → List ℕ → Entry → ℕ → Values → ℕ → Bool
@@ -57,7 +58,7 @@ module _ (l masks source : List ℕ) where
       guard (good masks source e (nameOf e) vs told) (fits (noteIn l true e (scalarIn (headOf vs)) run) (toldAfter (headOf vs) told))
 
   unfoldable pub one : Entry → Fitter → Fitter
-  one e inner vs run told = cond (isGroup e) (guard (headed (nameOf e) 7 vs) (inner (membersOf vs) run told)) (leaf e vs run told)
+  one e inner vs run told = cond (isGroup e) (guard (headed (nameOf e) tagStruct vs) (inner (membersOf vs) run told)) (leaf e vs run told)
 
   unfoldable pub each : Entry → Fitter → Fitter
   each e inner none run told = fits run told

@@ -1,4 +1,9 @@
 // Whether a value list with its texts fits a layout: a sequence goes by fields, a field by elements, a group element by a sequence.
+use codes::KIND_GROUP;
+use codes::KIND_PAD;
+use codes::TAG_LIST;
+use codes::TAG_STRUCT;
+use codes::TAG_TEXT;
 use decode_leaf::element_name;
 use decode_leaf::how_many;
 use decode_leaf::note;
@@ -25,6 +30,7 @@ ghost use mathlib.Core.Bool.{true, false, _&&_, _||_, not};
 ghost use lib.Dec.{eqb, leb};
 ghost use lib.IntN.{pos};
 ghost use lib.ListN.{length, replicate};
+ghost use Rattle.codes.specs.Codes.{tagText};
 ghost use Rattle.layout.specs.Layout.{workFor, part};
 ghost use Rattle.items.specs.Items.{values, textOf, scalarIn};
 ghost use Rattle.fits.specs.Decide.{fitsOf};
@@ -92,9 +98,9 @@ fn fits_item(masks: &[u8], text: &[u8], e: Entry, it: Item) -> bool
 
 // Whether an item, if it is a text, begins behind the texts so far.
 fn is_packed(it: Item, told: usize) -> bool
-    ensures { λ r. ⌜ r ≡ (not (eqb (it .tag) 1) || eqb (it .a) told) ⌝ }
+    ensures { λ r. ⌜ r ≡ (not (eqb (it .tag) tagText) || eqb (it .a) told) ⌝ }
 {
-    if it.tag != 1 {
+    if it.tag != TAG_TEXT {
         return true;
     }
     it.a == told as u64
@@ -164,7 +170,7 @@ fn fit_leaf(
 fn is_table(layout: &[u32], items: &[u64], counts: &[i64], e: Entry, j: usize, to: usize) -> bool
     ensures { λ r. ⌜ r ≡ tabled (now (layout .entry)) e (values (now (items .entry)) j to) (now (counts .entry)) ⌝ }
 {
-    if !is_holder(items, e.name as u64, 6, j, to) {
+    if !is_holder(items, e.name as u64, TAG_LIST, j, to) {
         return false;
     }
     let c = how_many(layout, counts, e);
@@ -234,7 +240,7 @@ fn fit_field(
         (values (now (items .entry)) j to) (now (counts .entry)) told)
         r (now (counts .exit)) ⌝ }
 {
-    if e.kind == 6 {
+    if e.kind == KIND_PAD {
         return Out { ok: true, told };
     }
     if unrepeated(e) {
@@ -277,10 +283,10 @@ fn fit_one(
         (values (now (items .entry)) j to) (now (counts .entry)) told)
         r (now (counts .exit)) ⌝ }
 {
-    if e.kind != 9 {
+    if e.kind != KIND_GROUP {
         return fit_leaf(layout, masks, items, text, counts, e, j, to, told);
     }
-    if !is_holder(items, element_name(e, unrepeated(e)), 7, j, to) {
+    if !is_holder(items, element_name(e, unrepeated(e)), TAG_STRUCT, j, to) {
         return misfit();
     }
     let end = item_end(items, j, to);

@@ -1,12 +1,10 @@
 -- Worked examples, each with a text buffer of 5 bytes.
 use mathlib.Core.Path.{_≡_, refl}
 use mathlib.Core.Bool.{Bool, true, false}
-use mathlib.Core.List.{List, [], _∷_, _++_}
-use Prim.Native.Nat.{ℕ, zero, suc, _+_, _*_}
-use lib.ListN.{length}
-use Rattle.spans.specs.Tree.{Tree, none, node, tree, treeIn, size}
-use Rattle.items.specs.declared.Item.{Item}
-use Rattle.items.specs.Items.{itemAt, Values, values, scalarOk, holderOk, itemOk, count, listOk, wellFormed, headOf, membersOf, restOf, lookup}
+use mathlib.Core.List.{List, [], _∷_}
+use Prim.Native.Nat.{ℕ, zero, suc}
+use Rattle.spans.specs.Tree.{none, tree, treeIn, size}
+use Rattle.items.specs.Items.{values, scalarOk, holderOk, itemOk, count, listOk, wellFormed, headOf, membersOf, lookup}
 
 abbrev fine : List ℕ → Bool
 fine items = wellFormed items 5

@@ -4,6 +4,7 @@ use mathlib.Core.List.{List, [], _∷_, _++_}
 use Prim.Native.Nat.{ℕ, zero, suc, _+_, _-_, _*_, _/_, _%_}
 use lib.Dec.{ltb, leb, eqb}
 use lib.ListN.{length, getD, take, drop}
+use Rattle.codes.specs.Codes.{tagNull, tagText, tagInt, tagDecimal, tagFloat, tagBool, tagList, tagStruct, element}
 use Rattle.items.specs.declared.Item.{Item}
 use Rattle.spans.specs.Tree.{Tree, none, node, tree, size}
 use Rattle.value.specs.Digits.{limit}
@@ -45,11 +46,11 @@ header name tag members span = record { name = name; tag = tag; a = members; b =
 
 -- the bytes of a Text item in its text buffer; no other item has any
 abbrev pub textOf : List ℕ → Item → List ℕ
-textOf source it = cond (eqb (it .tag) 1) (take (it .b) (drop (it .a) source)) []
+textOf source it = cond (eqb (it .tag) tagText) (take (it .b) (drop (it .a) source)) []
 
 -- "6 is List, 7 Struct": these have members
 abbrev pub holds : ℕ → Bool
-holds tag = eqb tag 6 || eqb tag 7
+holds tag = eqb tag tagList || eqb tag tagStruct
 
 -- "List or Struct member count and span, itself counted"; any other item stands alone
 abbrev pub spanOf : Item → ℕ
@@ -86,17 +87,17 @@ boolOk a b = leb a 1 && eqb b 0
 -- "a scalar is Null, Text, Int, Decimal, Float or Bool (tags 0 to 5)"
 unfoldable pub scalarOk : ℕ → Item → Bool
 scalarOk textBytes it =
-    cond (eqb (it .tag) 0) (nullOk (it .a) (it .b))
-    (cond (eqb (it .tag) 1) (textOk textBytes (it .a) (it .b))
-    (cond (eqb (it .tag) 2) (wordOk (it .b))
-    (cond (eqb (it .tag) 3) (decimalOk (it .a) (it .b))
-    (cond (eqb (it .tag) 4) (wordOk (it .b))
-    (cond (eqb (it .tag) 5) (boolOk (it .a) (it .b))
+    cond (eqb (it .tag) tagNull) (nullOk (it .a) (it .b))
+    (cond (eqb (it .tag) tagText) (textOk textBytes (it .a) (it .b))
+    (cond (eqb (it .tag) tagInt) (wordOk (it .b))
+    (cond (eqb (it .tag) tagDecimal) (decimalOk (it .a) (it .b))
+    (cond (eqb (it .tag) tagFloat) (wordOk (it .b))
+    (cond (eqb (it .tag) tagBool) (boolOk (it .a) (it .b))
     false)))))
 
 -- "name (65536 for list elements)": any other name is at most 65535
 abbrev pub nameOk : Bool → ℕ → Bool
-nameOk inList name = cond inList (eqb name 65536) (leb name 65535)
+nameOk inList name = cond inList (eqb name element) (leb name 65535)
 
 -- "List or Struct member count and span, itself counted": so many members, and so many items below it
 unfoldable pub holderOk : Item → ℕ → ℕ → Bool
@@ -116,7 +117,7 @@ unfoldable pub listOk : ℕ → Bool → ℕ → Values → Bool
 listOk textBytes inList levels none = true
 listOk textBytes inList zero (node it members rest) = false
 listOk textBytes inList (suc levels) (node it members rest) =
-    itemOk textBytes inList it (count members) (size members) && listOk textBytes (eqb (it .tag) 6) levels members && listOk textBytes inList (suc levels) rest
+    itemOk textBytes inList it (count members) (size members) && listOk textBytes (eqb (it .tag) tagList) levels members && listOk textBytes inList (suc levels) rest
 
 -- "Depth is at most 16"
 abbrev pub depth : ℕ

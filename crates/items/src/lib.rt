@@ -6,9 +6,20 @@ ghost use mathlib.Core.List.{_++_};
 ghost use Prim.Native.Nat.{ℕ, _+_, _*_, _/_, _≤_, min};
 ghost use lib.Dec.{eqb};
 ghost use lib.ListN.{length, getD, drop};
+ghost use Rattle.codes.specs.Codes.{tagList};
 ghost use Rattle.spans.specs.Tree.{endOf};
 ghost use Rattle.items.specs.Items.{itemWords, wordsOf, itemOf, header, scalarIn, itemAt, holds, spanOf, values, nullOk, textOk, decimalOk, boolOk, scalarOk, nameOk, holderOk, itemOk, count, listOk, wellFormed, headOf, lookup, placeOf};
+use codes::ELEMENT;
+use codes::TAG_BOOL;
+use codes::TAG_DECIMAL;
+use codes::TAG_FLOAT;
+use codes::TAG_INT;
+use codes::TAG_LIST;
+use codes::TAG_NULL;
+use codes::TAG_STRUCT;
+use codes::TAG_TEXT;
 use spans::end_of;
+use value::LIMIT;
 use value::Scalar;
 use value::item_scalar;
 use value::size_of;
@@ -126,7 +137,7 @@ pub fn fetch(items: &[u64], i: usize, to: usize) -> Item
     }
     Item {
         name: 0,
-        tag: 0,
+        tag: TAG_NULL,
         a: 0,
         b: 0,
     }
@@ -136,10 +147,10 @@ pub fn fetch(items: &[u64], i: usize, to: usize) -> Item
 fn holding(tag: u64) -> bool
     ensures { λ r. ⌜ r ≡ holds tag ⌝ }
 {
-    if tag == 6 {
+    if tag == TAG_LIST {
         return true;
     }
-    tag == 7
+    tag == TAG_STRUCT
 }
 
 fn span_of(it: Item) -> u64
@@ -205,7 +216,7 @@ fn text_ok(text: usize, a: u64, b: u64) -> bool
 fn decimal_ok(a: u64, b: u64) -> bool
     ensures { λ r. ⌜ r ≡ decimalOk a b ⌝ }
 {
-    if size_of(a) >= 1000000000000000000 {
+    if size_of(a) >= LIMIT {
         return false;
     }
     b <= 18
@@ -226,12 +237,12 @@ pub fn scalar_ok(it: Item, text: usize) -> bool
 {
     let tag = it.tag;
     match tag {
-        0 => null_ok(it.a, it.b),
-        1 => text_ok(text, it.a, it.b),
-        2 => it.b == 0,
-        3 => decimal_ok(it.a, it.b),
-        4 => it.b == 0,
-        5 => bool_ok(it.a, it.b),
+        TAG_NULL => null_ok(it.a, it.b),
+        TAG_TEXT => text_ok(text, it.a, it.b),
+        TAG_INT => it.b == 0,
+        TAG_DECIMAL => decimal_ok(it.a, it.b),
+        TAG_FLOAT => it.b == 0,
+        TAG_BOOL => bool_ok(it.a, it.b),
         _ => false,
     }
 }
@@ -240,7 +251,7 @@ fn name_ok(in_list: bool, name: u64) -> bool
     ensures { λ r. ⌜ r ≡ nameOk «in_list» name ⌝ }
 {
     if in_list {
-        return name == 65536;
+        return name == ELEMENT;
     }
     name <= 65535
 }
@@ -274,9 +285,9 @@ fn item_ok(text: usize, in_list: bool, it: Item, members: u64, below: u64) -> bo
 }
 
 fn is_list(tag: u64) -> bool
-    ensures { λ r. ⌜ r ≡ eqb tag 6 ⌝ }
+    ensures { λ r. ⌜ r ≡ eqb tag tagList ⌝ }
 {
-    tag == 6
+    tag == TAG_LIST
 }
 
 // How many items the sequence lo..hi has at its own level.

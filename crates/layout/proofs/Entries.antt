@@ -1,11 +1,10 @@
 -- Tests of one entry, as the code asks them.
 use mathlib.Core.Path.{_≡_, refl, sym, _∙_}
 use mathlib.Core.Bool.{Bool, true, false, _&&_, not, and-false}
-use Prim.Native.Nat.{ℕ}
 use lib.Dec.{eqb}
 use borrow.Author.Tests.{eq-eqb, ne-eqb}
 use Rattle.layout.specs.declared.Entry.{Entry}
-use Rattle.layout.specs.Layout.{absent, isGroup, unrepeated, unrepeatedLeaf, controls}
+use Rattle.layout.specs.Layout.{absent, unrepeated, unrepeatedLeaf, controls}
 
 module _ (e : Entry) where
   pub repeated-word : (e .occurs ≡ absent → ⊥) → false ≡ unrepeated e

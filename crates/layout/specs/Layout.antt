@@ -4,8 +4,9 @@ use mathlib.Core.List.{List}
 use Prim.Native.Nat.{ℕ, zero, suc, _+_, _*_, _/_, _%_, max}
 use lib.Dec.{eqb, leb}
 use lib.ListN.{length, getD}
+use Rattle.codes.specs.Codes.{kindText, kindInt, kindBinary, kindFloat, kindHex, kindBool, kindPad, kindDecimal, kindEdited, kindGroup}
 use Rattle.layout.specs.declared.Entry.{Entry}
-pub use Rattle.lists.specs.Absent.{absent}
+pub use Rattle.codes.specs.Codes.{absent}
 use Rattle.spans.specs.Tree.{Tree, none, node, tree, nested}
 
 abbrev pub present : ℕ → Bool
@@ -36,11 +37,11 @@ spanOf e = e .span
 
 -- "members only in groups": kind 9 is Group
 abbrev pub isGroup : Entry → Bool
-isGroup e = eqb (e .kind) 9
+isGroup e = eqb (e .kind) kindGroup
 
 -- "Pads yield no item": kind 6 is Pad
 unfoldable pub isPad : Entry → Bool
-isPad e = eqb (e .kind) 6
+isPad e = eqb (e .kind) kindPad
 
 -- "unrepeated: occurs and depending absent"
 unfoldable pub unrepeated : Entry → Bool
@@ -52,7 +53,7 @@ unrepeatedLeaf e = unrepeated e && not (isGroup e)
 
 -- What controls a table: "An unrepeated Int or Binary sets the count for its name."
 unfoldable pub controls : Entry → Bool
-controls e = unrepeated e && (eqb (e .kind) 1 || eqb (e .kind) 2)
+controls e = unrepeated e && (eqb (e .kind) kindInt || eqb (e .kind) kindBinary)
 
 -- the entries lo up to hi as a tree, and all of them
 abbrev pub part : List ℕ → ℕ → ℕ → Tree Entry
@@ -97,22 +98,22 @@ editedOk e masks = upTo e 1 0 18 0 && leb (e .mask + e .width) masks
 unfoldable pub kindOk : ℕ → Entry → ℕ → Bool
 kindOk kind e masks =
     -- Text: "p right-justified 0/1, q trim 0/1, r pad byte"
-    cond (eqb kind 0) (plainOk e 1 1 255 0)
+    cond (eqb kind kindText) (plainOk e 1 1 255 0)
     -- Int: "p signed 0/1, q sign"
-    (cond (eqb kind 1) (plainOk e 1 3 0 0)
+    (cond (eqb kind kindInt) (plainOk e 1 3 0 0)
     -- Binary: "p order, q signed 0/1"
-    (cond (eqb kind 2) (plainOk e 1 1 0 0)
-    (cond (eqb kind 3) (floatOk e)
+    (cond (eqb kind kindBinary) (plainOk e 1 1 0 0)
+    (cond (eqb kind kindFloat) (floatOk e)
     -- Hex: "p order"
-    (cond (eqb kind 4) (plainOk e 1 0 0 0)
-    (cond (eqb kind 5) (boolOk e)
+    (cond (eqb kind kindHex) (plainOk e 1 0 0 0)
+    (cond (eqb kind kindBool) (boolOk e)
     -- Pad: "r pad byte"
-    (cond (eqb kind 6) (plainOk e 0 0 255 0)
+    (cond (eqb kind kindPad) (plainOk e 0 0 255 0)
     -- Decimal: "p 0 Display 1 Comp3 2 Zoned, q sign, r scale 0..18, s precision 0..38"
-    (cond (eqb kind 7) (plainOk e 2 3 18 38)
-    (cond (eqb kind 8) (editedOk e masks)
+    (cond (eqb kind kindDecimal) (plainOk e 2 3 18 38)
+    (cond (eqb kind kindEdited) (editedOk e masks)
     -- Group: "none"
-    (cond (eqb kind 9) (plainOk e 0 0 0 0)
+    (cond (eqb kind kindGroup) (plainOk e 0 0 0 0)
     false)))))))))
 
 -- "name (number 0..65535 ..)"; "Offset, width, occurs are 0..65535"

@@ -1,4 +1,15 @@
 // The layout's words: whether they are lawful, the record's length, and whether a table depends on a count.
+use codes::ABSENT;
+use codes::KIND_BINARY;
+use codes::KIND_BOOL;
+use codes::KIND_DECIMAL;
+use codes::KIND_EDITED;
+use codes::KIND_FLOAT;
+use codes::KIND_GROUP;
+use codes::KIND_HEX;
+use codes::KIND_INT;
+use codes::KIND_PAD;
+use codes::KIND_TEXT;
 use positions::larger;
 use spans::end_of;
 ghost use mathlib.Core.Path.{_≡_};
@@ -167,16 +178,16 @@ fn kind_ok(e: Entry, masks: usize) -> bool
 {
     let kind = e.kind;
     match kind {
-        0 => plain_ok(e, 1, 1, 255, 0),
-        1 => plain_ok(e, 1, 3, 0, 0),
-        2 => plain_ok(e, 1, 1, 0, 0),
-        3 => float_ok(e),
-        4 => plain_ok(e, 1, 0, 0, 0),
-        5 => bool_ok(e),
-        6 => plain_ok(e, 0, 0, 255, 0),
-        7 => plain_ok(e, 2, 3, 18, 38),
-        8 => edited_ok(e, masks),
-        9 => plain_ok(e, 0, 0, 0, 0),
+        KIND_TEXT => plain_ok(e, 1, 1, 255, 0),
+        KIND_INT => plain_ok(e, 1, 3, 0, 0),
+        KIND_BINARY => plain_ok(e, 1, 1, 0, 0),
+        KIND_FLOAT => float_ok(e),
+        KIND_HEX => plain_ok(e, 1, 0, 0, 0),
+        KIND_BOOL => bool_ok(e),
+        KIND_PAD => plain_ok(e, 0, 0, 255, 0),
+        KIND_DECIMAL => plain_ok(e, 2, 3, 18, 38),
+        KIND_EDITED => edited_ok(e, masks),
+        KIND_GROUP => plain_ok(e, 0, 0, 0, 0),
         _ => false,
     }
 }
@@ -188,7 +199,7 @@ fn option_ok(n: u32) -> bool
     if n <= 65535 {
         return true;
     }
-    n == 4294967295
+    n == ABSENT
 }
 
 fn place_ok(e: Entry) -> bool
@@ -265,7 +276,7 @@ fn span_ok(e: Entry, n: usize) -> bool
     if e.span as u64 - 1 != below {
         return false;
     }
-    if e.kind == 9 {
+    if e.kind == KIND_GROUP {
         return true;
     }
     n == 0
@@ -333,17 +344,17 @@ pub fn ask_layout(layout: &[u32], masks: &[u8], page: u32, work: usize) -> u32
 pub fn unrepeated(e: Entry) -> bool
     ensures { λ r. ⌜ r ≡ unrepeated e ⌝ }
 {
-    if e.occurs != 4294967295 {
+    if e.occurs != ABSENT {
         return false;
     }
-    e.depending == 4294967295
+    e.depending == ABSENT
 }
 
 // Whether an entry is one scalar or Pad, so no table and no group.
 pub fn unrepeated_leaf(e: Entry) -> bool
     ensures { λ r. ⌜ r ≡ unrepeatedLeaf e ⌝ }
 {
-    if e.kind == 9 {
+    if e.kind == KIND_GROUP {
         return false;
     }
     unrepeated(e)
@@ -356,20 +367,20 @@ pub fn controls(e: Entry) -> bool
     if !unrepeated(e) {
         return false;
     }
-    if e.kind == 1 {
+    if e.kind == KIND_INT {
         return true;
     }
-    e.kind == 2
+    e.kind == KIND_BINARY
 }
 
 // The bytes that an entry reserves in the record.
 pub fn reserved_width(e: Entry) -> u64
     ensures { λ r. ⌜ r ≡ reservedWidth e ⌝ }
 {
-    if e.depending != 4294967295 {
+    if e.depending != ABSENT {
         return 0;
     }
-    if e.occurs == 4294967295 {
+    if e.occurs == ABSENT {
         return e.width as u64;
     }
     (e.width as u64) * (e.occurs as u64)
@@ -409,7 +420,7 @@ pub fn has_depending_on(layout: &[u32]) -> bool
     let mut i = 0;
     while i < n {
         let it = load_inside(layout, i);
-        if it.depending != 4294967295 {
+        if it.depending != ABSENT {
             return true;
         }
         i += 1;

@@ -4,6 +4,7 @@ use mathlib.Core.List.{List, [], _∷_}
 use Prim.Native.Nat.{ℕ, suc, _+_, _*_, _/_, _%_}
 use lib.Dec.{eqb}
 use lib.ListN.{length, take, drop, getD}
+use Rattle.codes.specs.Codes.{kindEdited}
 use Rattle.layout.specs.Layout.{allBelow}
 use Rattle.value.specs.Answer.{Answer, refused, given}
 use Rattle.lines.specs.Lines.{isEnd, startsWith, numberOf, nameOk, maskOk}
@@ -105,7 +106,7 @@ optional test s = isNone s || test s
 
 -- "A mask line holds an Edited's mask itself, bytes 0x20 to 0x7E ..; other kinds leave it empty."
 abbrev pub maskFor : ℕ → List ℕ → Bool
-maskFor kind s = cond (eqb kind 8) (maskOk s) (isNone s)
+maskFor kind s = cond (eqb kind kindEdited) (maskOk s) (isNone s)
 
 -- ---- lines
 

@@ -2,9 +2,11 @@
 use mathlib.Core.Path.{_≡_}
 use mathlib.Core.Bool.{Bool, _&&_, _||_, not, cond}
 use mathlib.Core.List.{List, [], _∷_, _++_, map}
-use Prim.Native.Nat.{ℕ, zero, suc, _+_, _-_, _/_, _%_}
+use Prim.Native.Nat.{ℕ, zero, suc, _+_, _/_, _%_}
 use lib.Dec.{eqb, leb}
-use lib.ListN.{length, drop, getD, replicate}
+use lib.ListN.{length, drop, getD}
+pub use Rattle.zeros.specs.Filled.{filled}
+use Rattle.codes.specs.Codes.{kindDecimal, kindEdited}
 use Rattle.layout.specs.declared.Entry.{Entry}
 use Rattle.layout.specs.Layout.{absent, allBelow, wordsOk, entriesOk, spansOk}
 use Rattle.lines.specs.Lines.{numberOf}
@@ -79,14 +81,14 @@ masksOf l = masksBelow l (countOf l)
 
 -- "r of a Decimal is scale + 32 × precision"
 abbrev pub scaleOf : ℕ → ℕ → ℕ
-scaleOf kind r = cond (eqb kind 7) (r % 32) r
+scaleOf kind r = cond (eqb kind kindDecimal) (r % 32) r
 
 abbrev pub precisionOf : ℕ → ℕ → ℕ
-precisionOf kind r = cond (eqb kind 7) (r / 32) 0
+precisionOf kind r = cond (eqb kind kindDecimal) (r / 32) 0
 
 -- an Edited's mask starts at n; "unused words are 0"
 abbrev pub maskWordOf : ℕ → ℕ → ℕ
-maskWordOf kind n = cond (eqb kind 8) n 0
+maskWordOf kind n = cond (eqb kind kindEdited) n 0
 
 -- the k-th entry, by the numbers of its names and its mask's start
 abbrev pub entryBy : ℕ → ℕ → ℕ → List (List ℕ) → ℕ → Entry
@@ -185,10 +187,6 @@ wordsRead (read page ws ms) = ws
 abbrev pub masksRead : Read → List ℕ
 masksRead (refused n) = []
 masksRead (read page ws ms) = ms
-
--- a buffer of so many cells: what is given, then zeros
-abbrev pub filled : ℕ → List ℕ → List ℕ
-filled room given = given ++ replicate (room - length given) 0
 
 -- All that a call leaves: its number, the page, how many words and mask bytes there are, and the buffers as they were lent and as they are left.
 -- "A call that refuses returns its number and length 0; all output buffers hold zeros. After success unused output is zero."

@@ -5,6 +5,7 @@ use mathlib.Core.List.{List, []}
 use Prim.Native.Nat.{ℕ, suc, _+_, _-_, _*_, _≤_, _<_}
 use lib.Dec.{eqb, leb}
 use lib.ListN.{length, take, drop, getD}
+use Rattle.codes.specs.Codes.{kindEdited}
 use Rattle.spans.specs.Tree.{tree, nested}
 use Rattle.layout.specs.declared.Entry.{Entry}
 use Rattle.layout.specs.Layout.{absent, allBelow, entryOk}
@@ -64,7 +65,7 @@ abbrev pub dependingIn : List ℕ → Part → Part
 dependingIn text p = cond (eqb (p .start) (p .end)) (record { start = 0; end = 0; next = p .next }) (nameIn text p)
 
 abbrev pub maskIn : List ℕ → Part → ℕ → Part
-maskIn text p kind = cond (eqb kind 8) (cond (maskOk (bytesOf text p)) p failed) (cond (eqb (p .start) (p .end)) p failed)
+maskIn text p kind = cond (eqb kind kindEdited) (cond (maskOk (bytesOf text p)) p failed) (cond (eqb (p .start) (p .end)) p failed)
 
 -- ---- the page's line
 

@@ -1,4 +1,8 @@
 // The text form of a layout, read into its words and masks.
+use codes::ABSENT;
+use codes::KIND_DECIMAL;
+use codes::KIND_EDITED;
+use codes::KIND_GROUP;
 use layout::Entry;
 use layout::entry_ok;
 use lines::Found;
@@ -104,7 +108,7 @@ fn option_in(text: &[u8], part: Part) -> Number
 {
     if part.start == part.end {
         return Number {
-            value: 4294967295,
+            value: ABSENT,
             next: part.next,
         };
     }
@@ -150,7 +154,7 @@ fn mask_in(text: &[u8], part: Part, kind: u32) -> Part
 {
     let a = part.start;
     let e = part.end;
-    if kind != 8 {
+    if kind != KIND_EDITED {
         if a == e {
             return part;
         }
@@ -231,7 +235,7 @@ fn entry_lines(text: &[u8], at: usize) -> Said
 fn scale_of(kind: u32, r: u32) -> u32
     ensures { λ a. ⌜ a ≡ scaleOf kind r ⌝ }
 {
-    if kind == 7 {
+    if kind == KIND_DECIMAL {
         return r % 32;
     }
     r
@@ -241,7 +245,7 @@ fn scale_of(kind: u32, r: u32) -> u32
 fn precision_of(kind: u32, r: u32) -> u32
     ensures { λ a. ⌜ a ≡ precisionOf kind r ⌝ }
 {
-    if kind == 7 {
+    if kind == KIND_DECIMAL {
         return r / 32;
     }
     0
@@ -251,7 +255,7 @@ fn precision_of(kind: u32, r: u32) -> u32
 fn mask_start(kind: u32, n: u32) -> u32
     ensures { λ r. ⌜ r ≡ maskWordOf kind n ⌝ }
 {
-    if kind == 8 {
+    if kind == KIND_EDITED {
         return n;
     }
     0
@@ -285,7 +289,7 @@ fn entry_fine(said: Said) -> bool
     if !entry_ok(e, said.length) {
         return false;
     }
-    if said.kind != 8 {
+    if said.kind != KIND_EDITED {
         return true;
     }
     said.length == said.width as usize
@@ -319,7 +323,7 @@ fn note_group(groups: &mut [u8], k: usize, kind: u32)
 fn group_flag(kind: u32) -> u8
     ensures { λ r. ⌜ r ≡ cond (eqb kind 9) 1 0 ⌝ }
 {
-    if kind == 9 { 1 } else { 0 }
+    if kind == KIND_GROUP { 1 } else { 0 }
 }
 
 // What one pass over a text finds: whether it is lawful, its page, how many entries and mask bytes it has, and whether each entry passes question 2.
@@ -585,7 +589,7 @@ fn see_entry(
     if depending == 0 {
         return Sighted {
             name: a.number as u32,
-            depending: 4294967295,
+            depending: ABSENT,
             count: a.count,
         };
     }

@@ -11,7 +11,7 @@ use lib.ListN.{length, getD, take, drop, drop-of-length-le}
 use lib.Seq.{drop-cons, length-take-le}
 use borrow.Author.Tests.{eq-eqb, ne-eqb, lt-ltb, le-ltb, le-leb, lt-leb, leb-true}
 use Rattle.lists.specs.Scan.{beforeBy, everyBy}
-use Rattle.lists.specs.Absent.{absent}
+use Rattle.codes.specs.Codes.{absent}
 use Rattle.lists.proofs.Scan.{tail-part}
 use Rattle.lists.proofs.Logic.{and-right}
 use Rattle.value.specs.Digits.{valueFrom, isDigit, digitIn}

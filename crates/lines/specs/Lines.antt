@@ -5,7 +5,7 @@ use mathlib.Core.List.{List, [], _∷_, map}
 use lib.ListN.{length, drop}
 use lib.Dec.{eqb, leb, ltb}
 use Rattle.lists.specs.Scan.{beforeBy, everyBy}
-use Rattle.lists.specs.Absent.{absent}
+use Rattle.codes.specs.Codes.{absent}
 use Rattle.value.specs.Digits.{valueOf, isDigit, digitIn}
 use Rattle.value.specs.Answer.{Answer, refused, given}
 use Rattle.lines.specs.declared.Found.{Found}

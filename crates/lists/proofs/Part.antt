@@ -1,12 +1,12 @@
 -- A part of a list that was lent: what the whole is after the part has changed; and the place of a part of a slice.
 use mathlib.Core.Path.{_≡_, sym, ap, _∙_}
 use mathlib.Core.Bool.{Bool, true, false, cond}
-use mathlib.Core.List.{List, _++_}
-use Prim.Native.Nat.{ℕ, _+_, _-_, _≤_}
+use mathlib.Core.List.{List, [], _∷_, _++_}
+use Prim.Native.Nat.{ℕ, zero, suc, _+_, _-_, _≤_}
 use native.Mathlib.Omega.{arith}
-use native.Mathlib.Nat.{zero-add}
+use native.Mathlib.Nat.{zero-add, suc-add}
 use lib.ListN.{length, take, drop, length-drop}
-use lib.Seq.{drop-drop, length-take-le}
+use lib.Seq.{take-nil, drop-drop, length-take-le}
 use denote.Ref.{RefT, ptr}
 use borrow.Rule.Slice.PartMut.{put-same}
 use Rattle.lists.specs.Part.{placeIn}
@@ -26,6 +26,12 @@ pub lift : (b : Bool) (at w : ℕ) (xs new last : List ℕ) → last ≡ cond b 
     → take at xs ++ (last ++ drop (at + w - at) (drop at xs)) ≡ cond b (take at xs ++ (new ++ drop (at + w) xs)) xs
 lift true at w xs new last e = rw e (in-whole at w xs new)
 lift false at w xs new last e = rw e (put-same at (at + w - at) xs)
+
+-- behind the first p of p + n elements
+pub drop-take : {A : Type 0} (p n : ℕ) (l : List A) → drop p (take (p + n) l) ≡ take n (drop p l)
+drop-take zero n l = ap (λ k. take k l) (zero-add n)
+drop-take (suc p) n [] = rw (suc-add p n) (sym (take-nil n))
+drop-take (suc p) n (x ∷ l) = rw (suc-add p n) (drop-take p n l)
 
 -- ---- the start of a slice, and of a part of a part
 

@@ -1,4 +1,9 @@
 // Plain layouts decided: question by question, names by index, the other clauses in one walk of the tree.
+use codes::ABSENT;
+use codes::KIND_BINARY;
+use codes::KIND_BOOL;
+use codes::KIND_GROUP;
+use codes::KIND_PAD;
 use layout::Entry;
 use layout::check_layout;
 use layout::controls;
@@ -56,26 +61,26 @@ fn distinct_names(layout: &[u32]) -> bool
 fn pad_ok(e: Entry) -> bool
     ensures { λ r. ⌜ r ≡ padOk e ⌝ }
 {
-    if e.kind != 6 {
+    if e.kind != KIND_PAD {
         return true;
     }
-    e.depending == 4294967295
+    e.depending == ABSENT
 }
 
 // Widths of non-groups are from 1, of a Bool 1, of a Binary to 8.
 fn width_ok(e: Entry) -> bool
     ensures { λ r. ⌜ r ≡ widthOk e ⌝ }
 {
-    if e.kind == 9 {
+    if e.kind == KIND_GROUP {
         return true;
     }
     if e.width < 1 {
         return false;
     }
-    if e.kind == 5 {
+    if e.kind == KIND_BOOL {
         return e.width <= 1;
     }
-    if e.kind == 2 {
+    if e.kind == KIND_BINARY {
         return e.width <= 8;
     }
     true
@@ -100,7 +105,7 @@ fn has_sure(layout: &[u32], lo: usize, hi: usize) -> bool
 fn group_ok(layout: &[u32], e: Entry, lo: usize, hi: usize) -> bool
     ensures { λ r. ⌜ r ≡ groupOk e (part (now (layout .entry)) lo hi) ⌝ }
 {
-    if e.kind != 9 {
+    if e.kind != KIND_GROUP {
         return true;
     }
     if hi <= lo {
@@ -130,7 +135,7 @@ fn is_in(names: &[u32], name: u32) -> bool
 fn depends_ok(names: &[u32], e: Entry) -> bool
     ensures { λ r. ⌜ r ≡ (not (present (e .depending)) || isIn (e .depending) (now (names .entry))) ⌝ }
 {
-    if e.depending == 4294967295 {
+    if e.depending == ABSENT {
         return true;
     }
     is_in(names, e.depending)

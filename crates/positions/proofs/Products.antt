@@ -27,4 +27,3 @@ inside-is room at width h = go (decLt room (at + width))
     go : Dec (room < at + width) → leb width (room - at) ≡ leb (at + width) room
     go (yes k) = lt-leb width (room - at) (omega arith) ∙ sym (lt-leb (at + width) room k)
     go (no k) = le-leb width (room - at) (omega arith) ∙ sym (le-leb (at + width) room (omega arith))
-

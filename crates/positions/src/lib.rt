@@ -4,32 +4,31 @@ ghost use Prim.Native.Nat.{_+_, _-_, _*_, max};
 ghost use lib.Dec.{leb};
 ghost use Rattle.positions.specs.Positions.{sat};
 
-// A sum that stops at 2^63.
+// Where positions stop: 2^63, far behind the end of every record.
+pub const STOP: u64 = 9223372036854775808;
+
+// A sum that stops.
 pub fn sat_add(a: u64, b: u64) -> u64
     ensures { λ r. ⌜ r ≡ sat (a + b) ⌝ }
 {
-    if a < 9223372036854775808 {
-        if b < 9223372036854775808 - a {
-            a + b
-        } else {
-            9223372036854775808
-        }
+    if a < STOP {
+        if b < STOP - a { a + b } else { STOP }
     } else {
-        9223372036854775808
+        STOP
     }
 }
 
-// A product that stops at 2^63.
+// A product that stops.
 pub fn sat_mul(a: u64, b: u64) -> u64
     ensures { λ r. ⌜ r ≡ sat (a * b) ⌝ }
 {
     if b == 0 {
         return 0;
     }
-    if a <= 9223372036854775808 / b {
+    if a <= STOP / b {
         return a * b;
     }
-    9223372036854775808
+    STOP
 }
 
 pub fn less(a: u64, b: u64) -> u64

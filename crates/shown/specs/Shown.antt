@@ -1,16 +1,17 @@
 -- "`show` reads layout.txt and record.bin, prints name (first spelling), kind, value lines".
-use Prim.Native.Nat.{ℕ, zero, suc, _/_}
-use mathlib.Core.Bool.{Bool, true, false, _&&_, _||_, not, cond}
+use Prim.Native.Nat.{ℕ, zero, suc}
+use mathlib.Core.Bool.{Bool, false, _&&_, _||_, not, cond}
 use mathlib.Core.List.{List, [], _∷_, _++_}
 use lib.Dec.{eqb, leb, ltb}
 use lib.ListN.{length, take, drop}
+use Rattle.codes.specs.Codes.{tagNull, tagText, tagInt, tagDecimal, tagFloat, tagBool, tagList, tagStruct, element}
 use Rattle.value.specs.Digits.{spread}
 use Rattle.value.specs.declared.Scalar.{Scalar}
 use Rattle.value.specs.declared.Scalar.the-variants.{Int}
 use Rattle.value.specs.Scalar.{scalarOf}
 use Rattle.binary.specs.Bytes.{bytesOf}
 use Rattle.hex.specs.Hex.{hexOf}
-use Rattle.text.specs.Shown.{Shows, shows, none, shownOf, intText}
+use Rattle.text.specs.Shown.{Shows, shows, none, shownOf}
 use Rattle.items.specs.declared.Item.{Item}
 use Rattle.items.specs.Items.{itemCount, itemAt}
 use Rattle.layout_text.specs.Form.{nameWord, kindWord}
@@ -61,28 +62,28 @@ numberIn it = cond (counted (it .tag)) (Int false (it .a)) (scalarOf (it .tag) (
 
 unfoldable pub valueOf : List ℕ → Item → List ℕ
 valueOf text it =
-    cond (eqb (it .tag) 1) (escaped (take (it .b) (drop (it .a) text)))
-    (cond (eqb (it .tag) 4) (floatText (it .a))
+    cond (eqb (it .tag) tagText) (escaped (take (it .b) (drop (it .a) text)))
+    (cond (eqb (it .tag) tagFloat) (floatText (it .a))
     (numberText (numberIn it)))
 
 -- ---- kinds: "Null, Text, Int, Decimal, Float or Bool (tags 0 to 5); 6 is List, 7 Struct"
 
-unfoldable pub kindText : ℕ → List ℕ
-kindText tag =
-    cond (eqb tag 0) (0x6E ∷ 0x75 ∷ 0x6C ∷ 0x6C ∷ [])
-    (cond (eqb tag 1) (0x74 ∷ 0x65 ∷ 0x78 ∷ 0x74 ∷ [])
-    (cond (eqb tag 2) (0x69 ∷ 0x6E ∷ 0x74 ∷ [])
-    (cond (eqb tag 3) (0x64 ∷ 0x65 ∷ 0x63 ∷ 0x69 ∷ 0x6D ∷ 0x61 ∷ 0x6C ∷ [])
-    (cond (eqb tag 4) (0x66 ∷ 0x6C ∷ 0x6F ∷ 0x61 ∷ 0x74 ∷ [])
-    (cond (eqb tag 5) (0x62 ∷ 0x6F ∷ 0x6F ∷ 0x6C ∷ [])
-    (cond (eqb tag 6) (0x6C ∷ 0x69 ∷ 0x73 ∷ 0x74 ∷ [])
-    (cond (eqb tag 7) (0x73 ∷ 0x74 ∷ 0x72 ∷ 0x75 ∷ 0x63 ∷ 0x74 ∷ [])
+unfoldable pub kindName : ℕ → List ℕ
+kindName tag =
+    cond (eqb tag tagNull) (0x6E ∷ 0x75 ∷ 0x6C ∷ 0x6C ∷ [])
+    (cond (eqb tag tagText) (0x74 ∷ 0x65 ∷ 0x78 ∷ 0x74 ∷ [])
+    (cond (eqb tag tagInt) (0x69 ∷ 0x6E ∷ 0x74 ∷ [])
+    (cond (eqb tag tagDecimal) (0x64 ∷ 0x65 ∷ 0x63 ∷ 0x69 ∷ 0x6D ∷ 0x61 ∷ 0x6C ∷ [])
+    (cond (eqb tag tagFloat) (0x66 ∷ 0x6C ∷ 0x6F ∷ 0x61 ∷ 0x74 ∷ [])
+    (cond (eqb tag tagBool) (0x62 ∷ 0x6F ∷ 0x6F ∷ 0x6C ∷ [])
+    (cond (eqb tag tagList) (0x6C ∷ 0x69 ∷ 0x73 ∷ 0x74 ∷ [])
+    (cond (eqb tag tagStruct) (0x73 ∷ 0x74 ∷ 0x72 ∷ 0x75 ∷ 0x63 ∷ 0x74 ∷ [])
     [])))))))
 
 -- ---- names: "first spelling"; "65536 for list elements", which have none
 
 unfoldable pub nameOf : List ℕ → ℕ → List ℕ
-nameOf layout name = cond (ltb name 65536) (L.spelling layout name) []
+nameOf layout name = cond (ltb name element) (L.spelling layout name) []
 
 -- ---- an item's lines, and those of a list, item after item
 
@@ -90,7 +91,7 @@ abbrev pub nameLine : List ℕ → Item → List ℕ
 nameLine layout it = nameWord ++ (nameOf layout (it .name) ++ ended)
 
 abbrev pub kindLine : Item → List ℕ
-kindLine it = kindWord ++ (kindText (it .tag) ++ ended)
+kindLine it = kindWord ++ (kindName (it .tag) ++ ended)
 
 abbrev pub valueLine : List ℕ → Item → List ℕ
 valueLine text it = valueWord ++ (valueOf text it ++ ended)

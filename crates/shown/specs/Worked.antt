@@ -26,7 +26,7 @@ use Rattle.walks.specs.Walk.{howMany}
 use Rattle.walks.specs.Kinds.{look, dec}
 use Rattle.walks.specs.Reading as R
 use Rattle.walks.specs.Records.{decodeRecord}
-use Rattle.shown.specs.Shown.{escaped, numberText, floatText, valueOf, kindText, nameOf, linesOf, listedFrom, refusedText, valueWord, answerBy, answer, printed, shown}
+use Rattle.shown.specs.Shown.{escaped, numberText, floatText, valueOf, kindName, nameOf, linesOf, listedFrom, refusedText, valueWord, answerBy, answer, printed, shown}
 
 abbrev line : List ℕ → List ℕ → List ℕ
 line word value = word ++ (value ++ (0x0A ∷ []))
@@ -59,7 +59,7 @@ output =
 
 -- "record 30 32 01 2C 34 5D 4F 4B"
 pub worked : shown layoutText false (0x30 ∷ 0x32 ∷ 0x01 ∷ 0x2C ∷ 0x34 ∷ 0x5D ∷ 0x4F ∷ 0x4B ∷ []) false ≡ output
-unfolding shown printed answer answerBy listedFrom linesOf nameOf kindText valueOf escaped numberText scalarOf digitCount decimalText refusal readOf spelling textChecked
+unfolding shown printed answer answerBy listedFrom linesOf nameOf kindName valueOf escaped numberText scalarOf digitCount decimalText refusal readOf spelling textChecked
     Form.lawful Form.all Form.ended Form.linesOf Form.entryLawful allBelow startsWith numberOf everyBy wordsBelow twelve entrySaid sightsBelow masksBelow indexIn equal
     wordsOk entriesOk entryOk placeOk optionOk kindOk plainOk boolOk floatOk editedOk upTo spansOk nested size tree treeIn entryAt layoutAsks checkedOf recordLength
     furthest reservedWidth dependsIn someBelow decodeRecord R.seq R.field R.elements R.one R.pad R.scalar R.container unrepeated isPad controls howMany look dec says fromPage leftBy
@@ -68,7 +68,7 @@ worked = refl
 
 -- a record above 65,536 bytes, by this layout; a layout text above that, which is asked first
 pub long-record : shown layoutText false [] true ≡ 0x72 ∷ 0x65 ∷ 0x66 ∷ 0x75 ∷ 0x73 ∷ 0x65 ∷ 0x64 ∷ 0x3D ∷ 0x34 ∷ 0x0A ∷ []
-unfolding shown printed answer answerBy listedFrom linesOf nameOf kindText valueOf escaped numberText scalarOf digitCount decimalText refusal readOf spelling textChecked
+unfolding shown printed answer answerBy listedFrom linesOf nameOf kindName valueOf escaped numberText scalarOf digitCount decimalText refusal readOf spelling textChecked
     Form.lawful Form.all Form.ended Form.linesOf Form.entryLawful allBelow startsWith numberOf everyBy wordsBelow twelve entrySaid sightsBelow masksBelow indexIn equal
     wordsOk entriesOk entryOk placeOk optionOk kindOk plainOk boolOk floatOk editedOk upTo spansOk nested size tree treeIn entryAt layoutAsks checkedOf recordLength
     furthest reservedWidth dependsIn someBelow decodeRecord R.seq R.field R.elements R.one R.pad R.scalar R.container unrepeated isPad controls howMany look dec says refusedText

@@ -1,5 +1,15 @@
 // What `show` prints of a layout's text and a record, a piece at a time: the bytes from a place on, as many as a buffer holds.
 
+use codes::ELEMENT;
+use codes::MAX_RECORD;
+use codes::TAG_BOOL;
+use codes::TAG_DECIMAL;
+use codes::TAG_FLOAT;
+use codes::TAG_INT;
+use codes::TAG_LIST;
+use codes::TAG_NULL;
+use codes::TAG_STRUCT;
+use codes::TAG_TEXT;
 use decode::Reading;
 use decode::decode_record;
 use items::ITEM_WORDS;
@@ -19,7 +29,7 @@ ghost use Prim.Native.Nat.{ℕ, _≤_, _/_};
 ghost use lib.ListN.{length, take, drop, replicate};
 ghost use Rattle.hex.specs.Hex.{hexOf};
 ghost use Rattle.layout_text.specs.Reading.{Spells};
-ghost use Rattle.shown.specs.Shown.{isPlain, escape, escaped, numberText, floatText, numberIn, kindText, valueOf, nameOf, nameLine, kindLine, valueLine, linesOf, listed};
+ghost use Rattle.shown.specs.Shown.{isPlain, escape, escaped, numberText, floatText, numberIn, kindName, valueOf, nameOf, nameLine, kindLine, valueLine, linesOf, listed};
 ghost use Rattle.shown.specs.Shown.{refusedText, itemRoom, tooLong, answer, shown, piece};
 ghost use Rattle.text.specs.Text.{front};
 ghost use Rattle.walks.specs.Records.{most, RecordRead};
@@ -158,7 +168,7 @@ fn part_of(text: &[u8], start: u64, count: u64) -> &[u8]
 fn number_in(it: Item) -> Scalar
     ensures { λ r. ⌜ r ≡ numberIn it ⌝ }
 {
-    if it.tag < 5 {
+    if it.tag < TAG_BOOL {
         return scalar_in(it);
     }
     if it.tag > 7 {
@@ -170,10 +180,10 @@ fn number_in(it: Item) -> Scalar
 fn push_value(out: &mut [u8], s: Sink, it: Item, text: &[u8]) -> Sink
     ensures { λ r. ⌜ Took (state (now (out .entry)) s) (valueOf (now (text .entry)) it) (now (out .exit)) r ⌝ }
 {
-    if it.tag == 1 {
+    if it.tag == TAG_TEXT {
         return push_text(out, s, part_of(text, it.a, it.b));
     }
-    if it.tag == 4 {
+    if it.tag == TAG_FLOAT {
         return push_word(out, s, it.a);
     }
     push_number(out, s, number_in(it))
@@ -182,17 +192,17 @@ fn push_value(out: &mut [u8], s: Sink, it: Item, text: &[u8]) -> Sink
 // ---- lines
 
 fn push_kind(out: &mut [u8], s: Sink, tag: u64) -> Sink
-    ensures { λ r. ⌜ Took (state (now (out .entry)) s) (kindText tag) (now (out .exit)) r ⌝ }
+    ensures { λ r. ⌜ Took (state (now (out .entry)) s) (kindName tag) (now (out .exit)) r ⌝ }
 {
     match tag {
-        0 => push_all(out, s, b"null"),
-        1 => push_all(out, s, b"text"),
-        2 => push_all(out, s, b"int"),
-        3 => push_all(out, s, b"decimal"),
-        4 => push_all(out, s, b"float"),
-        5 => push_all(out, s, b"bool"),
-        6 => push_all(out, s, b"list"),
-        7 => push_all(out, s, b"struct"),
+        TAG_NULL => push_all(out, s, b"null"),
+        TAG_TEXT => push_all(out, s, b"text"),
+        TAG_INT => push_all(out, s, b"int"),
+        TAG_DECIMAL => push_all(out, s, b"decimal"),
+        TAG_FLOAT => push_all(out, s, b"float"),
+        TAG_BOOL => push_all(out, s, b"bool"),
+        TAG_LIST => push_all(out, s, b"list"),
+        TAG_STRUCT => push_all(out, s, b"struct"),
         _ => s,
     }
 }
@@ -209,7 +219,7 @@ fn push_name(
     requires { ⌜ Spells (now layout) (now starts) count ⌝ }
     ensures { λ r. ⌜ Took (state (now (out .entry)) s) (nameOf (now (layout .entry)) name) (now (out .exit)) r ⌝ }
 {
-    if name < 65536 {
+    if name < ELEMENT {
         let n = name_with(layout, starts, count, name as u32);
         return push_all(out, s, n);
     }
@@ -315,7 +325,7 @@ fn too_long(bytes: &[u8], more: bool) -> bool
     if more {
         return true;
     }
-    65536 < bytes.len()
+    MAX_RECORD < bytes.len()
 }
 
 fn refusal(number: u32) -> Reading

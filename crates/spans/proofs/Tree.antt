@@ -1,6 +1,6 @@
 -- Laws of the tree that spans make, and of well nested spans.
 use mathlib.Core.Path.{_≡_, refl, sym, ap, ap₂, _∙_}
-use mathlib.Core.Bool.{Bool, true, false, _&&_, _||_, cond, false≢true, and-eq-true-iff, or-true}
+use mathlib.Core.Bool.{Bool, true, false, _&&_, _||_, cond, false≢true, or-true}
 use Prim.Native.Nat.{ℕ, zero, suc, _+_, _-_, _<_, _≤_}
 use native.Mathlib.Omega.{arith}
 use native.Mathlib.Numerals.{add-one}

@@ -1,6 +1,6 @@
 -- A buffer compared cell by cell, and how long a line is.
 use mathlib.Core.Path.{_≡_, refl, sym, ap, _∙_}
-use mathlib.Core.Bool.{Bool, true, false, _&&_, cond}
+use mathlib.Core.Bool.{Bool, true, false, _&&_, cond, and-false}
 use mathlib.Core.List.{List, [], _∷_}
 use Prim.Native.Nat.{ℕ, zero, suc, _+_, _-_, _≤_, _<_}
 use native.Mathlib.Nat.{not-suc-le-zero, le-antisymm}
@@ -11,7 +11,6 @@ use lib.Dec.{eqb}
 use lib.ListN.{length, drop, getD, length-drop}
 use Rattle.lists.specs.Scan.{beforeBy}
 use Rattle.lines.specs.Lines.{isEnd, lineFrom}
-use Rattle.lines.proofs.Laws.{and-false}
 use Rattle.testing.specs.Holds.{holdsBelow, holds}
 
 pub holds-start : (buffer given : List ℕ) → holdsBelow buffer given 0 ≡ true

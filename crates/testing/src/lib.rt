@@ -17,54 +17,54 @@ pub fn more(n: u64) -> u64
 
 // ---- one cell; 0 where there is none
 
-pub fn at(s: &[u8], i: usize) -> u8
-    ensures { λ r. ⌜ r ≡ getD (now (s .entry)) i 0 ⌝ }
+pub fn at(bytes: &[u8], i: usize) -> u8
+    ensures { λ r. ⌜ r ≡ getD (now (bytes .entry)) i 0 ⌝ }
 {
-    if i < s.len() {
-        return s[i];
+    if i < bytes.len() {
+        return bytes[i];
     }
     0
 }
 
-pub fn word_at(s: &[u64], i: usize) -> u64
-    ensures { λ r. ⌜ r ≡ getD (now (s .entry)) i 0 ⌝ }
+pub fn word_at(words: &[u64], i: usize) -> u64
+    ensures { λ r. ⌜ r ≡ getD (now (words .entry)) i 0 ⌝ }
 {
-    if i < s.len() {
-        return s[i];
+    if i < words.len() {
+        return words[i];
     }
     0
 }
 
 // ---- the first n cells, or all
 
-pub fn first_bytes(s: &[u8], n: usize) -> &[u8]
-    ensures { λ r. ⌜ now r ≡ take n (now (s .entry)) ⌝ }
-    ensures { λ r. ⌜ ptr r ≡ ptr (s .entry) ⌝ }
+pub fn first_bytes(bytes: &[u8], n: usize) -> &[u8]
+    ensures { λ r. ⌜ now r ≡ take n (now (bytes .entry)) ⌝ }
+    ensures { λ r. ⌜ ptr r ≡ ptr (bytes .entry) ⌝ }
 {
-    if n < s.len() {
-        return &s[0..n];
+    if n < bytes.len() {
+        return &bytes[0..n];
     }
-    s
+    bytes
 }
 
-pub fn first_words(s: &[u64], n: usize) -> &[u64]
-    ensures { λ r. ⌜ now r ≡ take n (now (s .entry)) ⌝ }
-    ensures { λ r. ⌜ ptr r ≡ ptr (s .entry) ⌝ }
+pub fn first_words(words: &[u64], n: usize) -> &[u64]
+    ensures { λ r. ⌜ now r ≡ take n (now (words .entry)) ⌝ }
+    ensures { λ r. ⌜ ptr r ≡ ptr (words .entry) ⌝ }
 {
-    if n < s.len() {
-        return &s[0..n];
+    if n < words.len() {
+        return &words[0..n];
     }
-    s
+    words
 }
 
-pub fn first_layout(s: &[u32], n: usize) -> &[u32]
-    ensures { λ r. ⌜ now r ≡ take n (now (s .entry)) ⌝ }
-    ensures { λ r. ⌜ ptr r ≡ ptr (s .entry) ⌝ }
+pub fn first_layout(layout: &[u32], n: usize) -> &[u32]
+    ensures { λ r. ⌜ now r ≡ take n (now (layout .entry)) ⌝ }
+    ensures { λ r. ⌜ ptr r ≡ ptr (layout .entry) ⌝ }
 {
-    if n < s.len() {
-        return &s[0..n];
+    if n < layout.len() {
+        return &layout[0..n];
     }
-    s
+    layout
 }
 
 // ---- lines

@@ -7,6 +7,7 @@ use Prim.Native.Nat.{ℕ, _+_, _-_}
 use lib.Dec.{eqb, leb}
 use lib.ListN.{length, take, drop, replicate}
 use denote.Ref.{RefT, now, ptr}
+use Rattle.codes.specs.Codes.{kindText, most}
 use Rattle.ebcdic.specs.Ebcdic.{fromPage}
 use Rattle.lists.specs.Part.{placeIn}
 use Rattle.text.specs.Text.{cut, cutFrom}
@@ -29,7 +30,7 @@ oneEntry l page = eqb (length l) 12 && leb page 1
 
 -- 2: words in range, where no masks are lent and the span is not asked; a Text; unrepeated
 unfoldable pub textEntry : Entry → Bool
-textEntry e = entryOk e 0 && eqb (e .kind) 0 && eqb (e .occurs) absent && eqb (e .depending) absent
+textEntry e = entryOk e 0 && eqb (e .kind) kindText && eqb (e .occurs) absent && eqb (e .depending) absent
 
 -- 16: the scratch bytes that are needed
 abbrev pub roomOf : Bool → ℕ → Entry → ℕ
@@ -40,7 +41,7 @@ unfoldable pub askedOf : Bool → List ℕ → ℕ → ℕ → ℕ → ℕ
 askedOf translating l page size scratch =
     cond (oneEntry l page)
     (cond (textEntry (entryOf l))
-    (cond (leb size 65536)
+    (cond (leb size most)
     (cond (leb (entryOf l .offset + entryOf l .width) size)
     (cond (leb (roomOf translating page (entryOf l)) scratch) 0 16) 7) 4) 2) 1
 

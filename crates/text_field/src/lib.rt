@@ -1,5 +1,8 @@
 // One Text field on its own, by its layout entry: its bytes translated to scratch, and its text as a part of the record or of the scratch.
 
+use codes::ABSENT;
+use codes::KIND_TEXT;
+use codes::MAX_RECORD;
 use layout::Entry;
 ghost use mathlib.Core.Path.{_≡_};
 ghost use mathlib.Core.Bool.{Bool, true, false, cond};
@@ -26,13 +29,13 @@ fn is_text(e: Entry) -> bool
     if !layout::entry_ok(e, 0) {
         return false;
     }
-    if e.kind != 0 {
+    if e.kind != KIND_TEXT {
         return false;
     }
-    if e.occurs != 4294967295 {
+    if e.occurs != ABSENT {
         return false;
     }
-    e.depending == 4294967295
+    e.depending == ABSENT
 }
 
 // The scratch bytes that a call needs.
@@ -62,7 +65,7 @@ fn asked(layout: &[u32], page: u32, size: usize, scratch: usize, translating: bo
     if !is_text(e) {
         return 2;
     }
-    if 65536 < size {
+    if MAX_RECORD < size {
         return 4;
     }
     let end = e.offset as u64 + e.width as u64;

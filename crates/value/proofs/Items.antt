@@ -1,19 +1,14 @@
 -- A scalar's tag and words; a float's word comes back.
 use mathlib.Core.Path.{_≡_, refl, sym, _∙_, ap, subst}
-use mathlib.Core.List.{List, [], _∷_, _++_}
 use mathlib.Core.Bool.{Bool, true, false, not, cond, true≢false}
-use Prim.Native.Nat.{ℕ, _<_, _≤_, _^_}
-use native.Mathlib.Omega.{arith}
-use borrow.Author.Tests.{lt-leb, le-leb}
-use lib.Dec.{leb, T}
-use lib.ListN.{length, drop, set}
+use Prim.Native.Nat.{ℕ, _<_, _^_}
+use lib.Dec.{T}
 use lib.Ieee.{Float, nan, inf, fin, binary64, eq, ne, isNan, ofBits, toBits, nanBits}
 use lib.Ieee.Bits.{toBits-ofBits, nanBits-is}
 use lib.Ieee.Compare.{differs-from-itself}
 use Rattle.value.specs.declared.Scalar.{Scalar}
 use Rattle.value.specs.declared.Scalar.the-variants.{Float as FloatV, FloatBits}
 use Rattle.value.specs.Scalar.{tagOf, firstOf, secondOf, floatOf}
-use Rattle.value.proofs.Word.{word-back}
 
 nan-word : toBits binary64 nan ≡ 0x7FF8000000000000
 unfolding toBits

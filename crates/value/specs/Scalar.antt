@@ -1,10 +1,9 @@
 -- "a scalar is Null, Text, Int, Decimal, Float or Bool (tags 0 to 5)", with its tag and its two words.
-use mathlib.Core.List.{List, [], _∷_, _++_}
 use mathlib.Core.Bool.{Bool, cond}
 use Prim.Native.Nat.{ℕ}
-use lib.Dec.{leb, eqb}
-use lib.ListN.{length, drop}
+use lib.Dec.{eqb}
 use lib.Ieee.{Float, binary64, ofBits, toBits, nanBits}
+use Rattle.codes.specs.Codes.{tagNull, tagText, tagInt, tagDecimal, tagFloat, tagBool}
 use Rattle.value.specs.declared.Scalar.{Scalar}
 use Rattle.value.specs.declared.Scalar.the-variants.{Null, Text, Int, Decimal, Float as FloatV, FloatBits, Bool as BoolV}
 use Rattle.value.specs.Word.{wordOf, minusIn, sizeIn}
@@ -14,13 +13,13 @@ abbrev pub decimal : Bool → ℕ → ℕ → Scalar
 decimal negative size scale = Decimal negative size scale
 
 abbrev pub tagOf : Scalar → ℕ
-tagOf Null = 0
-tagOf (Text start count) = 1
-tagOf (Int negative size) = 2
-tagOf (Decimal negative size scale) = 3
-tagOf (FloatV x) = 4
-tagOf (FloatBits w) = 4
-tagOf (BoolV b) = 5
+tagOf Null = tagNull
+tagOf (Text start count) = tagText
+tagOf (Int negative size) = tagInt
+tagOf (Decimal negative size scale) = tagDecimal
+tagOf (FloatV x) = tagFloat
+tagOf (FloatBits w) = tagFloat
+tagOf (BoolV b) = tagBool
 
 abbrev pub firstOf : Scalar → ℕ
 firstOf Null = 0
@@ -47,9 +46,9 @@ floatOf w = cond (nanBits binary64 w) (FloatBits w) (FloatV (ofBits binary64 w))
 -- the scalar of an item's tag and two words; Null for the tags of List and Struct and for any other
 unfoldable pub scalarOf : ℕ → ℕ → ℕ → Scalar
 scalarOf tag a b =
-    cond (eqb tag 1) (Text a b)
-    (cond (eqb tag 2) (Int (minusIn a) (sizeIn a))
-    (cond (eqb tag 3) (decimal (minusIn a) (sizeIn a) b)
-    (cond (eqb tag 4) (floatOf a)
-    (cond (eqb tag 5) (BoolV (eqb a 1))
+    cond (eqb tag tagText) (Text a b)
+    (cond (eqb tag tagInt) (Int (minusIn a) (sizeIn a))
+    (cond (eqb tag tagDecimal) (decimal (minusIn a) (sizeIn a) b)
+    (cond (eqb tag tagFloat) (floatOf a)
+    (cond (eqb tag tagBool) (BoolV (eqb a 1))
     Null))))

@@ -1,5 +1,11 @@
 // What every kind of field shares: decimal digits and sizes, the answer for a number, scales, words, and the scalar that becomes an item.
 
+use codes::TAG_BOOL;
+use codes::TAG_DECIMAL;
+use codes::TAG_FLOAT;
+use codes::TAG_INT;
+use codes::TAG_NULL;
+use codes::TAG_TEXT;
 ghost use mathlib.Core.Path.{_≡_};
 ghost use mathlib.Core.Bool.{Bool, cond};
 ghost use Prim.Native.Nat.{ℕ, _+_, _*_, _/_, _%_, _^_, _<_, _≤_, min};
@@ -286,30 +292,38 @@ pub fn words_of(s: Scalar) -> Words
     ensures { λ r. ⌜ (r .tag ≡ tagOf s) × ((r .a ≡ firstOf s) × (r .b ≡ secondOf s)) ⌝ }
 {
     match s {
-        Scalar::Null => Words { tag: 0, a: 0, b: 0 },
+        Scalar::Null => Words {
+            tag: TAG_NULL,
+            a: 0,
+            b: 0,
+        },
         Scalar::Text(start, count) => Words {
-            tag: 1,
+            tag: TAG_TEXT,
             a: start,
             b: count,
         },
         Scalar::Int(negative, size) => Words {
-            tag: 2,
+            tag: TAG_INT,
             a: word_of(negative, size),
             b: 0,
         },
         Scalar::Decimal(negative, size, scale) => Words {
-            tag: 3,
+            tag: TAG_DECIMAL,
             a: word_of(negative, size),
             b: scale,
         },
         Scalar::Float(x) => Words {
-            tag: 4,
+            tag: TAG_FLOAT,
             a: float_word(x),
             b: 0,
         },
-        Scalar::FloatBits(w) => Words { tag: 4, a: w, b: 0 },
+        Scalar::FloatBits(w) => Words {
+            tag: TAG_FLOAT,
+            a: w,
+            b: 0,
+        },
         Scalar::Bool(b) => Words {
-            tag: 5,
+            tag: TAG_BOOL,
             a: bool_word(b),
             b: 0,
         },
@@ -332,11 +346,11 @@ pub fn item_scalar(tag: u64, a: u64, b: u64) -> Scalar
     ensures { λ r. ⌜ r ≡ scalarOf tag a b ⌝ }
 {
     match tag {
-        1 => Scalar::Text(a, b),
-        2 => Scalar::Int(is_minus(a), size_of(a)),
-        3 => Scalar::Decimal(is_minus(a), size_of(a), b),
-        4 => float_scalar(a),
-        5 => Scalar::Bool(a == 1),
+        TAG_TEXT => Scalar::Text(a, b),
+        TAG_INT => Scalar::Int(is_minus(a), size_of(a)),
+        TAG_DECIMAL => Scalar::Decimal(is_minus(a), size_of(a), b),
+        TAG_FLOAT => float_scalar(a),
+        TAG_BOOL => Scalar::Bool(a == 1),
         _ => Scalar::Null,
     }
 }

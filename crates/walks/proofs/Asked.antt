@@ -7,13 +7,6 @@ use borrow.Author.Tests.{eqb-true, eqb-false, eq-eqb, ne-eqb}
 use Rattle.walks.specs.Records.{asking}
 
 module _ {A : Type 0} (refuse : ℕ → A) (x : A) where
-  pub asking-both : (a b : ℕ) → asking refuse a (asking refuse b x) ≡ asking refuse (cond (eqb a 0) b a) x
-  asking-both a b = go (eqb a 0) refl
-    where
-      go : (t : Bool) → eqb a 0 ≡ t → cond t (asking refuse b x) (refuse a) ≡ asking refuse (cond t b a) x
-      go true e = refl
-      go false e = rw e refl
-
   pub asking-none : (n : ℕ) → n ≡ 0 → asking refuse n x ≡ x
   asking-none n z = rw (eq-eqb n 0 z) refl
 

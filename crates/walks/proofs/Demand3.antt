@@ -2,7 +2,7 @@
 use mathlib.Core.Path.{_≡_, refl, sym, ap, _∙_}
 use mathlib.Core.Bool.{Bool, true, false, _&&_, _||_, cond, false≢true}
 use mathlib.Core.List.{List, [], _++_, append-nil}
-use Prim.Native.Nat.{ℕ, zero, _+_, _-_, _/_, _≤_, min, max}
+use Prim.Native.Nat.{ℕ, zero, _+_, _-_, _≤_, min, max}
 use native.Mathlib.Omega.{arith}
 use lib.ListN.{length, take, replicate, length-append, length-replicate}
 use lib.Seq.{take-at}

@@ -1,8 +1,8 @@
 -- What is written is read back: the parts of the walk.
 use mathlib.Core.Path.{_≡_, refl, sym, ap, _∙_}
-use mathlib.Core.Bool.{Bool, true, false, _||_, cond}
+use mathlib.Core.Bool.{Bool, true, false, cond}
 use mathlib.Core.List.{List, [], _∷_, _++_}
-use Prim.Native.Nat.{ℕ, suc, _+_, _-_, _*_, _/_, _≤_, max}
+use Prim.Native.Nat.{ℕ, suc, _+_, _-_, _*_, _≤_, max}
 use native.Mathlib.Omega.{arith}
 use lib.ListN.{length, take, drop, length-append}
 use lib.Dec.{leb, eqb}
@@ -13,7 +13,7 @@ use Rattle.layout.specs.declared.Entry.{Entry}
 use Rattle.layout.specs.Layout.{isGroup, present, reservedWidth, unrepeated, isPad}
 use Rattle.spans.specs.Tree.{Tree, none, node, size}
 use Rattle.items.specs.declared.Item.{Item}
-use Rattle.items.specs.Items.{itemWords, itemCount, flat, wordsOf, itemOf, scalarIn, Values, count, headOf, restOf, lookup}
+use Rattle.items.specs.Items.{header, itemWords, itemCount, flat, wordsOf, itemOf, scalarIn, Values, count, headOf, restOf, lookup}
 use Rattle.walks.specs.Walk.{Many, times, atMost, howMany, leaf, bytes, Codec}
 use Rattle.walks.specs.Reading as R
 use Rattle.walks.specs.Reading.{Outcome, read, Reader}
@@ -125,7 +125,8 @@ inside-goes name tag w f x lo base least ns s s′ at g =
       below = g .below;
       some = g .some;
       reads = λ r room h l.
-          rw (le-leb 4 room (omega arith), g .reads r (room - 4) h (omega arith)) (ap (λ (n : ℕ). read (name ∷ tag ∷ count ns ∷ n ∷ flat ns) 1 (x .taken) s′) (span-of ns));
+          rw (le-leb itemWords room (omega arith), g .reads r (room - itemWords) h (omega arith))
+          (ap (λ (n : ℕ). read (wordsOf (header name tag (count ns) n) ++ flat ns) 1 (x .taken) s′) (span-of ns));
     }
 
 -- no elements, and one more element

@@ -1,11 +1,11 @@
 -- Puts in ascending order are all held by the buffer on which they are done.
 use mathlib.Core.Path.{_≡_, refl, sym, ap, _∙_}
 use mathlib.Core.List.{List, [], _∷_, _++_}
-use Prim.Native.Nat.{ℕ, zero, suc, _+_, _-_, _≤_, max}
+use Prim.Native.Nat.{ℕ, _+_, _-_, _≤_, max}
 use native.Mathlib.Omega.{arith}
-use native.Mathlib.Nat.{suc-add, zero-add}
 use lib.ListN.{length, take, drop, length-append, length-take, length-drop}
-use lib.Seq.{length-take-le, take-nil, take-at, drop-at, take-take}
+use lib.Seq.{length-take-le, take-at, drop-at, take-take}
+use Rattle.lists.proofs.Part.{drop-take}
 use Rattle.walks.specs.Writing.{Put, reach, lay, apply}
 
 -- ascending from a position on
@@ -38,15 +38,9 @@ pub held-right : (r : List ℕ) (ps qs : List Put) → Held r (ps ++ qs) → Hel
 held-right r [] qs h = h
 held-right r (p ∷ ps) qs h = held-right r ps qs (h .2)
 
--- a part of a list, of its front
-part : (p n : ℕ) (l : List ℕ) → drop p (take (p + n) l) ≡ take n (drop p l)
-part zero n l = ap (λ k. take k l) (zero-add n)
-part (suc p) n [] = rw (suc-add p n) (sym (take-nil n))
-part (suc p) n (x ∷ l) = rw (suc-add p n) (part p n l)
-
 fronts : (p n m : ℕ) (r s : List ℕ) → p + n ≤ m → take m r ≡ take m s → take n (drop p r) ≡ take n (drop p s)
 fronts p n m r s h e =
-    sym (part p n r) ∙ ap (drop p) (sym (take-take (p + n) m r h) ∙ ap (take (p + n)) e ∙ take-take (p + n) m s h) ∙ part p n s
+    sym (drop-take p n r) ∙ ap (drop p) (sym (take-take (p + n) m r h) ∙ ap (take (p + n)) e ∙ take-take (p + n) m s h) ∙ drop-take p n s
 
 -- what holds puts up to their reach is the front
 pub held-front : (m : ℕ) (r s : List ℕ) (ps : List Put) → take m r ≡ take m s → m ≤ length s → reach ps ≤ m → Held r ps → Held s ps

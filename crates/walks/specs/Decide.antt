@@ -1,9 +1,10 @@
 -- Fitting lists decided by a function.
 use mathlib.Core.Bool.{Bool, true, false, _&&_, _||_, not, cond}
 use mathlib.Core.List.{List, [], _∷_}
-use Prim.Native.Nat.{ℕ, zero, suc, _/_, _^_}
+use Prim.Native.Nat.{ℕ, suc, _^_}
 use lib.Dec.{eqb, ltb}
 use lib.ListN.{length}
+use Rattle.codes.specs.Codes.{tagText, tagList, tagStruct, element}
 use Rattle.layout.specs.declared.Entry.{Entry}
 use Rattle.layout.specs.Layout.{isGroup, isPad, unrepeated, entries}
 use Rattle.spans.specs.Tree.{Tree, none, node, size}
@@ -41,20 +42,20 @@ module _ (masks source : List ℕ) where
   goodOf e name it members s =
       eqb (it .name) name && (missing members && (scalarOk (length source) it && (ltb (it .a) (2 ^ 64)
       && (fitsOf (e .p) (e .q) (e .r) (e .s) (maskOf masks e) (e .width) (e .kind) (scalarIn it) (textOf source it)
-      && (not (eqb (it .tag) 1) || eqb (it .a) (length (s .text)))))))
+      && (not (eqb (it .tag) tagText) || eqb (it .a) (length (s .text)))))))
 
   unfoldable pub eachFits : Entry → (Values → State → Fit State) → Values → State → Fit State
   eachFits e inner none s = fit s
   eachFits e inner (node it ns vs) s =
-      cond (isGroup e) (guard (holds 65536 7 it ns) (bind (inner ns s) (λ s₁. eachFits e inner vs s₁)))
-      (guard (goodOf e 65536 it ns s) (eachFits e inner vs (after source e it s)))
+      cond (isGroup e) (guard (holds element tagStruct it ns) (bind (inner ns s) (λ s₁. eachFits e inner vs s₁)))
+      (guard (goodOf e element it ns s) (eachFits e inner vs (after source e it s)))
 
   unfoldable pub first : Entry → (Values → State → Fit State) → Values → State → (Values → State → Fit State) → Fit State
   first e inner none s next = misfit
   first e inner (node it ns vs) s next =
       cond (unrepeated e)
-      (cond (isGroup e) (guard (holds (e .name) 7 it ns) (bind (inner ns s) (next vs))) (guard (goodOf e (e .name) it ns s) (next vs (after source e it s))))
-      (guard (holds (e .name) 6 it ns && numbers (howMany held e s) (count ns)) (bind (eachFits e inner ns s) (next vs)))
+      (cond (isGroup e) (guard (holds (e .name) tagStruct it ns) (bind (inner ns s) (next vs))) (guard (goodOf e (e .name) it ns s) (next vs (after source e it s))))
+      (guard (holds (e .name) tagList it ns && numbers (howMany held e s) (count ns)) (bind (eachFits e inner ns s) (next vs)))
 
   unfoldable pub fitted : Tree Entry → Values → State → Fit State
   fitted none none s = fit s

@@ -1,10 +1,11 @@
 -- "Fitting" lists: which value list fits a layout, by the trees that their spans make.
 use mathlib.Core.Path.{_≡_}
-use mathlib.Core.Bool.{Bool, true, false, cond}
-use mathlib.Core.List.{List, [], _∷_, _++_}
-use Prim.Native.Nat.{ℕ, suc, _/_, _^_, _<_}
+use mathlib.Core.Bool.{true, false, cond}
+use mathlib.Core.List.{List}
+use Prim.Native.Nat.{ℕ, suc, _^_, _<_}
 use lib.Dec.{eqb}
 use lib.ListN.{length}
+use Rattle.codes.specs.Codes.{tagText, tagList, tagStruct, element}
 use Rattle.layout.specs.declared.Entry.{Entry}
 use Rattle.layout.specs.Layout.{isGroup, isPad, unrepeated, entries}
 use Rattle.spans.specs.Tree.{Tree, none, node, size}
@@ -16,14 +17,14 @@ use Rattle.walks.specs.Kinds.{State, start, noted, said, held, maskOf}
 
 -- the state behind a fitting item: a text stands behind the texts so far, and a number may set a count
 abbrev pub after : List ℕ → Entry → Item → State → State
-after source e it s = cond (eqb (it .tag) 1) (said (textOf source it) s) (noted e (scalarIn it) s)
+after source e it s = cond (eqb (it .tag) tagText) (said (textOf source it) s) (noted e (scalarIn it) s)
 
 -- A scalar item fits an entry: "Text for Text and Hex, Int for Int and Binary, ..", and each kind's range. "Texts are packed in item order, from 0."
 pub record Good (masks source : List ℕ) (e : Entry) (it : Item) (s : State) : Type 0 where
   pub lawful : scalarOk (length source) it ≡ true
   pub word : it .a < 2 ^ 64
   pub fits : Scalar.Fits (e .p) (e .q) (e .r) (e .s) (maskOf masks e) (e .width) (e .kind) (scalarIn it) (textOf source it)
-  pub packed : it .tag ≡ 1 → it .a ≡ length (s .text)
+  pub packed : it .tag ≡ tagText → it .a ≡ length (s .text)
 
 -- "List or Struct member count and span, itself counted"
 abbrev pub holder : ℕ → ℕ → Values → Item
@@ -46,22 +47,22 @@ pub data Fits (masks source : List ℕ) : Sort → Values → State → State �
   -- "a Struct of its members' items for a group"
   group : {e : Entry} {ms rest : Tree Entry} {ns vs : Values} {s s₁ s′ : State}
       → isPad e ≡ false → unrepeated e ≡ true → isGroup e ≡ true → Fits masks source (sequence ms) ns s s₁ → Fits masks source (sequence rest) vs s₁ s′
-      → Fits masks source (sequence (node e ms rest)) (node (holder (e .name) 7 ns) ns vs) s s′
+      → Fits masks source (sequence (node e ms rest)) (node (holder (e .name) tagStruct ns) ns vs) s s′
   -- "a repeated entry has, under its name, a List of such items": "exactly occurs elements; under depending, as many as the value its controller holds,
   -- last before it in the walk, and at most occurs where given"
   table : {e : Entry} {ms rest : Tree Entry} {ns vs : Values} {s s₁ s′ : State}
       → isPad e ≡ false → unrepeated e ≡ false → howMany held e s ≡ times (count ns)
       → Fits masks source (elements e ms) ns s s₁ → Fits masks source (sequence rest) vs s₁ s′
-      → Fits masks source (sequence (node e ms rest)) (node (holder (e .name) 6 ns) ns vs) s s′
+      → Fits masks source (sequence (node e ms rest)) (node (holder (e .name) tagList ns) ns vs) s s′
   -- "each under 65536"
   last : {e : Entry} {ms : Tree Entry} {s : State} → Fits masks source (elements e ms) none s s
   scalars : {e : Entry} {ms : Tree Entry} {it : Item} {vs : Values} {s s′ : State}
-      → isGroup e ≡ false → it .name ≡ 65536 → Good masks source e it s
+      → isGroup e ≡ false → it .name ≡ element → Good masks source e it s
       → Fits masks source (elements e ms) vs (after source e it s) s′
       → Fits masks source (elements e ms) (node it none vs) s s′
   groups : {e : Entry} {ms : Tree Entry} {ns vs : Values} {s s₁ s′ : State}
       → isGroup e ≡ true → Fits masks source (sequence ms) ns s s₁ → Fits masks source (elements e ms) vs s₁ s′
-      → Fits masks source (elements e ms) (node (holder 65536 7 ns) ns vs) s s′
+      → Fits masks source (elements e ms) (node (holder element tagStruct ns) ns vs) s s′
 
 -- A value list with its texts fits a layout: it is a value list, its items fit, and their texts, one after the other, are the text bytes.
 pub record Fitting (l masks items text : List ℕ) : Type 0 where

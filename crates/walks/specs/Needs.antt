@@ -1,8 +1,7 @@
 -- "A list needs the greatest of 0, the record length and the ends of all scalars and Pads when the walk goes by the list's table lengths."
-use mathlib.Core.Bool.{Bool, true, false, cond}
+use mathlib.Core.Bool.{cond}
 use mathlib.Core.List.{List}
-use Prim.Native.Nat.{ℕ, zero, suc, _+_, _-_, _/_, max}
-use lib.ListN.{length}
+use Prim.Native.Nat.{ℕ, zero, suc, _+_, _-_, max}
 use Rattle.layout.specs.declared.Entry.{Entry}
 use Rattle.layout.specs.Layout.{isGroup, isPad, unrepeated, reservedWidth, entries, recordLength}
 use Rattle.spans.specs.Tree.{Tree, none, node}

@@ -3,6 +3,7 @@ use mathlib.Core.Bool.{Bool, true, false, _&&_, _||_, not, cond}
 use mathlib.Core.List.{List, [], _∷_, _++_}
 use Prim.Native.Nat.{ℕ, _+_}
 use lib.Dec.{eqb, leb}
+use Rattle.codes.specs.Codes.{kindBinary, kindBool}
 use Rattle.layout.specs.declared.Entry.{Entry}
 use Rattle.layout.specs.Layout.{isGroup, isPad, unrepeated, unrepeatedLeaf, controls, present, reservedWidth, checkedOf, entries}
 use Rattle.spans.specs.Tree.{Tree, none, node}
@@ -26,7 +27,7 @@ padOk e = not (isPad e && present (e .depending))
 
 -- "widths of non-groups from 1, Bool 1, Binary to 8"
 unfoldable pub widthOk : Entry → Bool
-widthOk e = isGroup e || (leb 1 (e .width) && (not (eqb (e .kind) 5) || leb (e .width) 1) && (not (eqb (e .kind) 2) || leb (e .width) 8))
+widthOk e = isGroup e || (leb 1 (e .width) && (not (eqb (e .kind) kindBool) || leb (e .width) 1) && (not (eqb (e .kind) kindBinary) || leb (e .width) 8))
 
 abbrev pub some : Tree Entry → Bool
 some none = false

@@ -1,9 +1,10 @@
 -- The reader's walk: "a sequence reads fields, a field reads elements, a group element reads a sequence".
 use mathlib.Core.Bool.{Bool, true, false, _||_, cond}
-use mathlib.Core.List.{List, [], _∷_, _++_}
-use Prim.Native.Nat.{ℕ, zero, suc, _+_, _-_, _/_, max}
+use mathlib.Core.List.{List, [], _++_}
+use Prim.Native.Nat.{ℕ, zero, suc, _+_, _-_, max}
 use lib.Dec.{eqb, leb}
 use lib.ListN.{length, take, drop}
+use Rattle.codes.specs.Codes.{tagList, tagStruct, element}
 use Rattle.layout.specs.declared.Entry.{Entry}
 use Rattle.layout.specs.Layout.{isGroup, isPad, unrepeated, reservedWidth}
 use Rattle.spans.specs.Tree.{Tree, none, node}
@@ -51,7 +52,7 @@ module _ {S : Type 0} where
 
   unfoldable pub one : Codec S → List ℕ → Entry → Reader S → ℕ → Bool → Reader S
   one k r e inner name once at room s =
-      cond (isGroup e) (container name 7 inner at room s) (cond (isPad e) (pad r e at room s) (scalar k r e name once at room s))
+      cond (isGroup e) (container name tagStruct inner at room s) (cond (isPad e) (pad r e at room s) (scalar k r e name once at room s))
 
   -- the bytes of a sequence are "those from its base through its members, gaps counted": up to the furthest end
   abbrev pub thenEntry : List ℕ → ℕ → ℕ → Outcome S → Outcome S
@@ -73,12 +74,12 @@ module _ {S : Type 0} (plus : ℕ → ℕ → ℕ) where
   -- "Controller known? 5. Count from 0 to the given maximum? 6.", then the List; a table of Pads is no List
   abbrev pub table : Entry → Reader S → Many → Reader S
   table e f (never n) at room s = refused n
-  table e f (times n) at room s = cond (isPad e) (elements f n at room s) (container (e .name) 6 (elements f n) at room s)
+  table e f (times n) at room s = cond (isPad e) (elements f n at room s) (container (e .name) tagList (elements f n) at room s)
 
   -- "65536 for list elements"
   unfoldable pub field : Codec S → List ℕ → Entry → Reader S → Reader S
   field k r e inner at room s =
-      cond (unrepeated e) (one k r e inner (e .name) true at room s) (table e (one k r e inner 65536 false) (howMany (k .held) e s) at room s)
+      cond (unrepeated e) (one k r e inner (e .name) true at room s) (table e (one k r e inner element false) (howMany (k .held) e s) at room s)
 
   -- "an entry lies at base + offset + shift; then shift grows by bytes taken − its reserved bytes, never below 0"
   unfoldable pub seq : Codec S → List ℕ → Tree Entry → ℕ → ℕ → ℕ → S → Outcome S

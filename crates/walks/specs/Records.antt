@@ -1,11 +1,13 @@
 -- The whole calls: the questions before the walk, in order, and what the output buffers hold.
 use mathlib.Core.Path.{_≡_}
-use mathlib.Core.Bool.{Bool, true, false, _&&_, _||_, not, cond}
-use mathlib.Core.List.{List, [], _∷_, _++_}
-use Prim.Native.Nat.{ℕ, _+_, _-_, _*_, _/_, min, max}
+use mathlib.Core.Bool.{Bool, true, false, _&&_, _||_, cond}
+use mathlib.Core.List.{List, []}
+use Prim.Native.Nat.{ℕ, _+_, min, max}
 use lib.Dec.{eqb, leb}
 use lib.IntN.{ℤ, pos}
 use lib.ListN.{length, replicate}
+pub use Rattle.codes.specs.Codes.{most}
+pub use Rattle.zeros.specs.Filled.{filled}
 use Rattle.layout.specs.declared.Entry.{Entry}
 use Rattle.layout.specs.Layout.{isPad, entries, layoutAsks, recordLength, dependsIn}
 use Rattle.spans.specs.Tree.{Tree, none, node}
@@ -14,10 +16,6 @@ use Rattle.walks.specs.Kinds.{State, start, kinds}
 use Rattle.walks.specs.Reading as R
 use Rattle.walks.specs.Writing as W
 
--- "At most 65,536."
-abbrev pub most : ℕ
-most = 65536
-
 -- the refusal of a question by its number, or what stands behind it where the number is 0
 abbrev pub asking : {A : Type 0} → (ℕ → A) → ℕ → A → A
 asking refuse n behind = cond (eqb n 0) behind (refuse n)
@@ -25,10 +23,6 @@ asking refuse n behind = cond (eqb n 0) behind (refuse n)
 -- the number of the first of two questions that fails, or 0
 abbrev pub firstOf : ℕ → ℕ → ℕ
 firstOf a b = cond (eqb a 0) b a
-
--- what the lent buffers hold behind what a call gives: "unused output is zero"
-abbrev pub filled : ℕ → List ℕ → List ℕ
-filled room given = given ++ replicate (room - length given) 0
 
 -- ---- the reader
 
@@ -111,7 +105,7 @@ listAsks l items text room =
 
 -- the questions before the walk, on the layout and then on the list: the number of the first that fails, or 0
 unfoldable pub writerAsks : List ℕ → List ℕ → ℕ → List ℕ → List ℕ → ℕ → ℕ → ℕ
-writerAsks l masks page items text room work = asking (λ n. n) (layoutAsks l masks page work) (listAsks l items text room)
+writerAsks l masks page items text room work = firstOf (layoutAsks l masks page work) (listAsks l items text room)
 
 -- the layout, its masks and its page, the value list and its texts; the bytes of the record buffer, the words of the work space
 unfoldable pub encodeRecord : List ℕ → List ℕ → ℕ → List ℕ → List ℕ → ℕ → ℕ → Encoded

@@ -1,8 +1,8 @@
 -- What the reader's and the writer's walks share: single entries and tables, how many elements a table has, and the codec of the scalars.
-use mathlib.Core.Bool.{Bool, true, false, _&&_, not, cond}
+use mathlib.Core.Bool.{cond}
 use mathlib.Core.List.{List}
 use Prim.Native.Nat.{ℕ}
-use lib.Dec.{eqb, leb}
+use lib.Dec.{leb}
 use Rattle.layout.specs.declared.Entry.{Entry}
 use Rattle.layout.specs.Layout.{present, isPad}
 use Rattle.value.specs.declared.Scalar.{Scalar}

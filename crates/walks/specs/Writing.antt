@@ -1,13 +1,13 @@
 -- The writer's walk. It yields puts, bytes at a position, in the order of the walk; the record is these puts done on zeros.
-use mathlib.Core.Bool.{Bool, true, false, cond}
+use mathlib.Core.Bool.{cond}
 use mathlib.Core.List.{List, [], _∷_, _++_}
 use Prim.Native.Nat.{ℕ, zero, suc, _+_, _-_, max}
 use lib.Dec.{eqb, leb}
-use lib.ListN.{length, take, drop, replicate}
+use lib.ListN.{length, take, drop}
+use Rattle.codes.specs.Codes.{tagNull, tagList, tagStruct}
 use Rattle.layout.specs.declared.Entry.{Entry}
 use Rattle.layout.specs.Layout.{isGroup, unrepeated, present, reservedWidth}
 use Rattle.spans.specs.Tree.{Tree, none, node}
-use Rattle.items.specs.declared.Item.{Item}
 use Rattle.items.specs.Items.{Values, count, headOf, membersOf, restOf, lookup}
 use Rattle.walks.specs.Walk.{Coded, unfit, bytes, Codec}
 
@@ -56,12 +56,12 @@ coded room width at (bytes bs) = cond (leb (at + length bs) room) (wrote (record
 
 -- a List (tag 6) or Struct (tag 7) by its members, Null as one of none
 abbrev pub container : ℕ → (Values → Wrote) → Values → Wrote
-container tag f vs = cond (eqb (headOf vs .tag) tag) (f (membersOf vs)) (cond (eqb (headOf vs .tag) 0) (f none) (refused 13))
+container tag f vs = cond (eqb (headOf vs .tag) tag) (f (membersOf vs)) (cond (eqb (headOf vs .tag) tagNull) (f none) (refused 13))
 
 unfoldable pub one : {S : Type 0} → Codec S → ℕ → Entry → Writer → Writer
 one k room e inner vs at =
     cond (isGroup e)
-    (container 7 (λ ms. inner ms at) vs)
+    (container tagStruct (λ ms. inner ms at) vs)
     (coded room (e .width) at (k .enc e (headOf vs)))
 
 unfoldable pub elements : Writer → ℕ → Writer
@@ -73,7 +73,7 @@ unfoldable pub tableLength : Entry → Values → ℕ
 tableLength e vs = cond (present (e .depending)) (count vs) (e .occurs)
 
 unfoldable pub table : Entry → Writer → Writer
-table e f vs at = container 6 (λ ms. elements f (tableLength e ms) ms at) vs
+table e f vs at = container tagList (λ ms. elements f (tableLength e ms) ms at) vs
 
 unfoldable pub field : {S : Type 0} → Codec S → ℕ → Entry → Writer → Writer
 field k room e inner vs at = cond (unrepeated e) (one k room e inner vs at) (table e (one k room e inner) vs at)

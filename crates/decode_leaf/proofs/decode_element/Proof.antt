@@ -27,8 +27,8 @@ refusal-requires c κs = search needs
 returns : tie.Need-returns
 returns c =
     let at-args = c .before .before .before .before .before .before .before .args in
-    let at-inside = c .before .before .inside in
-    (record {
+    let at-inside = c .before .before .inside in (
+      record {
         met = λ l deps run. leaf-outside l (at-args .«record» .now) (at-args .page) deps (at-args .e) 65536 false (at-args .at) (length (at-args .items .now)) run (at-args .told) (at-args .text .now) (at-inside .result) (at-inside .ensures) (c .before .if1 .taken)
             (c .refusal .ensures);
         rest = refl;
@@ -44,8 +44,8 @@ returns-2 c =
     let at-args = c .before .before .before .before .before .before .before .before .before .args in
     let at-pre = c .before .before .before .before .before .before .before .before .before .pre in
     let at-inside = c .before .before .before .before .inside in
-    let at-if1 = c .before .before .before .if1 in
-    (record {
+    let at-if1 = c .before .before .before .if1 in (
+      record {
         met = λ l deps run. leaf-pad l (at-args .«record» .now) (at-args .page) deps (at-args .e) 65536 false (at-args .at) (length (at-args .items .now)) run (at-args .told) (at-args .text .now) (at-inside .result) (at-inside .ensures) (at-if1 .left) (c .before .if2 .taken) (at-pre .1)
             (c .passed .ensures);
         rest = refl;
@@ -73,8 +73,8 @@ returns-3 c =
     let at-inside = c .before .before .before .before .before .before .before .before .before .before .inside in
     let at-if1 = c .before .before .before .before .before .before .before .before .before .if1 in
     let at-if2 = c .before .before .before .before .before .before .before .if2 in
-    let at-element-value = c .before .before .before .before .element-value in
-    (record {
+    let at-element-value = c .before .before .before .before .element-value in (
+      record {
         met = λ l deps run. leaf-scalar l (at-args .«record» .now) (at-args .page) deps (at-args .e) 65536 false (at-args .at) (length (at-args .items .now)) run (at-args .told) (at-args .text .now) (at-inside .result) (at-inside .ensures) (at-if2 .left) (at-element-value .ensures .0 .met l deps run);
         rest = at-element-value .ensures .0 .rest;
       },

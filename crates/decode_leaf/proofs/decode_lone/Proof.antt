@@ -25,8 +25,8 @@ refusal-requires c κs = search needs
 returns : tie.Need-returns
 returns c =
     let at-args = c .before .before .before .before .before .before .before .before .args in
-    let at-inside = c .before .before .inside in
-    (record {
+    let at-inside = c .before .before .inside in (
+      record {
         met = leaf-outside (at-args .layout .now) (at-args .«record» .now) (at-args .page) (at-args .deps) (at-args .e) (at-args .e .name) true (at-args .at) (length (at-args .items .now)) (at-args .counts .now) (at-args .told) (at-args .text .now) (at-inside .result) (at-inside .ensures)
             (c .before .if1 .taken) (c .refusal .ensures);
         rest = refl;
@@ -43,8 +43,8 @@ returns-2 c =
     let at-args = c .before .before .before .before .before .before .before .before .before .before .args in
     let at-pre = c .before .before .before .before .before .before .before .before .before .before .pre in
     let at-inside = c .before .before .before .before .inside in
-    let at-if1 = c .before .before .before .if1 in
-    (record {
+    let at-if1 = c .before .before .before .if1 in (
+      record {
         met = leaf-pad (at-args .layout .now) (at-args .«record» .now) (at-args .page) (at-args .deps) (at-args .e) (at-args .e .name) true (at-args .at) (length (at-args .items .now)) (at-args .counts .now) (at-args .told) (at-args .text .now) (at-inside .result) (at-inside .ensures)
             (at-if1 .left) (c .before .if2 .taken) (at-pre) (c .passed .ensures);
         rest = refl;
@@ -76,8 +76,8 @@ returns-3 c =
     let at-inside = c .before .before .before .before .before .before .before .before .before .before .before .before .inside in
     let at-if1 = c .before .before .before .before .before .before .before .before .before .before .before .if1 in
     let at-if2 = c .before .before .before .before .before .before .before .before .before .if2 in
-    let at-lone-value = c .before .before .before .before .before .lone-value in
-    (record {
+    let at-lone-value = c .before .before .before .before .before .lone-value in (
+      record {
         met = leaf-scalar (at-args .layout .now) (at-args .«record» .now) (at-args .page) (at-args .deps) (at-args .e) (at-args .e .name) true (at-args .at) (length (at-args .items .now)) (at-args .counts .now) (at-args .told) (at-args .text .now) (at-inside .result) (at-inside .ensures) (at-if2 .left) (at-lone-value .ensures .0 .met);
         rest = at-lone-value .ensures .0 .rest;
         counts = at-lone-value .ensures .0 .counts;

@@ -1,5 +1,4 @@
 use Prim.Native.Nat.{_-_}
-use lib.ListN.{take}
 use Rattle.items.proofs.Words.{item-is}
 use borrow.Author.Needs.{needs}
 use Rattle.items.proofs.item_of.Statement.{statement}

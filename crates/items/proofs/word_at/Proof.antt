@@ -4,12 +4,13 @@ use Prim.Native.Nat.{_+_, _-_, _*_}
 use native.Mathlib.Omega.{arith}
 use lib.ListN.{getD}
 use lib.ListN.{List·getD-eq-default}
+use Rattle.items.specs.Items.{itemWords}
 use borrow.Author.Needs.{needs}
 use Rattle.items.proofs.word_at.Statement.{statement}
 use Rattle.items.proofs.word_at.Tie as tie
 
 returns : tie.Need-returns
-returns c = sym (List·getD-eq-default (c .before .args .items .now) 0 {n = c .before .args .i * 4 + c .before .args .k} (omega arith))
+returns c = sym (List·getD-eq-default (c .before .args .items .now) 0 {n = c .before .args .i * itemWords + c .before .args .k} (omega arith))
 
 mul-at : tie.Need-mul-at
 mul-at c = search needs
@@ -30,7 +31,7 @@ returns-2 : tie.Need-returns-2
 returns-2 c = search needs
 
 returns-3 : tie.Need-returns-3
-returns-3 c = sym (List·getD-eq-default (c .before .before .args .items .now) 0 {n = c .before .before .args .i * 4 + c .before .before .args .k} (omega arith))
+returns-3 c = sym (List·getD-eq-default (c .before .before .args .items .now) 0 {n = c .before .before .args .i * itemWords + c .before .before .args .k} (omega arith))
 
 pub word-at-spec : {M : Type 1} → statement M
 word-at-spec =

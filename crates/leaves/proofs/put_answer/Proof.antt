@@ -1,6 +1,13 @@
-use mathlib.Core.Path.{refl, sym, _∙_}
+-- A value is put as an item where the words have room for one; a refusal leaves them as they were.
+use mathlib.Core.Path.{refl, ap, _∙_}
 use Prim.Native.Nat.{_-_}
-use lib.ListN.{length, take}
+use borrow.Author.Tests.{le-leb, lt-leb}
+use lib.Dec.{leb}
+use lib.ListN.{length, take, drop}
+use borrow.Author.Tests.{le-leb, lt-leb}
+use Rattle.items.specs.Items.{itemWords, wordsOf}
+use mathlib.Core.List.{_++_}
+use Rattle.items.specs.declared.Item.{Item}
 use borrow.Author.Needs.{needs}
 use Rattle.leaves.proofs.put_answer.Statement.{statement}
 use Rattle.leaves.proofs.put_answer.Tie as tie
@@ -8,27 +15,32 @@ use Rattle.leaves.proofs.put_answer.Tie as tie
 enum-known-d : tie.Need-enum-known-d
 enum-known-d c = search needs
 
-put-item-requires : tie.Need-put-item-requires
-put-item-requires c κs = search needs
-
-same-length : tie.Need-same-length
-same-length c = search needs
-
 returns : tie.Need-returns
 returns c =
-    let t = sym (c .before .before .before .put-item .ensures .0) ∙ c .if1 .taken in
-    rw (c .before .before .before .before .before .before .d .given .1, t) (refl, c .before .before .before .put-item .ensures .1)
+    let at-args = c .before .before .before .before .before .args in
+    let at-d = c .before .before .d in
+    rw (at-d .given .1, lt-leb itemWords (length (at-args .item .now)) (c .if1 .taken)) (refl, refl)
+
+item-of-requires : tie.Need-item-of-requires
+item-of-requires c κs = search needs
+
+put-requires : tie.Need-put-requires
+put-requires c κs = search needs
 
 enum-known-d-2 : tie.Need-enum-known-d-2
 enum-known-d-2 c = search needs
 
-same-length-2 : tie.Need-same-length-2
-same-length-2 c = search needs
+same-length : tie.Need-same-length
+same-length c = search needs
 
 returns-2 : tie.Need-returns-2
 returns-2 c =
-    let t = sym (c .before .before .before .put-item .ensures .0) ∙ c .if1 .left in
-    rw (c .before .before .before .before .before .before .d .given .1, t) (refl, c .before .before .before .put-item .ensures .1)
+    let at-args = c .before .before .before .before .before .before .before .before .before .before .args in
+    let at-d = c .before .before .before .before .before .before .before .d in
+    let at-if1 = c .before .before .before .before .before .if1 in
+    let at-item-of = c .before .before .before .item-of in
+    let at-put = c .before .before .put in
+    rw (at-d .given .1, le-leb itemWords (length (at-args .item .now)) (at-if1 .left)) (refl, at-put .ensures ∙ ap (λ (x : Item). wordsOf x ++ drop itemWords (at-args .item .now)) (at-item-of .ensures))
 
 returns-3 : tie.Need-returns-3
 returns-3 c = search needs
@@ -38,10 +50,10 @@ put-answer-spec =
     tie.close
     (tie.spec
     enum-known-d
-    put-item-requires
-    same-length
     returns
+    item-of-requires
+    put-requires
     enum-known-d-2
-    same-length-2
+    same-length
     returns-2
     returns-3)

@@ -5,7 +5,7 @@ use native.Mathlib.Omega.{arith}
 use lib.ListN.{length, take, drop, getD}
 use borrow.Author.Needs.{needs}
 use borrow.Author.Tests.{not-true, not-false}
-use Rattle.lists.specs.Absent.{absent}
+use Rattle.codes.specs.Codes.{absent}
 use Rattle.lines.specs.Lines.{numberOf}
 use Rattle.lines.proofs.Laws.{numberFrom, number-start, number-lead, number-go, number-stop, number-over, number-end, digit-least, digit-most}
 use Rattle.lines.proofs.number_of.Statement.{statement}

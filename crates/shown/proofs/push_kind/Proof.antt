@@ -3,7 +3,7 @@ use Prim.Native.Nat.{_-_}
 use borrow.Author.Tests.{ne-eqb}
 use lib.Dec.{eqb}
 use lib.ListN.{length}
-use Rattle.shown.specs.Shown.{kindText}
+use Rattle.shown.specs.Shown.{kindName}
 use Rattle.shown.proofs.Sinks.{nothing}
 use borrow.Author.Needs.{needs}
 use Rattle.shown.proofs.push_kind.Statement.{statement}
@@ -61,60 +61,60 @@ same-length : tie.Need-same-length
 same-length c = search needs
 
 returns : tie.Need-returns
-unfolding kindText
+unfolding kindName
 returns c = rw (c .before .before .before .before .before .match .keys1) (c .before .before .push-all .ensures)
 
 same-length-2 : tie.Need-same-length-2
 same-length-2 c = search needs
 
 returns-2 : tie.Need-returns-2
-unfolding kindText
+unfolding kindName
 returns-2 c = rw (c .before .before .before .before .before .match .keys2) (c .before .before .push-all2 .ensures)
 
 same-length-3 : tie.Need-same-length-3
 same-length-3 c = search needs
 
 returns-3 : tie.Need-returns-3
-unfolding kindText
+unfolding kindName
 returns-3 c = rw (c .before .before .before .before .before .match .keys3) (c .before .before .push-all3 .ensures)
 
 same-length-4 : tie.Need-same-length-4
 same-length-4 c = search needs
 
 returns-4 : tie.Need-returns-4
-unfolding kindText
+unfolding kindName
 returns-4 c = rw (c .before .before .before .before .before .match .keys4) (c .before .before .push-all4 .ensures)
 
 same-length-5 : tie.Need-same-length-5
 same-length-5 c = search needs
 
 returns-5 : tie.Need-returns-5
-unfolding kindText
+unfolding kindName
 returns-5 c = rw (c .before .before .before .before .before .match .keys5) (c .before .before .push-all5 .ensures)
 
 same-length-6 : tie.Need-same-length-6
 same-length-6 c = search needs
 
 returns-6 : tie.Need-returns-6
-unfolding kindText
+unfolding kindName
 returns-6 c = rw (c .before .before .before .before .before .match .keys6) (c .before .before .push-all6 .ensures)
 
 same-length-7 : tie.Need-same-length-7
 same-length-7 c = search needs
 
 returns-7 : tie.Need-returns-7
-unfolding kindText
+unfolding kindName
 returns-7 c = rw (c .before .before .before .before .before .match .keys7) (c .before .before .push-all7 .ensures)
 
 same-length-8 : tie.Need-same-length-8
 same-length-8 c = search needs
 
 returns-8 : tie.Need-returns-8
-unfolding kindText
+unfolding kindName
 returns-8 c = rw (c .before .before .before .before .before .match .keys8) (c .before .before .push-all8 .ensures)
 
 returns-9 : tie.Need-returns-9
-unfolding kindText
+unfolding kindName
 returns-9 c = rw (ne-eqb _ _ (c .match .rest .0 .0 .0 .0 .0 .0 .0 .1), ne-eqb _ _ (c .match .rest .0 .0 .0 .0 .0 .0 .1), ne-eqb _ _ (c .match .rest .0 .0 .0 .0 .0 .1), ne-eqb _ _ (c .match .rest .0 .0 .0 .0 .1), ne-eqb _ _ (c .match .rest .0 .0 .0 .1), ne-eqb _ _ (c .match .rest .0 .0 .1), ne-eqb _ _ (c .match .rest .0 .1), ne-eqb _ _ (c .match .rest .1)) (nothing (c .before .before .args .out .now) (c .before .before .args .s))
 
 pub push-kind-spec : {M : Type 1} → statement M

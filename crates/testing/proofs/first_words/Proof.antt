@@ -21,12 +21,12 @@ part-result-end c = search needs
 returns : tie.Need-returns
 returns c =
     let at-args = c .before .before .args in
-    let p = at-args .s .ptr in
+    let p = at-args .words .ptr in
     let z : 0 + p .1 ≡ p .1 = omega arith in
-    (ap (λ (k : ℕ). take k (at-args .s .now)) (sub-zero (at-args .n)), ap (λ (k : ℕ). (p .0, k)) z)
+    (ap (λ (k : ℕ). take k (at-args .words .now)) (sub-zero (at-args .n)), ap (λ (k : ℕ). (p .0, k)) z)
 
 returns-2 : tie.Need-returns-2
-returns-2 c = (sym (take-all (c .before .args .n) (c .before .args .s .now) (c .if1 .left)), refl)
+returns-2 c = (sym (take-all (c .before .args .n) (c .before .args .words .now) (c .if1 .left)), refl)
 
 pub first-words-spec : {M : Type 1} → statement M
 first-words-spec =

@@ -18,7 +18,7 @@ returns : tie.Need-returns
 returns c = search needs
 
 returns-2 : tie.Need-returns-2
-returns-2 c = sym (List·getD-eq-default (c .before .args .s .now) 0 {n = c .before .args .i} (c .if1 .left))
+returns-2 c = sym (List·getD-eq-default (c .before .args .words .now) 0 {n = c .before .args .i} (c .if1 .left))
 
 pub word-at-spec : {M : Type 1} → statement M
 word-at-spec = tie.close (tie.spec mul-result shared-slice-read-result returns returns-2)

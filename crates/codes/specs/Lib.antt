@@ -1,0 +1,2 @@
+-- The numbers of kinds, tags, absent options and names of elements.
+pub mod Codes

@@ -1,0 +1,2 @@
+-- A lent buffer behind what a call gives.
+pub mod Filled

@@ -1,4 +1,4 @@
-"""What prove-paths, prove-fill and prove-cycle share: the text of a proof file."""
+"""What prove-paths and prove-cycle share: the text of a proof file."""
 import re
 
 def known_at(lines):

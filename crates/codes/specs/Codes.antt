@@ -1,7 +1,7 @@
 -- The numbers that 01 gives to kinds, tags, absent options and elements' names.
 use Prim.Native.Nat.{ℕ}
 
--- a word of an entry, and two of an item
+-- what a number below is: a word of an entry, and two of an item
 abbrev Kind : Type 0
 Kind = ℕ
 

@@ -195,7 +195,7 @@ pub fn how_many(layout: &[u32], counts: &[i64], e: Entry) -> Count
     Count { refused: 6, n: 0 }
 }
 
-// ---- one scalar or Pad
+// ---- an entry's elements, and a table's own item
 
 // How many elements an entry has: one where it is no table.
 pub fn element_count(layout: &[u32], counts: &[i64], e: Entry) -> Count
@@ -276,6 +276,8 @@ pub fn listed(
         told,
     }
 }
+
+// ---- one scalar or Pad
 
 // What one item of a field of this width comes to.
 fn one_item(width: u32, told: usize) -> Out

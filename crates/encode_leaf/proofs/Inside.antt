@@ -17,7 +17,7 @@ use Rattle.walks.specs.Walk.{valuesAfter}
 use Rattle.walks.specs.Writing.{tableLength}
 use Rattle.encode_leaf.specs.declared.Run.{Run}
 use Rattle.encode_leaf.specs.Laying.{Laid, refused, container}
-use Rattle.encode_leaf.specs.Machine.{taking, endIn, run, membersIn, elementsIn}
+use Rattle.encode_leaf.specs.Machine.{placeAfter, taking, endIn, run, membersIn, elementsIn}
 
 -- ---- the members of a value
 
@@ -42,13 +42,14 @@ module _ (tag : ℕ) (f : Values → Laid) (v : List ℕ) (i to : ℕ) (it : Ite
 
 -- ---- the values behind an entry's own
 
-pub after-pad : (v : List ℕ) (e : Entry) (j to : ℕ) → e .kind ≡ 6 → values v j to ≡ valuesAfter e (values v j to)
+pub after-pad : (v : List ℕ) (e : Entry) (j to : ℕ) → e .kind ≡ 6 → (j ≡ placeAfter v e j to) × (values v j to ≡ valuesAfter e (values v j to))
 unfolding isPad
-after-pad v e j to k = rw (eq-eqb (e .kind) 6 k) refl
+after-pad v e j to k = rw (eq-eqb (e .kind) 6 k) (refl, refl)
 
-pub after-item : (v : List ℕ) (e : Entry) (j to : ℕ) → (e .kind ≡ 6 → ⊥) → (r : ℕ) → r ≡ endOf (Items.spanOf (headOf (values v j to))) j to → values v r to ≡ valuesAfter e (values v j to)
+pub after-item : (v : List ℕ) (e : Entry) (j to : ℕ) → (e .kind ≡ 6 → ⊥) → (r : ℕ) → r ≡ endOf (Items.spanOf (headOf (values v j to))) j to
+    → (r ≡ placeAfter v e j to) × (values v r to ≡ valuesAfter e (values v j to))
 unfolding isPad
-after-item v e j to k r q = rw (ne-eqb (e .kind) 6 k) (sym (rest-is v j to (headOf (values v j to)) (Items.spanOf (headOf (values v j to))) r refl refl q))
+after-item v e j to k r q = rw (ne-eqb (e .kind) 6 k) (q, sym (rest-is v j to (headOf (values v j to)) (Items.spanOf (headOf (values v j to))) r refl refl q))
 
 -- ---- the elements of an entry
 

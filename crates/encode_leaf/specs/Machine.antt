@@ -5,14 +5,14 @@ use mathlib.Core.List.{List, []}
 use Prim.Native.Nat.{ℕ, zero, suc, _+_, min}
 use lib.Dec.{eqb, leb}
 use lib.ListN.{length}
-use Rattle.codes.specs.Codes.{kindBool, kindEdited, tagNull}
+use Rattle.codes.specs.Codes.{kindBool, kindEdited, tagNull, tagList}
 use Rattle.layout.specs.declared.Entry.{Entry}
 use Rattle.items.specs.declared.Item.{Item}
 use Rattle.encode_scalar.specs.Encode.{judgedOf, bytesOf}
 use Rattle.spans.specs.Tree.{endOf}
 use Rattle.items.specs.Items.{Values, values, headOf, restOf, spanOf, textOf, scalarIn}
 use Rattle.walks.specs.Walk.{Codec}
-use Rattle.layout.specs.Layout.{unrepeated}
+use Rattle.layout.specs.Layout.{isPad, unrepeated}
 use Rattle.walks.specs.Writing.{tableLength}
 use Rattle.walks.specs.Kinds.{State, kinds, maskOf}
 use Rattle.walks.specs.Records.{most}
@@ -47,6 +47,10 @@ taking tag wanted = eqb tag wanted || eqb tag tagNull
 abbrev pub endIn : List ℕ → ℕ → ℕ → ℕ
 endIn v i to = endOf (spanOf (headOf (values v i to))) i to
 
+-- the place behind the item of an entry, which is at j: a Pad has none
+abbrev pub placeAfter : List ℕ → Entry → ℕ → ℕ → ℕ
+placeAfter v e j to = cond (isPad e) j (endIn v j to)
+
 abbrev pub run : ℕ → ℕ → ℕ → ℕ → Run
 run number n from end = record { refused = number; n = n; from = from; end = end }
 
@@ -57,7 +61,7 @@ membersIn v e from end = run 0 (tableLength e (values v from end)) from end
 unfoldable pub elementsIn : List ℕ → Entry → ℕ → ℕ → Run
 elementsIn v e i to =
     cond (unrepeated e) (run 0 1 i to)
-    (cond (taking (headOf (values v i to) .tag) 6) (membersIn v e (min (endIn v i to) (i + 1)) (endIn v i to)) (run 13 0 0 0))
+    (cond (taking (headOf (values v i to) .tag) tagList) (membersIn v e (min (endIn v i to) (i + 1)) (endIn v i to)) (run 13 0 0 0))
 
 -- the writer's codec, and the bytes that the record may have in a buffer
 abbrev pub codec : List ℕ → ℕ → List ℕ → Codec State

@@ -33,7 +33,7 @@ ghost use Rattle.layout.specs.Layout.{unrepeated};
 ghost use Rattle.walks.specs.Walk.{valuesAfter};
 ghost use Rattle.walks.specs.Writing.{lay, tableLength};
 ghost use Rattle.encode_leaf.specs.Laying.{leaf, leaves, elements};
-ghost use Rattle.encode_leaf.specs.Machine.{Met, refusing, bufferBehind, elementsIn, codec, roomIn, putWidth, maskFor, judged, outside, bytesIn, taking};
+ghost use Rattle.encode_leaf.specs.Machine.{placeAfter, Met, refusing, bufferBehind, elementsIn, codec, roomIn, putWidth, maskFor, judged, outside, bytesIn, taking};
 
 // What a part of the walk came to: the number that refuses it, or 0 with one more than the furthest end of what was put, 0 where
 // nothing was, and the bytes taken.
@@ -117,7 +117,7 @@ pub fn elements_of(items: &[u64], e: Entry, i: usize, to: usize) -> Run
 
 // The place behind the item of an entry, which is at j; a Pad has none.
 pub fn values_after(items: &[u64], e: Entry, j: usize, to: usize) -> usize
-    ensures { λ r. ⌜ values (now (items .entry)) r to ≡ valuesAfter e (values (now (items .entry)) j to) ⌝ }
+    ensures { λ r. ⌜ (r ≡ placeAfter (now (items .entry)) e j to) × (values (now (items .entry)) r to ≡ valuesAfter e (values (now (items .entry)) j to)) ⌝ }
 {
     if e.kind == KIND_PAD {
         return j;

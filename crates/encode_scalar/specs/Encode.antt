@@ -4,7 +4,7 @@ use mathlib.Core.Bool.{Bool, false, not, _&&_, cond}
 use Prim.Native.Nat.{ℕ, _%_}
 use lib.Dec.{eqb, leb}
 use lib.ListN.{length}
-use Rattle.codes.specs.Codes.{kindText, kindInt, kindBinary, kindFloat, kindHex, kindBool, kindPad, kindDecimal, kindEdited}
+use Rattle.codes.specs.Codes.{kindText, kindInt, kindBinary, kindFloat, kindHex, kindBool, kindPad, kindDecimal, kindEdited, tagList}
 use Rattle.value.specs.declared.Scalar.{Scalar}
 use Rattle.value.specs.declared.Scalar.the-variants.{Null, Text, Int, Decimal, Float as FloatV, FloatBits, Bool as BoolV}
 use Rattle.value.specs.Answer.{Answer, refused, given}
@@ -109,7 +109,7 @@ decimalWritten p q page w (given (number negative size)) = decimalBytes p q page
 
 -- the number of an item for a Decimal field; a List or Struct has none
 abbrev pub itemNumber : ℕ → ℕ → ℕ → ℕ → Answer Whole
-itemNumber tag a b scale = cond (leb 6 tag) noNumber (decimalFor (scalarOf tag a b) scale)
+itemNumber tag a b scale = cond (leb tagList tag) noNumber (decimalFor (scalarOf tag a b) scale)
 
 -- ---- Edited
 
@@ -147,7 +147,7 @@ judgedOf kind p q r s mask w tag v text =
     cond (eqb kind kindText) (refusalAt w (textIn v text))
     (cond (eqb kind kindBool) 0
     (cond (eqb kind kindPad) 0
-    (cond (leb 6 tag) 13 (numberJudged kind p q r s mask w v text))))
+    (cond (leb tagList tag) 13 (numberJudged kind p q r s mask w v text))))
 
 -- the bytes that are written: one for a Bool, and for all others as many as the field has
 unfoldable pub bytesOf : ℕ → ℕ → ℕ → ℕ → List ℕ → ℕ → ℕ → Scalar → List ℕ → List ℕ

@@ -11,6 +11,7 @@ use codes::KIND_INT;
 use codes::KIND_PAD;
 use codes::KIND_TEXT;
 use codes::TAG_DECIMAL;
+use codes::TAG_LIST;
 use float::Floated;
 use value::Amount;
 use value::Number;
@@ -173,7 +174,7 @@ pub fn judge_scalar(
     if kind == KIND_PAD {
         return 0;
     }
-    if tag >= 6 {
+    if tag >= TAG_LIST {
         return 13;
     }
     judge_number(kind, p, q, r, s, mask, width, v, text)
@@ -325,7 +326,7 @@ fn decimal_item(tag: u64, a: u64, b: u64, scale: u64) -> Amount
             return value::amount_of(value::is_minus(a), value::size_of(a));
         }
     }
-    if tag >= 6 {
+    if tag >= TAG_LIST {
         return Amount::Bad;
     }
     float::as_decimal(value::item_scalar(tag, a, b), scale)
@@ -413,7 +414,7 @@ pub fn encode_scalar(
         text::fill_pad(part, decode_scalar::low_byte(r), page);
         return 0;
     }
-    if tag >= 6 {
+    if tag >= TAG_LIST {
         return 13;
     }
     write_number(part, kind, p, q, r, s, mask, page, v, text)

@@ -1,4 +1,4 @@
--- The test of `Fits` (crate `encode_scalar`): which values fit a scalar field of a width w, kind by kind. A Text's and a Hex's bytes t are given beside the value.
+-- The test of `Fits`: which values fit a scalar field of a width w, kind by kind. A Text's and a Hex's bytes t are given beside the value.
 use mathlib.Core.List.{List}
 use mathlib.Core.Bool.{Bool, true, false, not, _&&_, _||_, cond}
 use Prim.Native.Nat.{ℕ, _-_, _*_, _/_, _%_, _^_}

@@ -4,6 +4,7 @@ use mathlib.Core.List.{List}
 use mathlib.Core.Bool.{Bool, true, false}
 use Prim.Native.Nat.{ℕ, _-_, _*_, _/_, _%_, _^_, _<_, _≤_}
 use lib.ListN.{length}
+use Rattle.codes.specs.Codes.{kindText, kindInt, kindBinary, kindFloat, kindHex, kindBool, kindDecimal, kindEdited}
 use Rattle.value.specs.declared.Scalar.{Scalar}
 use Rattle.value.specs.declared.Scalar.the-variants.{Null, Text, Int, Decimal, Float as FloatV, FloatBits, Bool as BoolV}
 use Rattle.value.specs.Digits.{limit}
@@ -37,23 +38,23 @@ Signed sign negative size = (negative ≡ true → flag sign ≡ true) × Minus 
 
 pub data Fits (p q r s : ℕ) (mask : List ℕ) (w : ℕ) : ℕ → Scalar → List ℕ → Type 0 where
   -- "Text: length at most width, no 0 byte, no pad byte at its cut end; untrimmed, length equal to width"
-  text-fits : (start count : ℕ) (t : List ℕ) → Text.Fits (flag p) (flag q) (r % 256) w t → Fits p q r s mask w 0 (Text start count) t
+  text-fits : (start count : ℕ) (t : List ℕ) → Text.Fits (flag p) (flag q) (r % 256) w t → Fits p q r s mask w kindText (Text start count) t
   -- "never −2^63"
-  int-fits : (negative : Bool) (size : ℕ) (t : List ℕ) → Digits w q negative size → size < 2 ^ 63 → Fits p q r s mask w 1 (Int negative size) t
-  binary-fits : (negative : Bool) (size : ℕ) (t : List ℕ) → widthOk w ≡ true → InRange w (flag q) negative size → Fits p q r s mask w 2 (Int negative size) t
+  int-fits : (negative : Bool) (size : ℕ) (t : List ℕ) → Digits w q negative size → size < 2 ^ 63 → Fits p q r s mask w kindInt (Int negative size) t
+  binary-fits : (negative : Bool) (size : ℕ) (t : List ℕ) → widthOk w ≡ true → InRange w (flag q) negative size → Fits p q r s mask w kindBinary (Int negative size) t
   -- "Float: 64 any; 32 exact, no NaN; 16 exact normal, zero or infinity"
-  float-fits : (x : ℕ) (t : List ℕ) → Exact q x → w ≡ q / 8 → Fits p q r s mask w 3 (floatOf x) t
+  float-fits : (x : ℕ) (t : List ℕ) → Exact q x → w ≡ q / 8 → Fits p q r s mask w kindFloat (floatOf x) t
   -- "Hex: 2w lower-case digits"
-  hex-fits : (start count : ℕ) (t : List ℕ) → Hex.Fits w t → Fits p q r s mask w 4 (Text start count) t
+  hex-fits : (start count : ℕ) (t : List ℕ) → Hex.Fits w t → Fits p q r s mask w kindHex (Text start count) t
   -- "Bool 1"
-  bool-fits : (b : Bool) (t : List ℕ) → w ≡ 1 → Fits p q r s mask w 5 (BoolV b) t
+  bool-fits : (b : Bool) (t : List ℕ) → w ≡ 1 → Fits p q r s mask w kindBool (BoolV b) t
   -- "precision at most width"; "Decimals have the entry's scale"
-  display-fits : (negative : Bool) (size : ℕ) (t : List ℕ) → p ≡ 0 → Digits w q negative size → s ≤ w → size < limit → Fits p q r s mask w 7 (decimal negative size r) t
+  display-fits : (negative : Bool) (size : ℕ) (t : List ℕ) → p ≡ 0 → Digits w q negative size → s ≤ w → size < limit → Fits p q r s mask w kindDecimal (decimal negative size r) t
   -- "Packed, zoned: below 10^(2w−1), 10^w"
-  packed-fits : (negative : Bool) (size : ℕ) (t : List ℕ) → p ≡ 1 → 0 < w → size < 10 ^ (2 * w - 1) → size < limit → Signed q negative size → Fits p q r s mask w 7 (decimal negative size r) t
-  zoned-fits : (negative : Bool) (size : ℕ) (t : List ℕ) → p ≡ 2 → 0 < w → size < 10 ^ w → size < limit → Signed q negative size → Fits p q r s mask w 7 (decimal negative size r) t
+  packed-fits : (negative : Bool) (size : ℕ) (t : List ℕ) → p ≡ 1 → 0 < w → size < 10 ^ (2 * w - 1) → size < limit → Signed q negative size → Fits p q r s mask w kindDecimal (decimal negative size r) t
+  zoned-fits : (negative : Bool) (size : ℕ) (t : List ℕ) → p ≡ 2 → 0 < w → size < 10 ^ w → size < limit → Signed q negative size → Fits p q r s mask w kindDecimal (decimal negative size r) t
   edited-fits : (negative : Bool) (size : ℕ) (t : List ℕ) → length mask ≡ w → Edited.Fits (flag p) negative size mask → size < limit → Minus negative size
-      → Fits p q r s mask w 8 (decimal negative size r) t
+      → Fits p q r s mask w kindEdited (decimal negative size r) t
 
 -- what a field that holds the value says: a text says its bytes
 abbrev pub saidOf : Scalar → List ℕ → Says

@@ -10,6 +10,7 @@ use codes::KIND_HEX;
 use codes::KIND_INT;
 use codes::KIND_TEXT;
 use value::Amount;
+use value::LIMIT;
 use value::Scalar;
 ghost use mathlib.Core.Path.{_≡_};
 ghost use mathlib.Core.Bool.{true, not, _&&_, cond};
@@ -287,7 +288,7 @@ fn fits_zoned(width: usize, sign: u32, negative: bool, size: u64) -> bool
 fn fits_decimal(p: u32, q: u32, s: u32, width: usize, negative: bool, size: u64) -> bool
     ensures { λ r. ⌜ r ≡ decimalFits p q s width negative size ⌝ }
 {
-    if size >= 1000000000000000000 {
+    if size >= LIMIT {
         return false;
     }
     if p == 0 {

@@ -131,7 +131,7 @@ pageOf l = numberSaid pageWord (getD l 0 [])
 
 -- "(2 unless width long)"
 abbrev pub maskLong : List (List ℕ) → ℕ → Bool
-maskLong l k = not (eqb (kindSaid l k) 8) || eqb (length (maskSaid l k)) (widthSaid l k)
+maskLong l k = not (eqb (kindSaid l k) kindEdited) || eqb (length (maskSaid l k)) (widthSaid l k)
 
 -- the number of the first question that fails, 0 if none does: "Layout text lawful? Else 17.", then 1, 2 and 3
 abbrev pub judged : Bool → Bool → Bool → Bool → ℕ

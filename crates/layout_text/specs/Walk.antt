@@ -5,7 +5,7 @@ use mathlib.Core.List.{List, []}
 use Prim.Native.Nat.{ℕ, suc, _+_, _-_, _*_, _≤_, _<_}
 use lib.Dec.{eqb, leb}
 use lib.ListN.{length, take, drop, getD}
-use Rattle.codes.specs.Codes.{kindEdited}
+use Rattle.codes.specs.Codes.{kindEdited, kindGroup}
 use Rattle.spans.specs.Tree.{tree, nested}
 use Rattle.layout.specs.declared.Entry.{Entry}
 use Rattle.layout.specs.Layout.{absent, allBelow, entryOk}
@@ -99,7 +99,7 @@ pub record Told (text : List ℕ) (k at : ℕ) (s : Said) : Type 0 where
   pub mask : take (s .length) (drop (s .mask) text) ≡ maskSaid (linesOf text) k
   pub mask-inside : s .mask + s .length ≤ length text
   pub long : s .length ≡ length (maskSaid (linesOf text) k)
-  pub empty : (s .kind ≡ 8 → ⊥) → s .length ≡ 0
+  pub empty : (s .kind ≡ kindEdited → ⊥) → s .length ≡ 0
   -- no mask is longer than its lines, and the other lines are short
   pub room : at + s .length < s .next
   pub short : s .next ≤ at + 207 + s .length
@@ -128,7 +128,7 @@ entryWith said name depending mask = record {
 }
 
 unfoldable pub fineAlone : Said → Bool
-fineAlone said = entryOk (entryWith said 0 0 0) (said .length) && (not (eqb (said .kind) 8) || eqb (said .length) (said .width))
+fineAlone said = entryOk (entryWith said 0 0 0) (said .length) && (not (eqb (said .kind) kindEdited) || eqb (said .length) (said .width))
 
 -- ---- what one pass finds
 
@@ -149,7 +149,7 @@ pub record Finds (text : List ℕ) (j : Judged) (spans groups : List ℕ) : Type
   pub fine : j .lawful ≡ true → j .fine ≡ allBelow (fineIn (linesOf text)) (countOf (linesOf text))
   pub masks : j .lawful ≡ true → j .masks ≡ length (masksOf (linesOf text))
   pub spans-kept : j .lawful ≡ true → (i : ℕ) → i < countOf (linesOf text) → i < 512 → getD spans i 0 ≡ numberSaid spanWord (lineIn (linesOf text) i 6)
-  pub groups-kept : j .lawful ≡ true → (i : ℕ) → i < countOf (linesOf text) → i < 512 → eqb (getD groups i 0) 1 ≡ eqb (kindSaid (linesOf text) i) 9
+  pub groups-kept : j .lawful ≡ true → (i : ℕ) → i < countOf (linesOf text) → i < 512 → eqb (getD groups i 0) 1 ≡ eqb (kindSaid (linesOf text) i) kindGroup
   -- a text with few entries that pass is short
   pub short : j .lawful ≡ true → length text ≤ 16 + j .count * 207 + j .masks
   pub small : j .fine ≡ true → j .masks ≤ j .count * 65535

@@ -13,7 +13,7 @@ use Rattle.binary.specs.Bytes.{bytesOf}
 use Rattle.hex.specs.Hex.{hexOf}
 use Rattle.text.specs.Shown.{Shows, shows, none, shownOf}
 use Rattle.items.specs.declared.Item.{Item}
-use Rattle.items.specs.Items.{itemCount, itemAt}
+use Rattle.items.specs.Items.{scalarIn, itemCount, itemAt}
 use Rattle.layout_text.specs.Form.{nameWord, kindWord}
 use Rattle.layout_text.specs.Reading as L
 use Rattle.walks.specs.Records.{most, Decoded, refused, decodeRecord, numberOf, itemsOf, textsOf}
@@ -55,10 +55,10 @@ floatText w = hexOf 0 (bytesOf 0 8 w)
 
 -- "List and struct show member counts, bool 0/1": the item's third word, which has no sign
 abbrev pub counted : ℕ → Bool
-counted tag = leb 5 tag && leb tag 7
+counted tag = leb tagBool tag && leb tag tagStruct
 
 abbrev pub numberIn : Item → Scalar
-numberIn it = cond (counted (it .tag)) (Int false (it .a)) (scalarOf (it .tag) (it .a) (it .b))
+numberIn it = cond (counted (it .tag)) (Int false (it .a)) (scalarIn it)
 
 unfoldable pub valueOf : List ℕ → Item → List ℕ
 valueOf text it =

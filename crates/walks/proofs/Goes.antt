@@ -191,7 +191,7 @@ module _ {S : Type 0} (kw kr : Codec S) where
   pub group-goes : (e : Entry) (inw : ℕ → Writer) (inr : List ℕ → Reader S) (inm : Measure) (name : ℕ) (ns vs : Values) (once : Bool) (s s′ : S) (lo at least : ℕ)
       → isGroup e ≡ true → at ≤ lo → Goes (λ room. inw room ns at) (λ r room. inr r at room s) (inm ns at) lo at least (flat ns) (count ns) s′
       → Goes (λ room. W.one kw room e (inw room) (node (holder name 7 ns) ns vs) at) (λ r room. R.one kr r e (inr r) name once at room s)
-      (N.one e inm (node (holder name 7 ns) ns vs) at) at at least (name ∷ 7 ∷ count ns ∷ suc (size ns) ∷ flat ns) 1 s′
+      (N.one e inm (node (holder name 7 ns) ns vs) at) at at least (wordsOf (holder name 7 ns) ++ flat ns) 1 s′
   unfolding R.one W.one N.one
   group-goes e inw inr inm name ns vs once s s′ lo at least g h x =
       along lo at at least least (λ room. rw g refl) (λ r room. rw g refl) (rw g refl) h (omega arith)
@@ -219,7 +219,7 @@ module _ {S : Type 0} (kw kr : Codec S) where
       → Goes (λ room. W.elements (W.one kw room e (inw room)) (count ns) ns at) (λ r room. R.elements _+_ (R.one kr r e (inr r) 65536 false) (count ns) at room s)
       (N.elements (N.one e inm) (count ns) ns at) at at 0 (flat ns) (count ns) s′
       → Goes (λ room. W.field kw room e (inw room) v′ at) (λ r room. R.field _+_ kr r e (inr r) at room s) (N.field e inm v′ at) at at least′
-      (e .name ∷ 6 ∷ count ns ∷ suc (size ns) ∷ flat ns) 1 s′
+      (wordsOf (holder (e .name) 6 ns) ++ flat ns) 1 s′
   unfolding R.field W.field W.table N.field N.long
   field-table e inw inr inm ns vs v′ s s′ at least′ p o n q l x =
       along at at at 0 least′ (λ room. rw (o, q, same-many e s (count ns) ns n refl) refl) (λ r room. rw (o, n, p) refl) (rw (o, q, p) refl) (omega arith) l

@@ -1,7 +1,7 @@
 -- A fitting list under a plain layout is written, and what is written is read back: by the derivation of its fitting.
 use mathlib.Core.Path.{_≡_, refl, sym, ap, _∙_}
 use mathlib.Core.Bool.{Bool, true, false, cond, false≢true}
-use mathlib.Core.List.{List, [], _∷_}
+use mathlib.Core.List.{List, [], _++_}
 use Prim.Native.Nat.{ℕ, zero, suc, _+_, _-_, _≤_}
 use native.Mathlib.Omega.{arith}
 use lib.Dec.{eqb}
@@ -156,14 +156,14 @@ module _ (kw kr : Codec State) (padLaw : PadLaw kw) (holds : (e : Entry) (s : St
         (scalar-goes kw kr e (inw ms) (inr ms) (inm ms) (e .name) it vs true s (after source e it s) (base + (e .offset + shift)) n p g (q .2 .wide g) (law e it s k)))
         (trip x _ _ _ all (q .4) (looks-next rest (e .name) it none all vs n (q .1) (l .1))))
     trip (group {e} {ms} {rest} {ns} {vs} {s} {s₁} {s′} p o g x y) = λ lo base shift all q l.
-        counted (1 + count vs) (suc (count vs)) (omega arith) (entry-goes kw kr e ms rest all lo base shift (cond (unrepeatedLeaf e) 1 0) (least rest) (e .name ∷ 7 ∷ count ns ∷ suc (size ns) ∷ flat ns) (flat vs) 1 (count vs) s s₁ s′ (q .0) _ refl
+        counted (1 + count vs) (suc (count vs)) (omega arith) (entry-goes kw kr e ms rest all lo base shift (cond (unrepeatedLeaf e) 1 0) (least rest) (wordsOf (holder (e .name) 7 ns) ++ flat ns) (flat vs) 1 (count vs) s s₁ s′ (q .0) _ refl
         (field-one kw kr e (inw ms) (inr ms) (inm ms) (node (holder (e .name) 7 ns) ns vs) (lookup (e .name) all) s s₁ (base + (e .offset + shift)) (least ms) (cond (unrepeatedLeaf e) 1 0) _ 1 o
         (l .0 ∙ self-found (holder (e .name) 7 ns) (e .name) ns vs refl) (rw (o, g) (omega arith))
         (group-goes kw kr e (inw ms) (inr ms) (inm ms) (e .name) ns vs true s s₁ (base + (e .offset + shift) + (0 + 0)) (base + (e .offset + shift)) (least ms) g (omega arith)
         (trip x 0 (base + (e .offset + shift)) 0 ns (q .3) (looks-self ms ns))))
         (trip y _ _ _ all (q .4) (looks-next rest (e .name) (holder (e .name) 7 ns) ns all vs refl (q .1) (l .1))))
     trip (table {e} {ms} {rest} {ns} {vs} {s} {s₁} {s′} p o n x y) = λ lo base shift all q l.
-        counted (1 + count vs) (suc (count vs)) (omega arith) (entry-goes kw kr e ms rest all lo base shift (cond (unrepeatedLeaf e) 1 0) (least rest) (e .name ∷ 6 ∷ count ns ∷ suc (size ns) ∷ flat ns) (flat vs) 1 (count vs) s s₁ s′ (q .0) _ refl
+        counted (1 + count vs) (suc (count vs)) (omega arith) (entry-goes kw kr e ms rest all lo base shift (cond (unrepeatedLeaf e) 1 0) (least rest) (wordsOf (holder (e .name) 6 ns) ++ flat ns) (flat vs) 1 (count vs) s s₁ s′ (q .0) _ refl
         (field-table kw kr e (inw ms) (inr ms) (inm ms) ns vs (lookup (e .name) all) s s₁ (base + (e .offset + shift)) (cond (unrepeatedLeaf e) 1 0) p o (holds e s ∙ n)
         (l .0 ∙ self-found (holder (e .name) 6 ns) (e .name) ns vs refl) (rw o (omega arith))
         (trip x (base + (e .offset + shift)) p (q .2) (q .3) o))
@@ -176,7 +176,7 @@ module _ (kw kr : Codec State) (padLaw : PadLaw kw) (holds : (e : Entry) (s : St
         (trip x _ p o q c))
     trip (groups {e} {ms} {ns} {vs} {s} {s₁} {s′} g x y) = λ at p o q c.
         counted (1 + count vs) (suc (count vs)) (omega arith) (elements-more (λ room. W.one kw room e (inw ms room)) (λ r. R.one kr r e (inr ms r) 65536 false) (N.one e (inm ms)) (count vs) (node (holder 65536 7 ns) ns vs)
-        (65536 ∷ 7 ∷ count ns ∷ suc (size ns) ∷ flat ns) (flat vs) 1 (count vs) s s₁ s′ at
+        (wordsOf (holder 65536 7 ns) ++ flat ns) (flat vs) 1 (count vs) s s₁ s′ at
         (along at at at (least ms) 1 (λ room. refl) (λ r room. refl) refl (omega arith) (o .solid c g)
         (group-goes kw kr e (inw ms) (inr ms) (inm ms) 65536 ns vs false s s₁ (at + (0 + 0)) at (least ms) g (omega arith) (trip x 0 at 0 ns q (looks-self ms ns))))
         (trip y _ p o q c))

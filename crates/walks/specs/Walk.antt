@@ -1,4 +1,4 @@
--- What the reader's and the writer's walks share: single entries and tables, how many elements a table has, and the codec of the scalars.
+-- What the walks share: the values behind an entry's own, how many elements a table has, and the codec of the scalars.
 use mathlib.Core.Bool.{cond}
 use mathlib.Core.List.{List}
 use Prim.Native.Nat.{ℕ}

@@ -67,7 +67,7 @@ loop-again c =
     let at-has-value = c .before .before .before .before .has-value in
     let at-values-after = c .before .before .values-after in
     let at-if1 = c .before .before .before .if1 in
-    (at-loop .inv .0 ∙ supplied-go _ _ _ _ _ _ (at-loop .inv .1) (at-loop-test .taken) (at-load .result) (at-load .ensures) _ (at-seek .ensures) _ (at-has-value .ensures) (not-false _ (at-if1 .left)) _ (c .end-of .ensures), within-behind _ _ _ _ _ _ (at-loop .inv .1) (at-loop-test .taken) (at-load .result) (at-load .ensures) _ (at-seek .ensures) _ (at-has-value .ensures) _ (at-values-after .ensures))
+    (at-loop .inv .0 ∙ supplied-go _ _ _ _ _ _ (at-loop .inv .1) (at-loop-test .taken) (at-load .result) (at-load .ensures) _ (at-seek .ensures) _ (at-has-value .ensures) (not-false _ (at-if1 .left)) _ (c .end-of .ensures), within-behind _ _ _ _ _ _ (at-loop .inv .1) (at-loop-test .taken) (at-load .result) (at-load .ensures) _ (at-seek .ensures) _ (at-has-value .ensures) _ (at-values-after .ensures .1))
 
 returns-2 : tie.Need-returns-2 Inv-loop μ-loop
 returns-2 c =

@@ -79,7 +79,7 @@ fit-seq-loop-again t c =
     let at-load = c .before .before .before .before .before .before .before .before .load in
     let at-end-of = c .before .before .before .before .before .before .end-of in
     let at-fit-field = c .before .before .before .before .fit-field in
-    seq-goes (at-loop .inv) (at-load .result) _ (at-loop-test .taken) (at-load .ensures) (at-end-of .ensures) _ _ _ (at-fit-field .ensures .fine (not-false _ (c .before .if1 .left))) (at-fit-field .kept .1 .1 .1 .1 .0) (c .values-after .ensures)
+    seq-goes (at-loop .inv) (at-load .result) _ (at-loop-test .taken) (at-load .ensures) (at-end-of .ensures) _ _ _ (at-fit-field .ensures .fine (not-false _ (c .before .if1 .left))) (at-fit-field .kept .1 .1 .1 .1 .0) (c .values-after .ensures .1)
 
 pub fit-seq-misfit-requires-2 : (t : ℕ) → fit-seq-lts.Need-misfit-requires-2 (fit-seq-claims t) (fit-seq-at t) fit-seq.Post fit-seq-Inv-loop fit-seq-μ-loop
 fit-seq-misfit-requires-2 t c κs = search needs

@@ -8,7 +8,6 @@ use Rattle.codes.specs.Codes.{tagNull, tagText, tagInt, tagDecimal, tagFloat, t
 use Rattle.value.specs.Digits.{spread}
 use Rattle.value.specs.declared.Scalar.{Scalar}
 use Rattle.value.specs.declared.Scalar.the-variants.{Int}
-use Rattle.value.specs.Scalar.{scalarOf}
 use Rattle.binary.specs.Bytes.{bytesOf}
 use Rattle.hex.specs.Hex.{hexOf}
 use Rattle.text.specs.Shown.{Shows, shows, none, shownOf}

@@ -8,7 +8,7 @@ use lib.Dec.{eqb}
 use borrow.Author.Tests.{ne-eqb, eq-eqb}
 use Rattle.layout.specs.declared.Entry.{Entry}
 use Rattle.layout.specs.Layout.{unrepeatedLeaf, isGroup, present, unrepeated, isPad}
-use Rattle.spans.specs.Tree.{Tree, none, node, size}
+use Rattle.spans.specs.Tree.{Tree, none, node}
 use Rattle.items.specs.declared.Item.{Item}
 use Rattle.items.specs.Items.{wordsOf, Values, count, lookup}
 use Rattle.walks.specs.Walk.{Many, howMany, Codec}

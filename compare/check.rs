@@ -110,7 +110,7 @@ impl Tally {
         }
         println!("\nlisted differences, each with the smallest input that showed it");
         for (rule, (c, _, input)) in &listed {
-            println!("{c:>10}  {rule}\n{:12}{input}", "");
+            println!("{c:>10}  {rule}\n{:12}{}", "", shortened(input));
         }
         for (name, g) in &self.groups {
             if let Some((_, input)) = &g.smallest {
@@ -120,6 +120,11 @@ impl Tally {
         println!("\n{} cases (seed {seed}), {} unlisted differences", self.cases(), unlisted);
         unlisted == 0 && self.cases() >= wanted
     }
+}
+
+/// A listed difference's input, cut where it is long: an unlisted one is printed whole.
+fn shortened(input: &str) -> String {
+    if input.len() < 600 { input.into() } else { input.chars().take(600).chain(" ..".chars()).collect() }
 }
 
 /// Page 037 both ways, and the slices.

@@ -2,7 +2,7 @@
 //!
 //! A model beside the two walks a layout as the Rust does, but takes each scalar field from the port's leaves, which `check` holds to the Rust one by one.
 //! So every outcome is compared twice: the port with the model, number and all words and bytes; and the model with the Rust, accepted or not and all values,
-//! unless a field on the way differs by a listed rule, which is then counted.
+//! unless a field on the way differs by a listed rule, or the layout has a Decimal for a controller, which is then counted.
 
 use crate::cases::{any_item, any_kind, bytes, width, Random};
 use crate::check::{field, page, reads, same, writes, Item, Kind, Seen, Tally};
@@ -40,6 +40,13 @@ impl Entry {
     }
     pub fn repeated(&self) -> bool {
         self.occurs.is_some() || self.depending.is_some()
+    }
+    /// Whether the entry's value is the length of the tables that name it: an unrepeated Int, Binary or Decimal of scale 0.
+    pub fn controls(&self) -> bool {
+        !self.repeated() && (matches!(self.kind.kind, 1 | 2) || self.counts_in_decimal())
+    }
+    fn counts_in_decimal(&self) -> bool {
+        !self.repeated() && self.kind.kind == 7 && self.kind.r == 0
     }
     fn depends(&self) -> bool {
         self.depending.is_some() || self.members.iter().any(|m| m.depends())
@@ -134,6 +141,8 @@ pub struct Layouts {
     left: u32,
     /// one entry in so many is a group
     groups: u64,
+    /// so many of twelve entries are Decimals of scale 0, which may be controllers
+    decimals: u64,
 }
 
 impl Layouts {
@@ -166,22 +175,27 @@ impl Layouts {
             let width = if g.below(4) == 0 { g.below(20) as u32 } else { next };
             return Entry { name, offset, width, kind: Kind { kind: 9, p: 0, q: 0, r: 0, s: 0, mask: vec![] }, occurs, depending, members };
         }
-        let mut k = if g.below(3) == 0 { Kind { kind: 1 + g.below(2) as u32, p: 0, q: 0, r: 0, s: 0, mask: vec![] } } else { any_kind(g) };
+        let mut k = match g.below(12) {
+            n if n < self.decimals => Kind { kind: 7, p: g.below(3) as u32, q: g.below(4) as u32, r: 0, s: 0, mask: vec![] },
+            n if n < 4 => Kind { kind: 1 + g.below(2) as u32, p: 0, q: 0, r: 0, s: 0, mask: vec![] },
+            _ => any_kind(g),
+        };
         if g.below(14) == 0 {
             k = Kind { kind: 6, p: 0, q: 0, r: g.pick(&[0x20, 0, 0x80]), s: 0, mask: vec![] };
         }
         let mut w = width(g, &k) as u32;
-        if matches!(k.kind, 1 | 2) && g.below(3) != 0 {
+        if (matches!(k.kind, 1 | 2) || k.kind == 7 && k.r == 0) && g.below(3) != 0 {
             w = 1 + g.below(2) as u32;
         }
-        if occurs.is_none() && depending.is_none() && matches!(k.kind, 1 | 2) {
+        let e = Entry { name, offset, width: w, kind: k, occurs, depending, members: vec![] };
+        if e.controls() {
             numbers.push(name);
         }
-        Entry { name, offset, width: w, kind: k, occurs, depending, members: vec![] }
+        e
     }
     pub fn any(g: &mut Random) -> Vec<Entry> {
         let left = g.pick(&[1, 2, 3, 6, 12, 30, 60]);
-        let mut l = Layouts { names: 0, left, groups: g.pick(&[4, 4, 4, 4, 2, 1]) };
+        let mut l = Layouts { names: 0, left, groups: g.pick(&[4, 4, 4, 4, 2, 1]), decimals: g.pick(&[0, 0, 0, 6]) };
         let mut all = vec![];
         let mut numbers = vec![];
         let mut at = 0;
@@ -230,8 +244,10 @@ impl Reader<'_> {
             if e.kind.kind == 6 {
                 continue;
             }
-            if let Value::Int(n) = v {
-                self.counts.insert(e.name, n);
+            match v {
+                Value::Int(n) => drop(self.counts.insert(e.name, n)),
+                Value::Decimal { unscaled, .. } if e.counts_in_decimal() => drop(self.counts.insert(e.name, unscaled as i64)),
+                _ => {}
             }
             out.push((e.name, v));
         }
@@ -293,12 +309,27 @@ impl Reader<'_> {
     }
 }
 
+fn all<'a>(entries: &'a [Entry], out: &mut Vec<&'a Entry>) {
+    for e in entries {
+        out.push(e);
+        all(&e.members, out);
+    }
+}
+
+/// The rule by which a layout is held to the model alone: a Decimal of scale 0 carries a controller's name.
+fn counted_by_decimal(entries: &[Entry]) -> Option<&'static str> {
+    let mut every = vec![];
+    all(entries, &mut every);
+    let looked: Vec<u32> = every.iter().filter_map(|e| e.depending).collect();
+    every.iter().any(|e| e.counts_in_decimal() && looked.contains(&e.name)).then_some("a Decimal of scale 0 carries a controller's name (S-1)")
+}
+
 pub fn whole(entries: &[Entry], record: &[u8], page: u32, items: usize, text: usize) -> (Read<Vec<(u32, Value)>>, Option<&'static str>, Option<String>) {
     let length = entries.iter().map(|e| e.offset as u64 + e.reserved()).max().unwrap_or(0);
     if record.len() > 65536 || (!entries.iter().any(|e| e.depends()) && (record.len() as u64) < length) {
         return (Err(4), None, None);
     }
-    let mut r = Reader { record, page, items, text, counts: HashMap::new(), listed: None, other: None };
+    let mut r = Reader { record, page, items, text, counts: HashMap::new(), listed: counted_by_decimal(entries), other: None };
     let out = r.seq(entries, 0).map(|x| x.0);
     (out, r.listed, r.other)
 }
@@ -379,7 +410,7 @@ pub fn read_record(t: &mut Tally, b: &mut Buffers, entries: &[Entry], layout: &L
         )
     };
     let (model, _, _) = whole(entries, record, pg, items, text);
-    // the Rust has no limit on items: what needs more than these is held to the model alone, and so is what differs by a listed rule in a field on the way
+    // the Rust has no limit on items: what needs more than these is held to the model alone, and so is what differs by a listed rule in a field on the way or by its layout
     let (free, listed, other) = whole(entries, record, pg, 400_000, 400_000);
     let alone = matches!(free, Err(16)) || listed.is_some();
     let theirs = if alone { Err(rust::Error(String::new())) } else { decode::decode_record(layout, record, page(pg)) };
@@ -583,10 +614,10 @@ fn node(g: &mut Random, e: &Entry, once: bool, counts: &mut HashMap<u32, u64>) -
         return Node::Struct(list(g, &e.members, counts));
     }
     let mut v = any_item(g, &e.kind);
-    if matches!(e.kind.kind, 1 | 2) && g.below(8) != 0 {
-        v = Item { tag: 2, a: g.below(if e.width > 1 { 12 } else { 5 }), b: 0, text: vec![] };
+    if e.controls() && g.below(8) != 0 {
+        v = Item { tag: if e.kind.kind == 7 { 3 } else { 2 }, a: g.below(if e.width > 1 { 12 } else { 5 }), b: 0, text: vec![] };
     }
-    if once && matches!(e.kind.kind, 1 | 2) {
+    if once && e.controls() {
         counts.insert(e.name, v.a);
     }
     if v.tag == 1 {

@@ -43,7 +43,8 @@ fn scalar(g: &mut Random) -> (Kind, u32) {
         7 | 8 => {
             let w = wide(g);
             let precision = g.below(w as u64 + 1) as u32;
-            (kind(7, g.below(3) as u32, g.below(4) as u32, g.below(19) as u32, precision), w)
+            let scale = if g.below(3) == 0 { 0 } else { g.below(19) as u32 };
+            (kind(7, g.below(3) as u32, g.below(4) as u32, scale, precision), w)
         }
         _ => {
             let (mask, _) = g.pick(&MASKS);
@@ -97,10 +98,11 @@ impl Plain {
         if depending.is_none() && g.below(14) == 0 {
             kind = Kind { kind: 6, p: 0, q: 0, r: g.pick(&[0x20, 0, 0x80]), s: 0, mask: vec![] };
         }
-        if single && matches!(kind.kind, 1 | 2) {
+        let e = Entry { name, offset, width, kind, occurs, depending, members: vec![] };
+        if e.controls() {
             known.push(name);
         }
-        Entry { name, offset, width, kind, occurs, depending, members: vec![] }
+        e
     }
 }
 
@@ -122,8 +124,8 @@ fn half(g: &mut Random) -> f64 {
     }
 }
 
-fn value(g: &mut Random, e: &Entry, controls: bool) -> Item {
-    let (k, w) = (&e.kind, e.width);
+fn value(g: &mut Random, e: &Entry) -> Item {
+    let (k, w, controls) = (&e.kind, e.width, e.controls());
     let item = |tag, a, b| Item { tag, a, b, text: vec![] };
     let texts = |s: Vec<u8>| Item { tag: 1, a: 0, b: s.len() as u64, text: s };
     let signed = |n: u64, minus: bool| if minus { (n as i64).wrapping_neg() as u64 } else { n };
@@ -147,6 +149,7 @@ fn value(g: &mut Random, e: &Entry, controls: bool) -> Item {
             texts(s)
         }
         1 | 2 if controls && g.below(12) != 0 => item(2, g.below(5), 0),
+        7 if controls && g.below(12) != 0 => item(3, g.below(5), 0),
         1 if k.q >= 2 && w >= 2 => item(2, { let (n, m) = (below_power(g, w - 1), g.below(2) == 0); signed(n, m) }, 0),
         1 => item(2, below_power(g, w), 0),
         2 => {
@@ -198,21 +201,21 @@ impl Lists {
     }
     fn field(&mut self, g: &mut Random, e: &Entry) -> Node {
         if !e.repeated() {
-            return self.one(g, e, true);
+            return self.one(g, e);
         }
         let n = match e.depending {
             Some(c) => self.counts.get(&c).copied().unwrap_or(0),
             None => e.occurs.unwrap() as u64,
         };
-        Node::List((0..n.min(self.left)).map(|_| self.one(g, e, false)).collect())
+        Node::List((0..n.min(self.left)).map(|_| self.one(g, e)).collect())
     }
-    fn one(&mut self, g: &mut Random, e: &Entry, single: bool) -> Node {
+    fn one(&mut self, g: &mut Random, e: &Entry) -> Node {
         self.left = self.left.saturating_sub(1);
         if e.kind.kind == 9 {
             return Node::Struct(self.seq(g, &e.members));
         }
-        let v = value(g, e, single);
-        if single && matches!(e.kind.kind, 1 | 2) {
+        let v = value(g, e);
+        if e.controls() {
             self.counts.insert(e.name, v.a);
         }
         Node::One(v)

@@ -5,6 +5,7 @@
  * every output buffer holds zeros and every length is 0; after success what is not used of an output buffer is zero. Buffers of one call do not overlap.
  *
  * layout: twelve 32-bit words an entry: name, offset, width, kind, occurs, depending, span, p, q, r, s, mask (4294967295 in occurs and depending: absent).
+ *         depending: the name of the unrepeated Int, Binary or Decimal of scale 0 that holds the table's length.
  * masks:  the masks of the layout's Edited entries. page: 0 ASCII, 1 EBCDIC (code page 037).
  * items:  four 64-bit words an item: name, tag, and two words by the tag (0 Null, 1 Text: start and length in `text`, 2 Int, 3 Decimal: unscaled and scale,
  *         4 Float: bits, 5 Bool, 6 List and 7 Struct: member count and span).

@@ -11,7 +11,7 @@ use lib.ListN.{length}
 use borrow.Author.Tests.{eqb-true, ltb-true}
 use Rattle.lists.proofs.Logic.{and-right}
 use Rattle.layout.specs.declared.Entry.{Entry}
-use Rattle.layout.specs.Layout.{controls, unrepeated, present, entryAt, entryCount, spanOf, part, entries, checkedOf, dependsIn}
+use Rattle.layout.specs.Layout.{holdsCount, controls, unrepeated, present, entryAt, entryCount, spanOf, part, entries, checkedOf, dependsIn}
 use Rattle.layout.proofs.Laws.{some-at}
 use Rattle.layout.proofs.Lawful.{entry-lawful, spans-lawful, reserved-lawful}
 use Rattle.spans.specs.Tree.{none, node, treeIn, tree, endOf}
@@ -22,7 +22,7 @@ use Rattle.value.specs.declared.Scalar.the-variants.{Null, Text, Int, Decimal, 
 use Rattle.ebcdic.specs.Ebcdic.{fromPage}
 use Rattle.display.specs.Display as Display
 use Rattle.binary.specs.Binary.{integerOf}
-use Rattle.decode_scalar.specs.Decode.{Says, refused, value, text, says, flag, intSays}
+use Rattle.decode_scalar.specs.Decode.{Says, refused, value, text, says, flag, intSays, decimalSays, decimalIn}
 use Rattle.walks.specs.Walk.{Many, times, atMost, bad, leaf, howMany}
 use Rattle.walks.specs.Kinds as W
 use Rattle.walks.specs.Kinds.{Count, State, start, countOf, noted, kinds}
@@ -31,18 +31,18 @@ use Rattle.positions.specs.Positions.{satSum}
 use Rattle.decode_leaf.specs.Counts.{setAll, first, noteIn}
 use Rattle.decode_leaf.specs.Machine as M
 use Rattle.decode_leaf.specs.Machine.{Held, kept}
-use Rattle.decode_leaf.proofs.Ranges.{Small, int-small, binary-small}
+use Rattle.decode_leaf.proofs.Ranges.{Small, int-small, binary-small, decimal-small}
 use Rattle.decode_leaf.proofs.Stands.{Stands, first-some, stands-set}
 use Rattle.walks.proofs.Alike.{Alike, Alike-leaf, both-bad, both-leaf, Each, Told, level, seq-alike}
 
--- ---- what Int and Binary say is in range
+-- ---- what a controller says is in range
 
 abbrev pub Ranged : Says → Type 0
 Ranged (refused n) = Unit {0}
 Ranged (value (Int negative size)) = (negative && ltb 0 size) ≡ false → size < 9223372036854775808
+Ranged (value (Decimal negative size scale)) = (negative && ltb 0 size) ≡ false → size < 9223372036854775808
 Ranged (value Null) = Unit {0}
 Ranged (value (Text a b)) = Unit {0}
-Ranged (value (Decimal negative size scale)) = Unit {0}
 Ranged (value (FloatV x)) = Unit {0}
 Ranged (value (FloatBits x)) = Unit {0}
 Ranged (value (BoolV b)) = Unit {0}
@@ -52,14 +52,19 @@ int-ranged : (n : Answer Whole) → Small n → Ranged (intSays n)
 int-ranged (given (number negative size)) h = h
 int-ranged (refusedBy question) h = tt
 
-ranged : (kind p q r page : ℕ) (bs : List ℕ) → (eqb kind 1 || eqb kind 2) ≡ true → Ranged (says kind p q r page bs)
+decimal-ranged : (scale : ℕ) (n : Answer Whole) → Small n → Ranged (decimalSays scale n)
+decimal-ranged scale (given (number negative size)) h = h
+decimal-ranged scale (refusedBy question) h = tt
+
+ranged : (kind p q r page : ℕ) (bs : List ℕ) → holdsCount kind r ≡ true → Ranged (says kind p q r page bs)
 unfolding says
-ranged kind p q r page bs h = go (eqb kind 1) (eqb kind 2) refl refl h
+ranged kind p q r page bs h = go (eqb kind 1) (eqb kind 2) (eqb kind 7) refl refl refl h
   where
-    go : (a b : Bool) → eqb kind 1 ≡ a → eqb kind 2 ≡ b → (a || b) ≡ true → Ranged (says kind p q r page bs)
-    go true b e f z = rw (eqb-true kind 1 e) (int-ranged (Display.intOf q (map (fromPage page) bs)) (int-small q (map (fromPage page) bs)))
-    go false true e f z = rw (eqb-true kind 2 f) (int-ranged (integerOf p (flag q) bs) (binary-small p (flag q) bs))
-    go false false e f z = absurd (false≢true z)
+    go : (a b c : Bool) → eqb kind 1 ≡ a → eqb kind 2 ≡ b → eqb kind 7 ≡ c → (a || b || (c && eqb r 0)) ≡ true → Ranged (says kind p q r page bs)
+    go true b c e f g z = rw (eqb-true kind 1 e) (int-ranged (Display.intOf q (map (fromPage page) bs)) (int-small q (map (fromPage page) bs)))
+    go false true c e f g z = rw (eqb-true kind 2 f) (int-ranged (integerOf p (flag q) bs) (binary-small p (flag q) bs))
+    go false false true e f g z = rw (eqb-true kind 7 g) (decimal-ranged r (decimalIn p q page bs) (decimal-small p q page bs))
+    go false false false e f g z = absurd (false≢true z)
 
 module _ (l masks : List ℕ) (page room : ℕ) (deps : Bool) where
   -- the code's state stands for the plain one
@@ -78,18 +83,18 @@ module _ (l masks : List ℕ) (page room : ℕ) (deps : Bool) where
         go false true s = s
         go false false s = s
 
-    int-stands : (b : Bool) (negative : Bool) (size : ℕ) (cs : List Count) (run : List ℤ) → (b ≡ true → (negative && ltb 0 size) ≡ false → size < 9223372036854775808) → Stands l cs run
+    set-stands : (b : Bool) (negative : Bool) (size : ℕ) (cs : List Count) (run : List ℤ) → (b ≡ true → (negative && ltb 0 size) ≡ false → size < 9223372036854775808) → Stands l cs run
         → Stands l (cond b (record { name = e .name; negative = negative; size = size } ∷ []) [] ++ cs) (setAll l (cond b (record { name = e .name; negative = negative; size = size } ∷ []) []) run)
-    int-stands true negative size cs run h s = stands-set l cs run (e .name) negative size found (h refl) s
-    int-stands false negative size cs run h s = s
+    set-stands true negative size cs run h s = stands-set l cs run (e .name) negative size found (h refl) s
+    set-stands false negative size cs run h s = s
 
     pub noted-stands : (v : Scalar) (cs : List Count) (run : List ℤ) → (controls e ≡ true → Ranged (value v)) → deps ≡ true → Stands l cs run
         → Stands l (countOf e v ++ cs) (noteIn l deps e v run)
     unfolding noteIn
-    noted-stands (Int negative size) cs run h d s = rw d (int-stands (controls e) negative size cs run h s)
+    noted-stands (Int negative size) cs run h d s = rw d (set-stands (controls e) negative size cs run h s)
+    noted-stands (Decimal negative size scale) cs run h d s = rw d (set-stands (controls e) negative size cs run h s)
     noted-stands Null cs run h d s = kept-run deps s
     noted-stands (Text a b) cs run h d s = kept-run deps s
-    noted-stands (Decimal a b c) cs run h d s = kept-run deps s
     noted-stands (FloatV x) cs run h d s = kept-run deps s
     noted-stands (FloatBits x) cs run h d s = kept-run deps s
     noted-stands (BoolV x) cs run h d s = kept-run deps s
@@ -105,9 +110,9 @@ module _ (l masks : List ℕ) (page room : ℕ) (deps : Bool) where
         ((λ d. noted-stands v (s .counts) (t .run) h d (r .0 d)), r .1)
     said-alike (text tx) h t s r = rw (r .1) (text-alike (leb (length (s .text) + length tx) room) tx (t .run) (s .counts) (s .text) (r .0))
 
-    control-kind : controls e ≡ true → (eqb (e .kind) 1 || eqb (e .kind) 2) ≡ true
+    control-kind : controls e ≡ true → holdsCount (e .kind) (e .r) ≡ true
     unfolding controls
-    control-kind h = and-right (unrepeated e) (eqb (e .kind) 1 || eqb (e .kind) 2) h
+    control-kind h = and-right (unrepeated e) (holdsCount (e .kind) (e .r)) h
 
     reads-alike : (bs : List ℕ) (t : Held) (s : State) → Rel t s → Alike-leaf Rel (kept l page room deps .dec e bs t) (kinds masks page [] room .dec e bs s)
     unfolding M.dec W.dec

@@ -1,21 +1,28 @@
--- The numbers that Int and Binary fields say: one that is not negative is below 2^63.
+-- The numbers that Int, Binary and Decimal fields say: one that is not negative is below 2^63.
 use mathlib.Core.Path.{_≡_, refl, ap}
 use mathlib.Core.Bool.{Bool, true, false, _&&_, cond, true≢false}
 use mathlib.Core.List.{List, map}
-use Prim.Native.Nat.{ℕ, zero, suc, _+_, _-_, _/_, _^_, _<_, _≤_}
+use Prim.Native.Nat.{ℕ, zero, suc, _+_, _-_, _/_, _%_, _^_, _<_, _≤_}
 use native.Mathlib.Omega.{arith}
 use lib.Dec.{eqb, ltb, leb}
 use lib.ListN.{length, getD, drop}
 use borrow.Author.Tests.{ltb-true, ltb-false, leb-false}
 use Rattle.value.specs.Answer.{Answer, refused, given}
 use Rattle.value.specs.Number.{Whole, number, some, readIn, unlawful}
-use Rattle.value.specs.Digits.{valueOf, isDigit, digitIn}
-use Rattle.lists.specs.Scan.{everyBy}
-use Rattle.numerals.specs.Numerals.{isSign, trimmed}
+use Rattle.value.specs.Digits.{valueOf, isDigit, digitIn, limit}
+use Rattle.value.proofs.Field.{field-all}
+use Rattle.value.specs.Field.{lastOf}
+use Rattle.lists.specs.Scan.{keepBy, everyBy}
+use Rattle.ebcdic.specs.Ebcdic.{fromPage}
+use Rattle.numerals.specs.Numerals.{isSign, isAscii, trimmed, keptBy}
+use Rattle.display.specs.Display as Display
 use Rattle.display.specs.Display.{digitsIn, wholeOf, intIn, intOf, signAt, restOf}
 use Rattle.binary.specs.Binary.{widthOk, signedWord, unsignedWord, integerOf}
 use Rattle.binary.specs.Bytes.{wordIn}
 use Rattle.binary.proofs.Integers.{width-high}
+use Rattle.packed.specs.Packed as Packed
+use Rattle.zoned.specs.Zoned as Zoned
+use Rattle.decode_scalar.specs.Decode.{decimalIn}
 
 -- a number that is not negative is below 2^63
 abbrev pub Small : Answer Whole → Type 0
@@ -83,3 +90,26 @@ binary-small order signed s = by (widthOk (length s)) (cond signed (signedWord (
 
     plain : Small (unsignedWord (wordIn order s))
     plain = number-small (2 ^ 63) false (wordIn order s) (omega arith)
+
+-- ---- a Decimal's size is below the limit, in all three forms
+
+in-limit : (negative : Bool) (v : ℕ) → Small (readIn limit negative v)
+in-limit negative v = number-small limit negative v (omega arith)
+
+kept-small : (negative : Bool) (s : List ℕ) → Small (keptBy (readIn limit negative) unlawful s)
+unfolding keptBy
+kept-small negative s = by (everyBy isAscii s) (readIn limit negative size) unlawful (λ _. in-limit negative size) (λ _. tt)
+  where
+    size : ℕ
+    size = valueOf (map digitIn (keepBy isDigit s))
+
+pub decimal-small : (p q page : ℕ) (s : List ℕ) → Small (decimalIn p q page s)
+unfolding Display.decimalOf Packed.decodeOf Zoned.decodeOf
+decimal-small p q page s =
+    by (eqb p 0) (Display.decimalOf q t) _ (λ _. kept-small (eqb (signAt q (trimmed t)) 45) (restOf q (trimmed t))) (λ _.
+    by (eqb p 1) (Packed.decodeOf s) (Zoned.decodeOf t)
+    (λ _. field-all Packed.nibbles Packed.highOf Packed.signed (λ b v. readIn limit (Packed.isNegative (b % 16)) v) unlawful s Small (λ v. in-limit (Packed.isNegative (lastOf s % 16)) v) tt)
+    (λ _. field-all Zoned.zone Zoned.lastDigit Zoned.anySign (λ b v. readIn limit (Zoned.minus b) v) unlawful t Small (λ v. in-limit (Zoned.minus (lastOf t)) v) tt))
+  where
+    t : List ℕ
+    t = map (fromPage page) s

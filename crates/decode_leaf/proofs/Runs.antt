@@ -98,8 +98,12 @@ status-small negative size = go (negative && ltb 0 size)
     go true = omega arith
     go false = omega arith
 
-two-is-not : OneOf (0 ∷ 1 ∷ 3 ∷ 4 ∷ 5 ∷ 6 ∷ []) 2 → ⊥
-two-is-not = ⊎-elim (λ x. omega (arith, x)) (⊎-elim (λ x. omega (arith, x)) (⊎-elim (λ x. omega (arith, x)) (⊎-elim (λ x. omega (arith, x)) (⊎-elim (λ x. omega (arith, x)) (λ x. omega (arith, x))))))
+-- the variants of a scalar that is no number: Int is 2, Decimal 3
+abbrev others : List ℕ
+others = 0 ∷ 1 ∷ 4 ∷ 5 ∷ 6 ∷ []
+
+no-other : (n : ℕ) → 2 ≤ n → n ≤ 3 → OneOf others n → ⊥
+no-other n a b = ⊎-elim (λ x. omega (arith, x)) (⊎-elim (λ x. omega (arith, x)) (⊎-elim (λ x. omega (arith, x)) (⊎-elim (λ x. omega (arith, x)) (λ x. omega (arith, x)))))
 
 module _ (l : List ℕ) (deps : Bool) (e : Entry) (run : List ℤ) where
   pub note-off : (v : Scalar) → not deps ≡ true → run ≡ noteIn l deps e v run
@@ -116,16 +120,17 @@ module _ (l : List ℕ) (deps : Bool) (e : Entry) (run : List ℤ) where
       go false = refl
 
   module _ (n : not deps ≡ false) (b : Bool) (p : b ≡ controls e) (q : b ≡ true) where
-    pub note-int : (v : Scalar) (negative : Bool) (size : ℕ) (after : List ℤ) → v ≡ Int negative size → after ≡ setIn l (e .name) negative size run → after ≡ noteIn l deps e v run
+    pub note-number : (v : Scalar) (negative : Bool) (size : ℕ) (after : List ℤ) → countIn (e .name) v ≡ record { name = e .name; negative = negative; size = size } ∷ []
+        → after ≡ setIn l (e .name) negative size run → after ≡ noteIn l deps e v run
     unfolding noteIn
-    note-int v negative size after z a = rw (z, not-false deps n, sym p ∙ q) a
+    note-number v negative size after z a = rw (z, not-false deps n, sym p ∙ q) a
 
-    pub note-other : (v : Scalar) → OneOf (0 ∷ 1 ∷ 3 ∷ 4 ∷ 5 ∷ 6 ∷ []) (Declared.tagOf the-type v) → run ≡ noteIn l deps e v run
+    pub note-other : (v : Scalar) → OneOf others (Declared.tagOf the-type v) → run ≡ noteIn l deps e v run
     unfolding noteIn
     note-other Null h = rw (not-false deps n, sym p ∙ q) refl
     note-other (Text x y) h = rw (not-false deps n, sym p ∙ q) refl
-    note-other (Int x y) h = absurd (two-is-not h)
-    note-other (Decimal x y z) h = rw (not-false deps n, sym p ∙ q) refl
+    note-other (Int x y) h = absurd (no-other 2 (omega arith) (omega arith) h)
+    note-other (Decimal x y z) h = absurd (no-other 3 (omega arith) (omega arith) h)
     note-other (FloatV x) h = rw (not-false deps n, sym p ∙ q) refl
     note-other (FloatBits x) h = rw (not-false deps n, sym p ∙ q) refl
     note-other (BoolV x) h = rw (not-false deps n, sym p ∙ q) refl

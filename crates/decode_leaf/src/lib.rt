@@ -130,7 +130,7 @@ fn stored(size: u64) -> u64
     }
 }
 
-// The count that an Int or Binary sets for its name.
+// The count that a number sets for its name.
 fn set_count(layout: &[u32], counts: &mut [i64], name: u32, negative: bool, size: u64)
     ensures { λ _. ⌜ now (counts .exit) ≡ setIn (now (layout .entry)) name negative size (now (counts .entry)) ⌝ }
 {
@@ -149,6 +149,7 @@ pub fn note(layout: &[u32], counts: &mut [i64], deps: bool, e: Entry, v: Scalar)
     if controls(e) {
         match v {
             Scalar::Int(negative, size) => set_count(layout, counts, e.name, negative, size),
+            Scalar::Decimal(negative, size, _) => set_count(layout, counts, e.name, negative, size),
             _ => {}
         }
     }

@@ -33,7 +33,7 @@ use Rattle.decode_leaf.proofs.Joined.{Ranged, noted-stands}
 use Rattle.fitting.specs.Steps.{Progress, fits, Fitter, saying, nameOf, toldAfter, tabled, leaf, one, each, field, seq}
 use Rattle.fitting.proofs.Asks.{text-within}
 
--- ---- an Int's number that is not negative is below 2^63
+-- ---- a number that is not negative is below 2^63
 
 by : (b : Bool) (x y : Scalar) → Ranged (value x) → Ranged (value y) → Ranged (value (cond b x y))
 by true x y f g = f
@@ -51,7 +51,7 @@ unfolding scalarOf
 scalar-ranged tag a b h =
     by (eqb tag 1) (Text a b) _ tt
     (by (eqb tag 2) (Int (minusIn a) (sizeIn a)) _ (size-small a h)
-    (by (eqb tag 3) (Decimal (minusIn a) (sizeIn a) b) _ tt
+    (by (eqb tag 3) (Decimal (minusIn a) (sizeIn a) b) _ (size-small a h)
     (by (eqb tag 4) (floatOf a) _ (by (nanBits binary64 a) (FloatBits a) (FloatV (ofBits binary64 a)) tt tt)
     (by (eqb tag 5) (BoolV (eqb a 1)) Null tt tt))))
 

@@ -38,6 +38,14 @@ module _ (e : Entry) where
     unfolding controls
     controls-int k = rw (sym p ∙ t, eq-eqb (e .kind) 1 k) refl
 
-    pub controls-other : (e .kind ≡ 1 → ⊥) → eqb (e .kind) 2 ≡ controls e
+    pub controls-binary : (e .kind ≡ 1 → ⊥) → e .kind ≡ 2 → true ≡ controls e
     unfolding controls
-    controls-other k = rw (sym p ∙ t, ne-eqb (e .kind) 1 k) refl
+    controls-binary k m = rw (sym p ∙ t, ne-eqb (e .kind) 1 k, eq-eqb (e .kind) 2 m) refl
+
+    pub controls-decimal : (e .kind ≡ 1 → ⊥) → (e .kind ≡ 2 → ⊥) → e .kind ≡ 7 → eqb (e .r) 0 ≡ controls e
+    unfolding controls
+    controls-decimal k m d = rw (sym p ∙ t, ne-eqb (e .kind) 1 k, ne-eqb (e .kind) 2 m, eq-eqb (e .kind) 7 d) refl
+
+    pub controls-other : (e .kind ≡ 1 → ⊥) → (e .kind ≡ 2 → ⊥) → (e .kind ≡ 7 → ⊥) → false ≡ controls e
+    unfolding controls
+    controls-other k m d = rw (sym p ∙ t, ne-eqb (e .kind) 1 k, ne-eqb (e .kind) 2 m, ne-eqb (e .kind) 7 d) refl

@@ -52,8 +52,12 @@ abbrev pub unrepeatedLeaf : Entry → Bool
 unrepeatedLeaf e = unrepeated e && not (isGroup e)
 
 -- What controls a table: "An unrepeated Int or Binary sets the count for its name."
+-- 02, S-1: "An unrepeated Decimal of scale 0 now sets the count for its name, in all three forms."
+abbrev pub holdsCount : ℕ → ℕ → Bool
+holdsCount kind scale = eqb kind kindInt || eqb kind kindBinary || (eqb kind kindDecimal && eqb scale 0)
+
 unfoldable pub controls : Entry → Bool
-controls e = unrepeated e && (eqb (e .kind) kindInt || eqb (e .kind) kindBinary)
+controls e = unrepeated e && holdsCount (e .kind) (e .r)
 
 -- the entries lo up to hi as a tree, and all of them
 abbrev pub part : List ℕ → ℕ → ℕ → Tree Entry

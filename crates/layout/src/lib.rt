@@ -360,7 +360,7 @@ pub fn unrepeated_leaf(e: Entry) -> bool
     unrepeated(e)
 }
 
-// Whether an entry sets the count for its name: an unrepeated Int or Binary does.
+// Whether an entry sets the count for its name: an unrepeated Int, Binary or Decimal of scale 0 does.
 pub fn controls(e: Entry) -> bool
     ensures { λ r. ⌜ r ≡ controls e ⌝ }
 {
@@ -370,7 +370,13 @@ pub fn controls(e: Entry) -> bool
     if e.kind == KIND_INT {
         return true;
     }
-    e.kind == KIND_BINARY
+    if e.kind == KIND_BINARY {
+        return true;
+    }
+    if e.kind == KIND_DECIMAL {
+        return e.r == 0;
+    }
+    false
 }
 
 // The bytes that an entry reserves in the record.

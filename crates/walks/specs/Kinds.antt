@@ -28,17 +28,17 @@ pub record State : Type 0 where
 abbrev pub start : State
 start = record { counts = []; text = [] }
 
--- the count that a scalar sets for a name, if it sets one
+-- the count that a scalar sets for a name, if it sets one; the Decimal of an entry that controls a table has scale 0
 abbrev pub countIn : ℕ → Scalar → List Count
 countIn name (Int negative size) = record { name = name; negative = negative; size = size } ∷ []
+countIn name (Decimal negative size scale) = record { name = name; negative = negative; size = size } ∷ []
 countIn name Null = []
 countIn name (Text a b) = []
-countIn name (Decimal negative size scale) = []
 countIn name (FloatV x) = []
 countIn name (FloatBits x) = []
 countIn name (BoolV b) = []
 
--- "An unrepeated Int or Binary sets the count for its name."
+-- the count that an entry's scalar sets: only what controls a table sets one
 abbrev pub countOf : Entry → Scalar → List Count
 countOf e v = cond (controls e) (countIn (e .name) v) []
 

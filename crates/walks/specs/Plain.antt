@@ -57,7 +57,7 @@ unfoldable pub offers : Tree Entry → List ℕ
 offers none = []
 offers (node e members rest) = (cond (controls e) (e .name ∷ []) [] ++ cond (unrepeated e) (offers members) []) ++ offers rest
 
--- "each controller is an unrepeated Int or Binary standing earlier, every repeated group around it being around the table":
+-- "each controller is an unrepeated Int or Binary standing earlier, every repeated group around it being around the table"; 02, S-1: a Decimal of scale 0 too.
 -- `known` are those that stand earlier and in no other repeated group than those around this sequence
 unfoldable pub controlled : List ℕ → Tree Entry → Bool
 controlled known none = true

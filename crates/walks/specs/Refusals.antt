@@ -7,11 +7,12 @@ use lib.ListN.{length}
 use Rattle.spans.specs.Tree.{tree, treeIn, size, nested}
 use Rattle.layout.specs.Layout.{absent, entryAt, allBelow, someBelow, wordsOk, upTo, plainOk, boolOk, editedOk, floatOk, kindOk, optionOk, placeOk, entryOk, entriesOk, spansOk, checkedOf, layoutAsks, reservedWidth, furthest, recordLength, dependsIn, unrepeated, isPad, controls}
 use Rattle.items.specs.Items.{values, count, lookup, scalarOk, holderOk, itemOk, listOk, wellFormed}
-use Rattle.lists.specs.Scan.{leftBy, rightBy, everyBy, beforeBy}
+use Rattle.lists.specs.Scan.{leftBy, rightBy, keepBy, everyBy, beforeBy}
 use Rattle.value.specs.Field.{fieldOf}
 use Rattle.value.specs.Rounding.{rounded, rescaled}
 use Rattle.value.specs.Scalar.{scalarOf}
 use Rattle.ebcdic.specs.Ebcdic.{fromPage, ontoPage}
+use Rattle.numerals.specs.Numerals.{keptBy}
 use Rattle.display.specs.Display as Display
 use Rattle.packed.specs.Packed as Packed
 use Rattle.zoned.specs.Zoned as Zoned
@@ -38,9 +39,13 @@ use Rattle.walks.specs.Worked.{entry, once}
 abbrev readNumber : List ℕ → List ℕ → ℕ → ℕ → ℕ → ℕ
 readNumber l r items text work = numberOf (decodeRecord l [] 0 r items text work)
 
--- N Int 0,1 and T Int 1,1 under depending N, occurs 2
+-- T Int 1,1 under depending N, occurs 2, behind a counter N 0,1
+abbrev behind : List ℕ → List ℕ
+behind counter = counter ++ entry 1 1 1 1 2 0 1 0 0 0
+
+-- N Int
 abbrev counted : List ℕ
-counted = once 0 0 1 1 0 0 0 ++ entry 1 1 1 1 2 0 1 0 0 0
+counted = behind (once 0 0 1 1 0 0 0)
 
 -- two packed fields of a byte
 abbrev two : List ℕ
@@ -57,7 +62,7 @@ reader-refuses :
     ∷ readNumber (once 0 0 2 1 0 0 0) (0x31 ∷ []) 8 4 4
     ∷ readNumber (entry 0 0 1 1 2 7 1 0 0 0) (0x31 ∷ []) 8 4 4
     ∷ readNumber counted (0x33 ∷ 0x31 ∷ 0x31 ∷ 0x31 ∷ []) 40 4 4
-    ∷ readNumber (once 0 0 1 2 0 1 0 ++ entry 1 1 1 1 2 0 1 0 0 0) largest 40 4 4
+    ∷ readNumber (behind (once 0 0 1 2 0 1 0)) largest 40 4 4
     ∷ readNumber counted (0x32 ∷ 0x31 ∷ []) 40 4 4
     ∷ readNumber (once 0 0 1 7 1 1 0) (0x19 ∷ []) 8 4 4
     ∷ readNumber (once 0 0 8 2 0 0 0) largest 8 4 4
@@ -75,6 +80,31 @@ reader-refuses :
     ≡ 1 ∷ 2 ∷ 3 ∷ 16 ∷ 4 ∷ 5 ∷ 6 ∷ 6 ∷ 7 ∷ 8 ∷ 9 ∷ 10 ∷ 16 ∷ 16 ∷ 8 ∷ 8 ∷ 8 ∷ 16 ∷ 16 ∷ 10 ∷ []
 unfolding layoutAsks checkedOf wordsOk entriesOk allBelow entryOk placeOk optionOk kindOk plainOk boolOk floatOk editedOk upTo spansOk nested size tree treeIn entryAt recordLength furthest reservedWidth dependsIn someBelow decodeRecord R.seq R.field R.elements R.one R.pad R.scalar R.container unrepeated isPad controls howMany look dec says fromPage everyBy leftBy rightBy beforeBy fieldOf Display.intOf Display.intIn Display.digitsIn Display.signAt Display.restOf Display.wholeOf Packed.decodeOf Text.cut wordIn integerOf
 reader-refuses = refl
+
+-- ---- 02, S-1: "An unrepeated Decimal of scale 0 now sets the count for its name, in all three forms."
+
+abbrev packedCount : List ℕ
+packedCount = behind (once 0 0 1 7 1 1 0)
+
+-- packed, Display and zoned, each with as many elements as it counts and with one too few (7); a minus zero; a negative count and one above the maximum;
+-- a Decimal of scale 1, one that is a table, and an Edited control nothing
+counters :
+    readNumber packedCount (0x1C ∷ 0x31 ∷ []) 40 4 4
+    ∷ readNumber (behind (once 0 0 1 7 0 0 0)) (0x31 ∷ 0x31 ∷ []) 40 4 4
+    ∷ readNumber (behind (once 0 0 1 7 2 1 0)) (0x41 ∷ 0x31 ∷ []) 40 4 4
+    ∷ readNumber packedCount (0x2C ∷ 0x31 ∷ []) 40 4 4
+    ∷ readNumber (behind (once 0 0 1 7 0 0 0)) (0x32 ∷ 0x31 ∷ []) 40 4 4
+    ∷ readNumber (behind (once 0 0 1 7 2 1 0)) (0x42 ∷ 0x31 ∷ []) 40 4 4
+    ∷ readNumber packedCount (0x0D ∷ []) 40 4 4
+    ∷ readNumber packedCount (0x1D ∷ 0x31 ∷ []) 40 4 4
+    ∷ readNumber packedCount (0x3C ∷ 0x31 ∷ 0x31 ∷ 0x31 ∷ []) 40 4 4
+    ∷ readNumber (behind (once 0 0 1 7 1 1 1)) (0x1C ∷ 0x31 ∷ []) 40 4 4
+    ∷ readNumber (behind (entry 0 0 1 7 1 absent 1 1 1 0)) (0x1C ∷ 0x31 ∷ []) 40 4 4
+    ∷ numberOf (decodeRecord (behind (once 0 0 1 8 0 0 0)) (0x39 ∷ []) 0 (0x31 ∷ 0x31 ∷ []) 40 4 4)
+    ∷ []
+    ≡ 0 ∷ 0 ∷ 0 ∷ 7 ∷ 7 ∷ 7 ∷ 0 ∷ 6 ∷ 6 ∷ 5 ∷ 5 ∷ 5 ∷ []
+unfolding layoutAsks checkedOf wordsOk entriesOk allBelow entryOk placeOk optionOk kindOk plainOk boolOk floatOk editedOk upTo spansOk nested size tree treeIn entryAt recordLength furthest reservedWidth dependsIn someBelow decodeRecord R.seq R.field R.elements R.one R.pad R.scalar R.container unrepeated isPad controls howMany look dec says fromPage everyBy keepBy leftBy rightBy fieldOf keptBy Display.intOf Display.intIn Display.digitsIn Display.signAt Display.restOf Display.wholeOf Display.decimalOf Packed.decodeOf Zoned.decodeOf Edited.decodedOf
+counters = refl
 
 -- ---- the writer's refusals, in the order of the questions; then two at once
 

@@ -1,5 +1,5 @@
 -- Worked records, by computation over the definitions that the contracts cite: the specification's own record, a table under depending in a repeated group,
--- and all kinds.
+-- a packed counter, and all kinds.
 use mathlib.Core.Path.{_≡_, refl}
 use mathlib.Core.Bool.{true}
 use mathlib.Core.List.{List, [], _∷_, _++_}
@@ -84,6 +84,33 @@ boxes-plain = refl
 pub boxes-fit : fitting boxes [] boxed (0x61 ∷ 0x62 ∷ []) ≡ true
 unfolding layoutAsks checkedOf wordsOk entriesOk allBelow entryOk placeOk optionOk kindOk plainOk boolOk floatOk editedOk upTo spansOk nested size tree treeIn entryAt recordLength furthest reservedWidth dependsIn someBelow unrepeated isPad controls howMany look fitting Fit.fitted Fit.first Fit.eachFits Fit.goodOf Fit.holds wellFormed listOk itemOk holderOk scalarOk count values scalarOf Scalar.fitsOf Scalar.textFits Scalar.digitsFit Scalar.intFits Scalar.decimalFits everyBy
 boxes-fit = refl
+
+-- ---- 02, S-1: a packed counter D 0,2 of scale 0, and T Int 2,1, occurs 9, depending D
+
+abbrev pub stock : List ℕ
+stock = once 0 0 2 7 1 1 0 ++ entry 1 2 1 1 9 0 1 0 0 0
+
+-- two lines
+abbrev pub stocked : List ℕ
+stocked = 0 ∷ 3 ∷ 2 ∷ 0 ∷ 1 ∷ 6 ∷ 2 ∷ 3 ∷ 65536 ∷ 2 ∷ 5 ∷ 0 ∷ 65536 ∷ 2 ∷ 6 ∷ 0 ∷ []
+
+pub stock-read : decodeRecord stock [] 0 (0x00 ∷ 0x2C ∷ 0x35 ∷ 0x36 ∷ []) 16 0 4 ≡ decoded stocked []
+unfolding layoutAsks checkedOf wordsOk entriesOk allBelow entryOk placeOk optionOk kindOk plainOk boolOk floatOk editedOk upTo spansOk nested size tree treeIn entryAt recordLength furthest reservedWidth dependsIn someBelow decodeRecord R.seq R.field R.elements R.one R.pad R.scalar R.container unrepeated isPad controls howMany look dec says fromPage everyBy leftBy rightBy fieldOf Display.intOf Display.intIn Display.digitsIn Display.signAt Display.restOf Display.wholeOf Packed.decodeOf
+stock-read = refl
+
+-- a minus zero counts no lines
+pub none-read : decodeRecord stock [] 0 (0x00 ∷ 0x0D ∷ []) 16 0 4 ≡ decoded (0 ∷ 3 ∷ 0 ∷ 0 ∷ 1 ∷ 6 ∷ 0 ∷ 1 ∷ []) []
+unfolding layoutAsks checkedOf wordsOk entriesOk allBelow entryOk placeOk optionOk kindOk plainOk boolOk floatOk editedOk upTo spansOk nested size tree treeIn entryAt recordLength furthest reservedWidth dependsIn someBelow decodeRecord R.seq R.field R.elements R.one R.pad R.scalar R.container unrepeated isPad controls howMany look dec says fromPage everyBy leftBy rightBy fieldOf Packed.decodeOf
+none-read = refl
+
+-- "Plain layouts admit it as a controller."
+pub stock-plain : plain stock [] 0 ≡ true
+unfolding layoutAsks checkedOf wordsOk entriesOk allBelow entryOk placeOk optionOk kindOk plainOk boolOk floatOk editedOk upTo spansOk nested size tree treeIn entryAt recordLength furthest reservedWidth dependsIn someBelow unrepeated isPad plain namesOf distinct padOk widthOk sure groupOk eachOk inOrder controls offers controlled
+stock-plain = refl
+
+pub stock-fits : fitting stock [] stocked [] ≡ true
+unfolding layoutAsks checkedOf wordsOk entriesOk allBelow entryOk placeOk optionOk kindOk plainOk boolOk floatOk editedOk upTo spansOk nested size tree treeIn entryAt recordLength furthest reservedWidth dependsIn someBelow unrepeated isPad controls howMany look fitting Fit.fitted Fit.first Fit.eachFits Fit.goodOf Fit.holds wellFormed listOk itemOk holderOk scalarOk count values scalarOf Scalar.fitsOf Scalar.textFits Scalar.digitsFit Scalar.intFits Scalar.decimalFits everyBy
+stock-fits = refl
 
 -- ---- every kind: Text, Int, Binary, Float, Hex, Bool, Pad, Display, packed, zoned, Edited, and a group
 

@@ -4,6 +4,8 @@ ghost use Rattle.layout.specs.Layout.{checkedOf};
 ghost use Rattle.layout_text.specs.Reading.{layoutInto, LayoutRead};
 ghost use Rattle.text_field.specs.Single.{FieldTranslated, TextPlaced};
 ghost use Rattle.walks.specs.Records.{readInto, RecordRead, writtenInto, RecordWritten};
+ghost use lib.ListN.{length};
+ghost use Rattle.window.specs.Calls.{windowAsks, WindowStarted, addedTo, WindowAdded};
 
 // Reads a layout's text form.
 #[no_mangle]
@@ -109,5 +111,65 @@ pub extern "C" fn ff_text_field(
     let r = text_field::text_place(layout, page, record, scratch);
     *text_start = r.start as u64;
     *text_length = r.length as u64;
+    r.number
+}
+
+// Starts a window of the last W pairs.
+#[no_mangle]
+pub extern "C" fn ff_window_start(
+    layout: &[u32],
+    masks: &[u8],
+    page: u32,
+    w: u64,
+    first: u64,
+    second: u64,
+    window: &mut [u64],
+    counts: &mut [i64],
+) -> u32
+    ensures { λ r. ⌜
+        WindowStarted (windowAsks (now (layout .entry)) (now (masks .entry)) page w first second (length (now (window .entry))) (length (now (counts .entry))))
+        w r (now (window .entry)) (now (window .exit)) (now (counts .entry)) (now (counts .exit)) ⌝ }
+{
+    window::window_start(layout, masks, page, w, first, second, window, counts)
+}
+
+// Reads a record and takes its pair into a window.
+#[no_mangle]
+pub extern "C" fn ff_window_add(
+    layout: &[u32],
+    masks: &[u8],
+    page: u32,
+    record: &[u8],
+    w: u64,
+    first: u64,
+    second: u64,
+    window: &mut [u64],
+    items: &mut [u64],
+    text: &mut [u8],
+    counts: &mut [i64],
+    first_sum: &mut i64,
+    second_sum: &mut i64,
+) -> u32
+    ensures { λ r. ⌜
+        WindowAdded (addedTo (now (layout .entry)) (now (masks .entry)) page (now («record» .entry)) w first second (now (window .entry)) (now (items .entry)) (now (text .entry)) (now (counts .entry)))
+        w r (now («first_sum» .exit)) (now («second_sum» .exit)) (now (window .entry)) (now (window .exit)) (now (items .entry)) (now (items .exit)) (now (text .entry)) (now (text .exit)) (now (counts .entry)) (now (counts .exit)) ⌝ }
+{
+    let r = window::window_add(
+        layout,
+        masks,
+        page,
+        record,
+        w,
+        first,
+        second,
+        window,
+        items,
+        text,
+        counts,
+    );
+    let one = r.first;
+    let two = r.second;
+    *first_sum = one;
+    *second_sum = two;
     r.number
 }

@@ -1,0 +1,155 @@
+-- What the two calls leave, from what their parts leave: each law takes the facts of one way out of a function and makes the record that its contract cites.
+use mathlib.Core.Path.{_≡_, refl, sym, ap, ap₂, _∙_, subst}
+use mathlib.Core.Bool.{Bool, true, false, _&&_, cond}
+use mathlib.Core.List.{List, _++_}
+use Prim.Native.Nat.{ℕ, _+_, _-_, _*_, _/_, _<_, _≤_}
+use native.Mathlib.Omega.{arith}
+use lib.Dec.{eqb}
+use lib.IntN.{ℤ, pos}
+use lib.ListN.{length, getD, take, drop, replicate, length-take}
+use borrow.Author.Tests.{eq-eqb, ne-eqb}
+use Rattle.layout.specs.Layout.{entries}
+use Rattle.items.specs.Items.{itemWords, values, headOf}
+use Rattle.walks.specs.Records.{asking, firstOf, filled, Decoded, itemsOf, readInto, RecordRead}
+use Rattle.walks.specs.Records as Records
+use Rattle.window.specs.Window.{Pair, pair, firsts, seconds, wholeOf, sumOf, heldIn, windowWords, small, smallPair, lawfulIn, started, accepted}
+use Rattle.window.specs.Pair.{itemsBefore, valuesFrom, pairIn}
+use Rattle.window.specs.Steps.{pushed}
+use Rattle.window.specs.Calls.{sizesAsk, lawfulAsks, windowAsks, Added, refused, added, addRecord, addedTo, numberOf, windowAfter, sumAfter, WindowStarted, WindowAdded}
+use Rattle.window.specs.Parts.{PairRead, judged, PairTaken}
+use Rattle.window.proofs.Laws.{pushed-accepted}
+use Rattle.window.proofs.Steps.{start-put}
+use Rattle.window.proofs.Totals.{first-true, second-true}
+use Rattle.window.proofs.Runs.{accepted-lawful}
+use Rattle.window.proofs.Places.{words-are}
+use Rattle.window.proofs.Asked.{asking-first, asking-both}
+
+-- ---- a start
+
+module _ (asked w number : ℕ) (window : List ℕ) (counts counts′ : List ℤ) (n : number ≡ asked) (c : counts′ ≡ replicate (length counts) (pos 0)) where
+  pub start-refused : (number ≡ 0 → ⊥) → WindowStarted asked w number window window counts counts′
+  start-refused h = record { numbered = n; windowLeft = rw (ne-eqb asked 0 (λ z. h (n ∙ z))); countsLeft = c }
+
+  -- the front cleared, and what stands behind it
+  pub start-done : number ≡ 0 → (front : List ℕ) (k : ℕ) → k ≡ windowWords w → windowWords w ≤ length window → front ≡ replicate (length (take k window) - 0) 0
+      → WindowStarted asked w 0 window (front ++ drop k window) counts counts′
+  start-done z front k e long f =
+      let m : length (take k window) - 0 ≡ k = omega (arith, length-take k window) in
+      record {
+        numbered = sym z ∙ n;
+        windowLeft = rw (eq-eqb asked 0 (sym n ∙ z)) (ap (λ p. p ++ drop k window) (f ∙ ap (λ i. replicate i 0) m) ∙ start-put window w k e);
+        countsLeft = c;
+      }
+
+-- ---- a pair into a window
+
+module _ (p : Pair) (w : ℕ) (window : List ℕ) where
+  pub taken-big : smallPair p ≡ false → (number : ℕ) (one two : ℤ) → (number ≡ 19) × ((one ≡ pos 0) × (two ≡ pos 0)) → PairTaken p w number one two window window
+  taken-big h number one two f = record { numbered = rw h (f .0); firstSum = rw h (f .1 .0); secondSum = rw h (f .1 .1); windowLeft = rw h }
+
+  module _ (some : 0 < w) (few : w ≤ 4096) (long : windowWords w ≤ length window) (ok : lawfulIn w window ≡ true) (h : smallPair p ≡ true) where
+    pub taken-small : (window′ : List ℕ) → window′ ≡ pushed w (p .first) (p .second) window → (one two : ℤ) → one ≡ wholeOf (getD window′ 1 0) → two ≡ wholeOf (getD window′ 2 0)
+        → PairTaken p w 0 one two window window′
+    taken-small window′ e one two a b =
+        let is : window′ ≡ accepted w p window = e ∙ pushed-accepted w window (p .first) (p .second) ok some long in
+        let good : lawfulIn w window′ ≡ true = ap (lawfulIn w) is ∙ accepted-lawful w window ok p h in
+        record {
+          numbered = rw h;
+          firstSum = rw h (a ∙ first-true w window′ few good ∙ ap (λ l. sumOf (firsts (heldIn l))) is);
+          secondSum = rw h (b ∙ second-true w window′ few good ∙ ap (λ l. sumOf (seconds (heldIn l))) is);
+          windowLeft = rw h is;
+        }
+
+-- ---- a record's pair
+
+module _ (l : List ℕ) (first second : ℕ) (d : Decoded) (number used bytes : ℕ) (items items₁ text text₁ : List ℕ) (counts counts₁ : List ℤ)
+    (r : RecordRead d number used bytes items items₁ text text₁ counts counts₁) where
+  pub pair-read : (to i j a b : ℕ) → to ≡ used / itemWords → i ≡ itemsBefore (entries l) first → j ≡ itemsBefore (entries l) second
+      → a ≡ headOf (valuesFrom i (values items₁ 0 to)) .a → b ≡ headOf (valuesFrom j (values items₁ 0 to)) .a
+      → (items′ text′ : List ℕ) → items′ ≡ replicate (length items₁ - 0) 0 → text′ ≡ replicate (length text₁ - 0) 0 → length items₁ ≡ length items → length text₁ ≡ length text
+      → PairRead d l first second number a b items items′ text text′ counts counts₁
+  pair-read to i j a b t p q x y items′ text′ u v m n =
+      let e : length items₁ - 0 ≡ length items = omega arith in
+      let f : length text₁ - 0 ≡ length text = omega arith in
+      record {
+        numbered = r .numbered;
+        pairRead = words-are l first second (itemsOf d) items₁ (length items - length (itemsOf d)) to i j a b (r .itemsLeft) (t ∙ ap (λ k. k / itemWords) (r .wordsRead)) p q x y;
+        itemsLeft = u ∙ ap (λ k. replicate k 0) e;
+        textLeft = v ∙ ap (λ k. replicate k 0) f;
+        countsLeft = r .countsLeft;
+      }
+
+-- ---- the call
+
+module _ (l masks : List ℕ) (page : ℕ) (r : List ℕ) (w first second : ℕ) (window items text : List ℕ) (counts : List ℤ) where
+  abbrev outcome : Added
+  outcome = addedTo l masks page r w first second window items text counts
+
+  abbrev before : ℕ
+  before = firstOf (windowAsks l masks page w first second (length window) (length counts)) (lawfulAsks w window)
+
+  abbrev list : Decoded
+  list = readInto l masks page r items text counts
+
+  outcome-before : (n : ℕ) → n ≡ before → (n ≡ 0 → ⊥) → outcome ≡ refused n
+  unfolding addRecord
+  outcome-before n e h =
+      asking-first (windowAsks l masks page w first second (length window) (length counts)) (lawfulAsks w window)
+      (asking refused (Records.numberOf list) (judged (pairIn l first second (itemsOf list)))) n e h
+
+  module _ (z : before ≡ 0) where
+    outcome-read : outcome ≡ asking refused (Records.numberOf list) (judged (pairIn l first second (itemsOf list)))
+    unfolding addRecord
+    outcome-read =
+        asking-both (windowAsks l masks page w first second (length window) (length counts)) (lawfulAsks w window)
+        (asking refused (Records.numberOf list) (judged (pairIn l first second (itemsOf list)))) z
+
+    outcome-reader : (n : ℕ) → n ≡ Records.numberOf list → (n ≡ 0 → ⊥) → outcome ≡ refused n
+    outcome-reader n e h = outcome-read ∙ rw (ne-eqb (Records.numberOf list) 0 (λ k. h (e ∙ k))) (ap refused (sym e))
+
+    outcome-judged : (p : Pair) → Records.numberOf list ≡ 0 → p ≡ pairIn l first second (itemsOf list) → outcome ≡ judged p
+    outcome-judged p k e = outcome-read ∙ rw (eq-eqb (Records.numberOf list) 0 k) (ap judged (sym e))
+
+  -- refused before anything is read
+  module _ (number : ℕ) (one two : ℤ) (f : (one ≡ pos 0) × (two ≡ pos 0)) where
+    refused-so : outcome ≡ refused number → (items′ text′ : List ℕ) (counts′ : List ℤ) → items′ ≡ replicate (length items) 0 → text′ ≡ replicate (length text) 0
+        → counts′ ≡ replicate (length counts) (pos 0) → WindowAdded outcome w number one two window window items items′ text text′ counts counts′
+    refused-so e items′ text′ counts′ a b c =
+        record {
+          numbered = sym (ap numberOf e);
+          firstSum = f .0 ∙ sym (ap (sumAfter firsts w window) e);
+          secondSum = f .1 ∙ sym (ap (sumAfter seconds w window) e);
+          windowLeft = sym (ap (windowAfter w window) e);
+          itemsLeft = a;
+          textLeft = b;
+          countsLeft = c;
+        }
+
+    pub add-refused : number ≡ before → (number ≡ 0 → ⊥) → (items′ text′ : List ℕ) (counts′ : List ℤ)
+        → items′ ≡ replicate (length items - 0) 0 → text′ ≡ replicate (length text - 0) 0 → counts′ ≡ replicate (length counts) (pos 0)
+        → WindowAdded outcome w number one two window window items items′ text text′ counts counts′
+    add-refused e h items′ text′ counts′ a b c =
+        let m : length items - 0 ≡ length items = omega arith in
+        let n : length text - 0 ≡ length text = omega arith in
+        refused-so (outcome-before number e h) items′ text′ counts′ (a ∙ ap (λ k. replicate k 0) m) (b ∙ ap (λ k. replicate k 0) n) c
+
+    -- refused by the reader
+    pub add-unread : before ≡ 0 → (n x y : ℕ) (items′ text′ : List ℕ) (counts′ : List ℤ) → PairRead list l first second n x y items items′ text text′ counts counts′ → number ≡ n → (n ≡ 0 → ⊥)
+        → WindowAdded outcome w number one two window window items items′ text text′ counts counts′
+    add-unread z n x y items′ text′ counts′ p e h = refused-so (outcome-reader z number (e ∙ p .numbered) (λ k. h (sym e ∙ k))) items′ text′ counts′ (p .itemsLeft) (p .textLeft) (p .countsLeft)
+
+  -- judged
+  pub add-judged : before ≡ 0 → (n x y : ℕ) (items′ text′ : List ℕ) (counts′ : List ℤ) → PairRead list l first second n x y items items′ text text′ counts counts′ → n ≡ 0
+      → (number : ℕ) (one two : ℤ) (window′ : List ℕ) → PairTaken (pair x y) w number one two window window′
+      → WindowAdded outcome w number one two window window′ items items′ text text′ counts counts′
+  add-judged z n x y items′ text′ counts′ p h number one two window′ t =
+      let e : outcome ≡ judged (pair x y) = outcome-judged z (pair x y) (sym (p .numbered) ∙ h) (p .pairRead) in
+      record {
+        numbered = t .numbered ∙ sym (ap numberOf e);
+        firstSum = t .firstSum ∙ sym (ap (sumAfter firsts w window) e);
+        secondSum = t .secondSum ∙ sym (ap (sumAfter seconds w window) e);
+        windowLeft = t .windowLeft ∙ sym (ap (windowAfter w window) e);
+        itemsLeft = p .itemsLeft;
+        textLeft = p .textLeft;
+        countsLeft = p .countsLeft;
+      }

@@ -1,0 +1,24 @@
+-- Signed numbers at the edge: a whole number flipped, and what a call that answers one hands on.
+use mathlib.Core.Path.{_≡_, refl}
+use Prim.Native.Nat.{ℕ, zero, suc, _-_, _<_, _^_}
+use native.Mathlib.Nat.{zero-add}
+use native.Mathlib.Omega.{arith}
+use lib.IntN.{ℤ, pos, negsuc, _-ℤ_}
+use lib.Signed.{mag}
+use borrow.Author.Tests.{le-ltb}
+use mir.Syntax.{w64}
+use mir.Val.{SFits, toZ, ofZ}
+use mir.ValLaws.{toZ-ofZ}
+use Rattle.window.specs.Steps.{flipped}
+
+pub minus-one-less : (n : ℤ) → negsuc 0 -ℤ n ≡ flipped n
+minus-one-less (pos zero) = refl
+minus-one-less (pos (suc n)) = rw zero-add
+minus-one-less (negsuc n) = let e : suc n - 1 ≡ n = omega arith in rw (le-ltb (suc n) 1 (omega arith), e)
+
+pub flipped-fits : (n : ℤ) → SFits w64 n → SFits w64 (flipped n)
+flipped-fits (pos n) h = record { sfits = h .sfits }
+flipped-fits (negsuc n) h = record { sfits = h .sfits }
+
+pub back : (z : ℤ) → mag z < 2 ^ 63 → toZ w64 (ofZ w64 z) ≡ z
+back z h = toZ-ofZ w64 z (record { sfits = h })

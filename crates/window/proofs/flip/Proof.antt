@@ -1,0 +1,15 @@
+use Prim.Native.Nat.{_-_}
+use mir.Syntax.{w64}
+use mir.ValLaws.{toZ-ofZ}
+use Rattle.window.proofs.Signs.{minus-one-less, flipped-fits}
+use Rattle.window.proofs.flip.Statement.{statement}
+use Rattle.window.proofs.flip.Tie as tie
+
+sub-result : tie.Need-sub-result
+sub-result c = rw (toZ-ofZ w64 (c .args .n) (c .fits .n), minus-one-less) (flipped-fits (c .args .n) (c .fits .n))
+
+returns : tie.Need-returns
+returns c = rw (toZ-ofZ w64 (c .args .n) (c .fits .n), minus-one-less) (toZ-ofZ w64 _ (flipped-fits (c .args .n) (c .fits .n)))
+
+pub flip-spec : {M : Type 1} → statement M
+flip-spec = tie.close (tie.spec sub-result returns)

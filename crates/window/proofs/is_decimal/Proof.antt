@@ -1,0 +1,23 @@
+use mathlib.Core.Path.{sym, _∙_}
+use mathlib.Core.Bool.{true, false}
+use Prim.Native.Nat.{_-_}
+use lib.ListN.{take}
+use borrow.Author.Tests.{not-true, not-false}
+use Rattle.window.proofs.Places.{decimal-not, decimal-by}
+use borrow.Author.Needs.{needs}
+use Rattle.window.proofs.is_decimal.Statement.{statement}
+use Rattle.window.proofs.is_decimal.Tie as tie
+
+unrepeated-requires : tie.Need-unrepeated-requires
+unrepeated-requires c κs = search needs
+
+returns : tie.Need-returns
+returns c = decimal-not _ (sym (c .before .unrepeated .ensures) ∙ not-true _ (c .if1 .taken))
+
+returns-2 : tie.Need-returns-2
+returns-2 c =
+    let at-unrepeated = c .before .before .unrepeated in
+    decimal-by _ (sym (at-unrepeated .ensures) ∙ not-false _ (c .before .if1 .left))
+
+pub is-decimal-spec : {M : Type 1} → statement M
+is-decimal-spec = tie.close (tie.spec unrepeated-requires returns returns-2)

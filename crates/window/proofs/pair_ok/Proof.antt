@@ -1,0 +1,64 @@
+use mathlib.Core.Path.{sym, ap, _∙_}
+use mathlib.Core.Bool.{true, false}
+use Prim.Native.Nat.{_-_}
+use lib.ListN.{take}
+use borrow.Author.Needs.{needs}
+use borrow.Author.Tests.{not-true, not-false}
+use Rattle.window.specs.Pair.{scaleOf}
+use Rattle.window.proofs.Places.{pair-first, pair-second, pair-scale, pair-other}
+use Rattle.window.proofs.pair_ok.Statement.{statement}
+use Rattle.window.proofs.pair_ok.Tie as tie
+
+is-summed-requires : tie.Need-is-summed-requires
+is-summed-requires c κs = search needs
+
+returns : tie.Need-returns
+returns c = pair-first _ _ _ (sym (c .before .is-summed .ensures) ∙ not-true _ (c .if1 .taken))
+
+is-summed-requires-2 : tie.Need-is-summed-requires-2
+is-summed-requires-2 c κs = search needs
+
+returns-2 : tie.Need-returns-2
+returns-2 c =
+    let at-is-summed = c .before .before .before .is-summed in
+    let at-if1 = c .before .before .if1 in
+    pair-second _ _ _ (sym (at-is-summed .ensures) ∙ not-false _ (at-if1 .left)) (sym (c .before .is-summed2 .ensures) ∙ not-true _ (c .if2 .taken))
+
+load-requires : tie.Need-load-requires
+load-requires c κs = search needs
+
+load-requires-2 : tie.Need-load-requires-2
+load-requires-2 c κs = search needs
+
+returns-3 : tie.Need-returns-3
+returns-3 c =
+    let at-is-summed = c .before .before .before .before .before .before .before .before .is-summed in
+    let at-if1 = c .before .before .before .before .before .before .before .if1 in
+    let at-is-summed2 = c .before .before .before .before .before .before .is-summed2 in
+    let at-if2 = c .before .before .before .before .before .if2 in
+    let at-load = c .before .before .before .before .load in
+    let at-load2 = c .before .before .before .load2 in
+    pair-scale _ _ _ (sym (at-is-summed .ensures) ∙ not-false _ (at-if1 .left)) (sym (at-is-summed2 .ensures) ∙ not-false _ (at-if2 .left)) (λ e. c .if3 .taken (ap scaleOf (at-load .ensures) ∙ e ∙ sym (ap scaleOf (at-load2 .ensures))))
+
+returns-4 : tie.Need-returns-4
+returns-4 c =
+    let at-is-summed = c .before .before .before .before .before .before .before .before .is-summed in
+    let at-if1 = c .before .before .before .before .before .before .before .if1 in
+    let at-is-summed2 = c .before .before .before .before .before .before .is-summed2 in
+    let at-if2 = c .before .before .before .before .before .if2 in
+    let at-load = c .before .before .before .before .load in
+    let at-load2 = c .before .before .before .load2 in
+    pair-other _ _ _ (sym (at-is-summed .ensures) ∙ not-false _ (at-if1 .left)) (sym (at-is-summed2 .ensures) ∙ not-false _ (at-if2 .left)) (sym (ap scaleOf (at-load .ensures)) ∙ c .if3 .left ∙ ap scaleOf (at-load2 .ensures))
+
+pub pair-ok-spec : {M : Type 1} → statement M
+pair-ok-spec =
+    tie.close
+    (tie.spec
+    is-summed-requires
+    returns
+    is-summed-requires-2
+    returns-2
+    load-requires
+    load-requires-2
+    returns-3
+    returns-4)

@@ -1,0 +1,8 @@
+-- Scrap over the last jobs: the window, its two entries, the two calls, and what holds of any run of records.
+pub mod Window
+pub mod Pair
+pub mod Calls
+pub mod Runs
+pub mod Steps
+pub mod Parts
+pub mod Examples

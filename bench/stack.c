@@ -1,5 +1,6 @@
 /* The deepest stack of each call: the stack below is painted, the call is made, and what is no longer paint is counted. Groups to eight levels, a field of
- * every kind in the innermost; the writer is given the list that was read, then values that it has to convert; the layout's text has 512 entries. */
+ * every kind in the innermost; the writer is given the list that was read, then values that it has to convert; two Decimals behind the groups are summed in a
+ * window; the layout's text has 512 entries. */
 #include "../include/fixedformat.h"
 #include <stdio.h>
 #include <string.h>
@@ -46,11 +47,14 @@ static __attribute__((noinline)) size_t paint(int look)
 }
 
 static uint32_t number, page;
-static uint64_t a, b;
+static uint64_t a, b, window[2 * 4 + 5];
+static int64_t one, two;
 static size_t deepest;
 
 static __attribute__((noinline)) void decode(void) { number = ff_decode_record(words, used, masks, 64, page, record, 4096, items, 8192, text, 4096, counts, 1024, &a, &b); }
 static __attribute__((noinline)) void encode(void) { number = ff_encode_record(words, used, masks, 64, page, items, a, text, b, record, 4096, counts, 1024, &b); }
+static __attribute__((noinline)) void window_start(void) { number = ff_window_start(words, used, masks, 64, page, 4, 19, 20, window, 13, counts, 1024); }
+static __attribute__((noinline)) void window_add(void) { number = ff_window_add(words, used, masks, 64, page, record, 4096, 4, 19, 20, window, 13, items, 8192, text, 4096, counts, 1024, &one, &two); }
 static __attribute__((noinline)) void read_layout(void) { number = ff_read_layout((const uint8_t *)form, formed, words, 512 * 12, masks, 4096, &page, &a, &b); }
 
 static void measure(const char *name, void (*call)(void))
@@ -113,6 +117,12 @@ int main(void)
         convert();
         b = kept;
         measure("encode_record, converting", encode);
+        entry(32, 8, 5, 7, 1, 1, 1, 2);
+        entry(33, 8, 5, 7, 1, 1, 1, 2);
+        memset(record, page ? 0xF0 : '0', sizeof record);
+        memcpy(record + 8, "\x12\x34\x56\x78\x9C", 5);
+        measure("window_start", window_start);
+        measure("window_add", window_add);
     }
     formed = (size_t)sprintf(form, "page=0\n");
     for (level = 0; level < 7; level++)

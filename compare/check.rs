@@ -62,6 +62,10 @@ impl Tally {
     pub fn cases(&self) -> u64 {
         self.all
     }
+    /// Whether a case of a group was refused by a number.
+    pub fn reached(&self, group: &str, number: u32) -> bool {
+        self.groups.get(group).map_or(false, |g| g.refused.contains_key(&number))
+    }
     pub fn note(&mut self, group: &'static str, refused: u32, seen: Seen, size: usize, input: impl FnOnce() -> String) {
         self.all += 1;
         if self.all % STEP == 0 {

@@ -7,6 +7,7 @@ mod check;
 mod records;
 mod store;
 mod trips;
+mod windows;
 
 use check::Tally;
 use std::time::Instant;
@@ -35,6 +36,8 @@ fn main() {
     step("whole records and lists", &tally);
     trips::random(&mut tally, records, seed);
     step("plain layouts, fitting lists", &tally);
+    windows::random(&mut tally, records.max(200_000), seed);
+    step("windows", &tally);
     if !tally.print(cases, seed) {
         std::process::exit(1);
     }

@@ -41,6 +41,21 @@ uint32_t ff_encode_record(const uint32_t *layout, size_t layout_len, const uint8
                           const uint64_t *items, size_t items_len, const uint8_t *text, size_t text_len,
                           uint8_t *record, size_t record_len, int64_t *counts, size_t counts_len, uint64_t *record_length);
 
+/* Starts a window: zeroes its 2 * w + 5 words; words behind these are left alone. A window keeps the sums of two Decimals over the last w accepted records:
+ * count, both sums, two zeros, then the pairs held, oldest first, all as two's complement words. It is neither output nor work space: after a refusal it is
+ * unchanged. `first` and `second` are the numbers, from 0 and all entries counted, of two unrepeated Decimals of the layout's top level with the same scale.
+ * Asks 1, 2, 3, 16 (counts), 18, 16 (window). */
+uint32_t ff_window_start(const uint32_t *layout, size_t layout_len, const uint8_t *masks, size_t masks_len, uint32_t page,
+                         uint64_t w, uint64_t first, uint64_t second, uint64_t *window, size_t window_len, int64_t *counts, size_t counts_len);
+
+/* Reads a record and takes the values of the two entries into the window; the oldest pair goes where there were w. The sums are those of the pairs then held,
+ * and 0 after a refusal, which leaves the window unchanged. items, text and counts are work space: they hold zeros after the call.
+ * Asks 1, 2, 3, 16 (counts), 18, 16 (window), 24, then as ff_decode_record does from 4 on, then 19. */
+uint32_t ff_window_add(const uint32_t *layout, size_t layout_len, const uint8_t *masks, size_t masks_len, uint32_t page,
+                       const uint8_t *record, size_t record_len, uint64_t w, uint64_t first, uint64_t second, uint64_t *window, size_t window_len,
+                       uint64_t *items, size_t items_len, uint8_t *text, size_t text_len, int64_t *counts, size_t counts_len,
+                       int64_t *first_sum, int64_t *second_sum);
+
 /* Puts the translated bytes of one unrepeated Text entry (twelve words) at the front of scratch, zeros behind them, with how many scratch bytes there are.
  * Asks 1, 2, 4, 7, 16. */
 uint32_t ff_translate_text(const uint32_t *layout, size_t layout_len, uint32_t page, const uint8_t *record, size_t record_len,

@@ -1,5 +1,5 @@
 /* price FOLDER: reads FOLDER/layout.txt and FOLDER/record.bin, prints the record's first PRICE, writes a tally of it by another layout, and reads the
- * tally back. No heap: all buffers are lent. */
+ * tally back; then sums the scrap of the last three of five jobs. No heap: all buffers are lent. */
 #include "../../include/fixedformat.h"
 #include <inttypes.h>
 #include <stdio.h>
@@ -14,13 +14,20 @@ static const char tally_text[] = "page=1\n"
                                  "name=PRICE\noffset=8\nwidth=5\nkind=7\noccurs=\ndepending=\nspan=1\np=1\nq=1\nr=2\nmask=\n";
 enum { JOB = 0, PRICE = 1 }; /* names are numbered by first sight */
 
+/* The layout of a job's scrap, page 0: JOB, a text of 4 bytes, then LENSES and GRAMS, packed decimals of 3 bytes and scale 1: entries 1 and 2. */
+static const char scrap_text[] = "page=0\n"
+                                 "name=JOB\noffset=0\nwidth=4\nkind=0\noccurs=\ndepending=\nspan=1\np=0\nq=1\nr=32\nmask=\n"
+                                 "name=LENSES\noffset=4\nwidth=3\nkind=7\noccurs=\ndepending=\nspan=1\np=1\nq=1\nr=1\nmask=\n"
+                                 "name=GRAMS\noffset=7\nwidth=3\nkind=7\noccurs=\ndepending=\nspan=1\np=1\nq=1\nr=1\nmask=\n";
+enum { LENSES = 1, GRAMS = 2, LAST = 3 };
+
 struct layout {
     uint32_t words[512 * 12], page;
     uint8_t masks[4096];
     uint64_t used, masks_used;
 };
 
-static struct layout job, tally;
+static struct layout job, tally, scrap;
 static uint8_t text[65536], record[65536], said[65536];
 static uint64_t items[8192];
 static int64_t counts[1024];
@@ -84,6 +91,38 @@ static int refused(const char *what, uint32_t number)
     return number != 0;
 }
 
+/* Five records through a window of three; the third is refused, and the window stays as it was. */
+static int sum_scrap(void)
+{
+    static const uint8_t jobs[5][10] = {
+        {'J', '1', '0', '1', 0x00, 0x02, 0x0C, 0x00, 0x31, 0x5C}, /* 2.0 and 31.5 */
+        {'J', '1', '0', '2', 0x00, 0x01, 0x0C, 0x00, 0x12, 0x0C}, /* 1.0 and 12.0 */
+        {'J', '1', '0', '3', 0x00, 0x04, 0x0C, 0x00, 0x3A, 0x0C}, /* a byte of GRAMS is damaged */
+        {'J', '1', '0', '4', 0x00, 0x03, 0x0C, 0x00, 0x40, 0x5C}, /* 3.0 and 40.5 */
+        {'J', '1', '0', '5', 0x00, 0x01, 0x0D, 0x00, 0x08, 0x0D}, /* taken back: -1.0 and -8.0 */
+    };
+    uint64_t window[2 * LAST + 5];
+    int64_t lenses, grams;
+    uint32_t number;
+    size_t i;
+    if (refused("scrap layout", read_layout(&scrap, (const uint8_t *)scrap_text, sizeof scrap_text - 1)))
+        return 1;
+    if (refused("window", ff_window_start(scrap.words, scrap.used, scrap.masks, scrap.masks_used, scrap.page, LAST, LENSES, GRAMS, window, 2 * LAST + 5, counts, 1024)))
+        return 1;
+    for (i = 0; i < 5; i++) {
+        number = ff_window_add(scrap.words, scrap.used, scrap.masks, scrap.masks_used, scrap.page, jobs[i], sizeof jobs[i], LAST, LENSES, GRAMS, window, 2 * LAST + 5,
+                               items, 8192, said, sizeof said, counts, 1024, &lenses, &grams);
+        if (refused("scrap", number))
+            continue;
+        printf("scrap of the last %" PRIu64 ": lenses ", window[0]);
+        print_decimal(lenses, 1);
+        printf(", grams ");
+        print_decimal(grams, 1);
+        printf("\n");
+    }
+    return 0;
+}
+
 int main(int argc, char **argv)
 {
     size_t n, length;
@@ -123,5 +162,5 @@ int main(int argc, char **argv)
             return 1;
         printf("read back: %s\n", used == 8 && told == 8 && !memcmp(back, list, sizeof list) && !memcmp(again, name, 8) ? "the same list" : "another list");
     }
-    return 0;
+    return sum_scrap();
 }

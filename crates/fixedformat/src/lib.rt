@@ -151,8 +151,10 @@ pub extern "C" fn ff_window_add(
     second_sum: &mut i64,
 ) -> u32
     ensures { λ r. ⌜
-        WindowAdded (addedTo (now (layout .entry)) (now (masks .entry)) page (now («record» .entry)) w first second (now (window .entry)) (now (items .entry)) (now (text .entry)) (now (counts .entry)))
-        w r (now («first_sum» .exit)) (now («second_sum» .exit)) (now (window .entry)) (now (window .exit)) (now (items .entry)) (now (items .exit)) (now (text .entry)) (now (text .exit)) (now (counts .entry)) (now (counts .exit)) ⌝ }
+        WindowAdded
+        (addedTo (now (layout .entry)) (now (masks .entry)) page (now («record» .entry)) w first second (now (window .entry)) (now (items .entry)) (now (text .entry)) (now (counts .entry)))
+        w r (now («first_sum» .exit)) (now («second_sum» .exit)) (now (window .entry)) (now (window .exit))
+        (now (items .entry)) (now (items .exit)) (now (text .entry)) (now (text .exit)) (now (counts .entry)) (now (counts .exit)) ⌝ }
 {
     let r = window::window_add(
         layout,

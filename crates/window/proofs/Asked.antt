@@ -2,19 +2,20 @@
 use mathlib.Core.Path.{_≡_, refl, sym, ap, _∙_}
 use mathlib.Core.Bool.{Bool, true, false, _&&_, cond}
 use mathlib.Core.List.{List}
-use Prim.Native.Nat.{ℕ, _+_, _*_, _<_, _≤_}
+use Prim.Native.Nat.{ℕ, _+_, _<_, _≤_}
 use native.Mathlib.Omega.{arith}
 use lib.Dec.{eqb, leb}
 use lib.ListN.{length}
-use borrow.Author.Tests.{eq-eqb, ne-eqb, eqb-true, eqb-false, le-leb, lt-leb, leb-true}
+use borrow.Author.Tests.{eq-eqb, ne-eqb, eqb-true, le-leb, lt-leb, leb-true}
 use Rattle.lists.proofs.Logic.{and-left, and-right}
 use Rattle.layout.specs.Layout.{layoutAsks}
-use Rattle.walks.specs.Records.{asking, firstOf, decodeRecord, recordAsks, readerAsks}
+use Rattle.walks.specs.Records.{asking, firstOf, decodeRecord}
 use Rattle.walks.proofs.Asked.{both-passed}
 use Rattle.window.specs.Window.{Pair, windowWords, smallPair, lawfulIn}
 use Rattle.window.specs.Pair.{pairOk, pairAsks}
-use Rattle.window.specs.Calls.{roomAsks, lawfulAsks, sizesAsk, windowAsks, Added, refused, added, numberOf}
+use Rattle.window.specs.Calls.{roomAsks, lawfulAsks, windowAsks, Added, refused, added}
 use Rattle.window.specs.Parts.{judged}
+use Rattle.window.specs.Runs.{ReaderOwn}
 
 passed : (b : Bool) (n : ℕ) → (n ≡ 0 → ⊥) → cond b 0 n ≡ 0 → b ≡ true
 passed true n h e = refl
@@ -110,7 +111,7 @@ module _ (l masks : List ℕ) (page w first second words work : ℕ) where
     pub asks-long : windowWords w ≤ words
     asks-long = leb-true (windowWords w) words (passed (leb (windowWords w) words) 16 (λ e. omega arith) (both-passed (pairAsks l w first second) (roomAsks w words) (behind-layout .1) .1))
 
-    pub asks-lawful : layoutAsks l masks page work ≡ 0
+    asks-lawful : layoutAsks l masks page work ≡ 0
     asks-lawful = behind-layout .0
 
 -- ---- question 24
@@ -126,3 +127,9 @@ pub asked-lawful : (a w : ℕ) (window : List ℕ) → firstOf a (lawfulAsks w w
 asked-lawful a w window e =
     let p : (a ≡ 0) × (lawfulAsks w window ≡ 0) = both-passed a (lawfulAsks w window) e in
     (p .0, passed (lawfulIn w window) 24 (λ z. omega arith) (p .1))
+
+-- ---- the reader behind these questions
+
+pub reader-own : ReaderOwn
+unfolding decodeRecord
+reader-own l masks page w first second words r items text work z = rw (eq-eqb (layoutAsks l masks page work) 0 (asks-lawful l masks page w first second words work z))

@@ -66,7 +66,7 @@ unfolding laid
 held-laid ps l = pairs-flat ps (drop (5 + length ps * 2) l)
 
 -- a window of five words at least, by its words
-pub five : (l : List ℕ) → 5 ≤ length l → l ≡ getD l 0 0 ∷ getD l 1 0 ∷ getD l 2 0 ∷ getD l 3 0 ∷ getD l 4 0 ∷ drop 5 l
+five : (l : List ℕ) → 5 ≤ length l → l ≡ getD l 0 0 ∷ getD l 1 0 ∷ getD l 2 0 ∷ getD l 3 0 ∷ getD l 4 0 ∷ drop 5 l
 five [] h = absurd (omega arith)
 five (x0 ∷ []) h = absurd (omega arith)
 five (x0 ∷ x1 ∷ []) h = absurd (omega arith)
@@ -132,7 +132,7 @@ module _ (a b : ℕ) (l : List ℕ) (q : Pair) (qs : List Pair) where
       let f : drop 2 (drop (length qs * 2) (flat (q ∷ qs) ++ d)) ≡ d = drop-drop 2 (length qs * 2) (flat (q ∷ qs) ++ d) ∙ ap (λ k. drop k (flat (q ∷ qs) ++ d)) e ∙ pairs-behind (q ∷ qs) d in
       rw (pairs-before qs d, pairs-before qs (drop (length qs * 2) (flat (q ∷ qs) ++ d)), pairs-behind qs (drop (length qs * 2) (flat (q ∷ qs) ++ d)), f)
 
-  pub rolled-laid : (w : ℕ) → w ≡ length (q ∷ qs) → rolled w a b (laid (q ∷ qs) l) ≡ laid (qs ++ (pair a b ∷ [])) l
+  rolled-laid : (w : ℕ) → w ≡ length (q ∷ qs) → rolled w a b (laid (q ∷ qs) l) ≡ laid (qs ++ (pair a b ∷ [])) l
   unfolding laid moved
   rolled-laid w h =
       let k : w * 2 - 2 ≡ length qs * 2 = omega arith in

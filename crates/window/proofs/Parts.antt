@@ -1,8 +1,8 @@
 -- What the two calls leave, from what their parts leave: each law takes the facts of one way out of a function and makes the record that its contract cites.
-use mathlib.Core.Path.{_≡_, refl, sym, ap, ap₂, _∙_, subst}
-use mathlib.Core.Bool.{Bool, true, false, _&&_, cond}
+use mathlib.Core.Path.{_≡_, sym, ap, _∙_}
+use mathlib.Core.Bool.{true, false, cond}
 use mathlib.Core.List.{List, _++_}
-use Prim.Native.Nat.{ℕ, _+_, _-_, _*_, _/_, _<_, _≤_}
+use Prim.Native.Nat.{ℕ, _+_, _-_, _/_, _<_, _≤_}
 use native.Mathlib.Omega.{arith}
 use lib.Dec.{eqb}
 use lib.IntN.{ℤ, pos}
@@ -10,12 +10,12 @@ use lib.ListN.{length, getD, take, drop, replicate, length-take}
 use borrow.Author.Tests.{eq-eqb, ne-eqb}
 use Rattle.layout.specs.Layout.{entries}
 use Rattle.items.specs.Items.{itemWords, values, headOf}
-use Rattle.walks.specs.Records.{asking, firstOf, filled, Decoded, itemsOf, readInto, RecordRead}
+use Rattle.walks.specs.Records.{asking, firstOf, Decoded, itemsOf, readInto, RecordRead}
 use Rattle.walks.specs.Records as Records
-use Rattle.window.specs.Window.{Pair, pair, firsts, seconds, wholeOf, sumOf, heldIn, windowWords, small, smallPair, lawfulIn, started, accepted}
+use Rattle.window.specs.Window.{Pair, pair, firsts, seconds, wholeOf, sumOf, heldIn, windowWords, small, smallPair, lawfulIn, accepted}
 use Rattle.window.specs.Pair.{itemsBefore, valuesFrom, pairIn}
 use Rattle.window.specs.Steps.{pushed}
-use Rattle.window.specs.Calls.{sizesAsk, lawfulAsks, windowAsks, Added, refused, added, addRecord, addedTo, numberOf, windowAfter, sumAfter, WindowStarted, WindowAdded}
+use Rattle.window.specs.Calls.{lawfulAsks, windowAsks, Added, refused, added, addRecord, addedTo, numberOf, windowAfter, sumAfter, WindowStarted, WindowAdded}
 use Rattle.window.specs.Parts.{PairRead, judged, PairTaken}
 use Rattle.window.proofs.Laws.{pushed-accepted}
 use Rattle.window.proofs.Steps.{start-put}

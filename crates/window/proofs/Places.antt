@@ -6,7 +6,7 @@ use Prim.Native.Nat.{ℕ, zero, suc, _+_, _-_, _*_, _<_, _≤_}
 use native.Mathlib.Omega.{arith}
 use native.Mathlib.Decide.{decLe}
 use lib.Dec.{eqb, leb}
-use lib.ListN.{length, getD, replicate}
+use lib.ListN.{replicate}
 use borrow.Author.Tests.{le-leb, lt-leb, eq-eqb, ne-eqb}
 use Rattle.lists.proofs.Lists.{zeros-behind}
 use Rattle.layout.specs.declared.Entry.{Entry}
@@ -14,7 +14,7 @@ use Rattle.layout.specs.Layout.{entryAt, spanOf, part, entries, entryCount, isP
 use Rattle.spans.specs.Tree.{endOf, tree}
 use Rattle.spans.proofs.Tree.{tree-none, tree-at, size-tree}
 use Rattle.items.specs.declared.Item.{Item}
-use Rattle.items.specs.Items.{Values, itemWords, itemCount, itemAt, spanOf as itemSpan, values, headOf, restOf}
+use Rattle.items.specs.Items.{itemWords, itemCount, itemAt, spanOf as itemSpan, values, headOf}
 use Rattle.items.proofs.Items.{rest-is}
 use Rattle.window.specs.Window.{pair}
 use Rattle.window.specs.Pair.{isTop, itemsFor, itemsBefore, isDecimal, summed, scaleOf, pairOk, pairAsks, valuesFrom, wordAt, pairIn}
@@ -95,7 +95,8 @@ module _ (l : List ℕ) (number : ℕ) where
             record {
               within = subst (λ m. m ≤ entryCount l) (sym q) (end-within (e .span) i (entryCount l));
               few = more-few before i n en (g .few) at-most (subst (λ m. i + 1 ≤ m) (sym q) (end-after (e .span) i (entryCount l) h));
-              tops = g .tops ∙ rw (s, t, size-tree (entryAt l) spanOf (i + 1) en, le-leb i number (omega arith), d) (ap (λ b. b && isTop (part l en (entryCount l)) (number - en)) (same-order en number i (subst (λ m. i + 1 ≤ m) (sym q) (end-after (e .span) i (entryCount l) h)) k));
+              tops = g .tops ∙ rw (s, t, size-tree (entryAt l) spanOf (i + 1) en, le-leb i number (omega arith), d)
+                  (ap (λ b. b && isTop (part l en (entryCount l)) (number - en)) (same-order en number i (subst (λ m. i + 1 ≤ m) (sym q) (end-after (e .span) i (entryCount l) h)) k));
               items = g .items ∙ rw (s, t, size-tree (entryAt l) spanOf (i + 1) en, d, c) (omega arith);
             }
           where

@@ -1,8 +1,8 @@
 -- Windows after runs of records: from a window that is pairs laid, each record makes pairs laid again, so the run is an induction over its records.
-use mathlib.Core.Path.{_≡_, refl, sym, ap, ap₂, _∙_, subst}
-use mathlib.Core.Bool.{Bool, true, false, _&&_, cond}
+use mathlib.Core.Path.{_≡_, refl, sym, ap, _∙_, subst}
+use mathlib.Core.Bool.{true, _&&_, cond}
 use mathlib.Core.List.{List, [], _∷_, _++_, append-nil, append-assoc}
-use Prim.Native.Nat.{ℕ, zero, suc, _+_, _-_, _*_, _<_, _≤_}
+use Prim.Native.Nat.{ℕ, zero, suc, _+_, _-_, _*_, _≤_}
 use native.Mathlib.Omega.{arith}
 use native.Mathlib.Decide.{decLe}
 use lib.Dec.{eqb, leb}
@@ -12,9 +12,9 @@ use borrow.Author.Tests.{le-leb, eq-eqb, eqb-true}
 use Rattle.lists.proofs.Logic.{and, and-left, and-right}
 use Rattle.walks.specs.Records.{decodeRecord, itemsOf}
 use Rattle.walks.specs.Records as Records
-use Rattle.window.specs.Window.{Pair, pair, firsts, seconds, flat, lastOf, sumIn, wholeOf, sumOf, heldIn, windowWords, laid, smallPair, allSmall, wordsOk, lawfulIn, started, accepted}
+use Rattle.window.specs.Window.{Pair, pair, firsts, seconds, flat, lastOf, sumIn, sumOf, heldIn, laid, smallPair, allSmall, wordsOk, lawfulIn, started, accepted}
 use Rattle.window.specs.Pair.{pairIn}
-use Rattle.window.specs.Calls.{sizesAsk, lawfulAsks, windowAsks, Added, refused, added, addRecord, windowAfter}
+use Rattle.window.specs.Calls.{lawfulAsks, windowAsks, Added, refused, added, addRecord, windowAfter}
 use Rattle.window.specs.Runs.{Given, pairsIn, call, run, acceptedIn, Kept, RunsKept}
 use Rattle.window.proofs.Laws.{flat-length, held-laid, drop-five, snoc-length, words-lawful, smalls-lawful}
 use Rattle.window.proofs.Totals.{first-true, second-true}

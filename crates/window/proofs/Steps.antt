@@ -1,12 +1,12 @@
 -- What the code does, one store and one turn at a time: each law says what is left to show where a branch ends.
 use mathlib.Core.Path.{_≡_, refl, sym, ap, _∙_}
-use mathlib.Core.Bool.{true, false, _&&_, cond}
+use mathlib.Core.Bool.{true, false, cond}
 use mathlib.Core.List.{List, [], _∷_, _++_}
 use Prim.Native.Nat.{ℕ, zero, suc, _+_, _-_, _*_, _%_, _^_, _<_, _≤_}
 use native.Mathlib.Omega.{arith}
 use native.Mathlib.Numerals.{add-one}
 use lib.Dec.{eqb, leb, ltb}
-use lib.ListN.{length, getD, take, drop, set, replicate, length-take, length-drop}
+use lib.ListN.{length, getD, take, drop, set, replicate, length-drop}
 use lib.Seq.{drop-drop, getD-drop, getD-append-add, paste, paste-suc, length-paste-head}
 use borrow.Author.Tests.{lt-ltb, le-ltb, le-leb, lt-leb, eq-eqb, ne-eqb}
 use Rattle.window.specs.Window.{Pair, pair, firsts, seconds, pairsOf, total, sumIn, windowWords, heldIn, small, allSmall, lawfulIn, started}
@@ -120,8 +120,10 @@ module _ (l : List ℕ) (i first second : ℕ) (j : Judging l i first second) (h
     pub judging-goes : small a ≡ true → small b ≡ true → (x y : ℕ) → x ≡ (first + a) % 2 ^ 64 → y ≡ (second + b) % 2 ^ 64 → Judging l (i + 1) x y
     judging-goes s t x y u v =
         let rest : List Pair = pairsOf (getD l 0 0 - (i + 1)) (drop (5 + (i + 1) * 2) l) in
-        let f : total (firsts (pairsOf (getD l 0 0 - i) (drop (5 + i * 2) l))) ≡ a + total (firsts (pairsOf (getD l 0 0 - (i + 1)) (drop (5 + (i + 1) * 2) l))) = ap (λ ps. total (firsts ps)) turn ∙ rw p in
-        let g : total (seconds (pairsOf (getD l 0 0 - i) (drop (5 + i * 2) l))) ≡ b + total (seconds (pairsOf (getD l 0 0 - (i + 1)) (drop (5 + (i + 1) * 2) l))) = ap (λ ps. total (seconds ps)) turn ∙ rw q in
+        let f : total (firsts (pairsOf (getD l 0 0 - i) (drop (5 + i * 2) l))) ≡ a + total (firsts (pairsOf (getD l 0 0 - (i + 1)) (drop (5 + (i + 1) * 2) l))) = ap
+        (λ ps. total (firsts ps)) turn ∙ rw p in
+        let g : total (seconds (pairsOf (getD l 0 0 - i) (drop (5 + i * 2) l))) ≡ b + total (seconds (pairsOf (getD l 0 0 - (i + 1)) (drop (5 + (i + 1) * 2) l))) = ap
+        (λ ps. total (seconds ps)) turn ∙ rw q in
         record {
           within = omega arith;
           smalls = j .smalls ∙ ap allSmall turn ∙ rw (← p, ← q, s, t);

@@ -1,6 +1,6 @@
 -- Sums of words are sums of whole numbers: a word is the difference of what it adds and what it takes away, and such differences add up.
 use mathlib.Core.Path.{_≡_, refl, sym, ap, ap₂, _∙_}
-use mathlib.Core.Bool.{Bool, true, false, _&&_, cond}
+use mathlib.Core.Bool.{Bool, true, false, cond}
 use mathlib.Core.List.{List, [], _∷_}
 use Prim.Native.Nat.{ℕ, zero, suc, _+_, _-_, _*_, _%_, _^_, _<_, _≤_}
 use native.Mathlib.Omega.{arith}
@@ -14,7 +14,7 @@ use mir.Val.{toZ, ofZ}
 use mir.ValLaws.{ofZ-toZ}
 use Rattle.lists.proofs.Logic.{and-left, and-right}
 use Rattle.value.specs.Word.{minusIn, sizeIn}
-use Rattle.window.specs.Window.{Pair, firsts, seconds, total, sumIn, wholeOf, sumOf, heldIn, small, smallPair, allSmall, sumsOk, lawfulIn}
+use Rattle.window.specs.Window.{Pair, firsts, seconds, total, sumIn, wholeOf, sumOf, heldIn, small, smallPair, allSmall, lawfulIn}
 use Rattle.window.specs.Runs.{SumsExact}
 use Rattle.window.proofs.Laws.{lawful-few, pairs-length, sums-lawful, smalls-lawful}
 

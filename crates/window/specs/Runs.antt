@@ -1,12 +1,17 @@
 -- What holds of any run of records. 02, S-2: "From a start that zeroes it, with only these calls writing it under one W and pair, the two sums equal after each
 -- record those of the last W values, or of all while there are fewer."
 use mathlib.Core.Path.{_≡_}
-use mathlib.Core.Bool.{Bool, true}
+use mathlib.Core.Bool.{true}
 use mathlib.Core.List.{List, [], _∷_, _++_}
 use mathlib.Core.Logic.{_↔_}
-use Prim.Native.Nat.{ℕ, _^_, _≤_, _<_}
+use Prim.Native.Nat.{ℕ, _+_, _^_, _≤_, _<_}
 use lib.Dec.{eqb}
 use lib.ListN.{length, getD}
+use Rattle.layout.specs.Layout.{entries, dependsIn}
+use Rattle.walks.specs.Kinds.{kinds, start}
+use Rattle.walks.specs.Reading as R
+use Rattle.walks.specs.Records.{asking, outcome, decodeRecord, recordAsks}
+use Rattle.walks.specs.Records as Records
 use Rattle.window.specs.Window.{Pair, firsts, seconds, lastOf, sumIn, wholeOf, sumOf, heldIn, laid, small, started}
 use Rattle.window.specs.Calls.{lawfulAsks, windowAsks, Added, refused, added, addRecord, windowAfter}
 
@@ -50,6 +55,12 @@ module _ (l masks : List ℕ) (page w first second : ℕ) where
 abbrev pub RunsKept : Type 0
 RunsKept = (l masks : List ℕ) (page w first second work : ℕ) (lent : List ℕ) (gs : List Given)
     → windowAsks l masks page w first second (length lent) work ≡ 0 → Kept l masks page w first second lent gs
+
+-- Behind the questions before 24 the layout's are passed, so the reader refuses by its own alone: 4 of the record, or what its walk says.
+abbrev pub ReaderOwn : Type 0
+ReaderOwn = (l masks : List ℕ) (page w first second words : ℕ) (r : List ℕ) (items text work : ℕ) → windowAsks l masks page w first second words work ≡ 0
+    → decodeRecord l masks page r items text work
+    ≡ asking Records.refused (recordAsks l (length r) (dependsIn l)) (outcome (R.seq _+_ (kinds masks page [] text) r (entries l) 0 0 items start))
 
 -- Question 24 on a sum's word says that the word is the sum of the whole numbers, and nothing else: of at most 4,096 words of a lawful window.
 abbrev pub SumsExact : Type 0

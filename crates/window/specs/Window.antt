@@ -1,6 +1,6 @@
 -- 02, S-2: "The lent window is 2W + 5 64-bit words: count, both sums, two zeros, then the pairs held, oldest first."
 -- Numbers and sums are two's complement words, so a sum of words is taken modulo 2^64.
-use mathlib.Core.Bool.{Bool, true, false, _&&_, cond}
+use mathlib.Core.Bool.{Bool, true, _&&_}
 use mathlib.Core.List.{List, [], _∷_, _++_}
 use Prim.Native.Nat.{ℕ, zero, suc, _+_, _-_, _*_, _%_, _^_}
 use lib.Dec.{ltb, leb, eqb}

@@ -361,7 +361,8 @@ fn read_pair(
 ) -> Read
     ensures { λ r. ⌜
         PairRead (readInto (now (layout .entry)) (now (masks .entry)) page (now («record» .entry)) (now (items .entry)) (now (text .entry)) (now (counts .entry)))
-        (now (layout .entry)) first second (r .number) (r .first) (r .second) (now (items .entry)) (now (items .exit)) (now (text .entry)) (now (text .exit)) (now (counts .entry)) (now (counts .exit)) ⌝ }
+        (now (layout .entry)) first second (r .number) (r .first) (r .second)
+        (now (items .entry)) (now (items .exit)) (now (text .entry)) (now (text .exit)) (now (counts .entry)) (now (counts .exit)) ⌝ }
 {
     let r = decode_record(layout, masks, page, record, items, text, counts);
     let to = item_count(r.items);
@@ -450,8 +451,10 @@ pub fn window_add(
     counts: &mut [i64],
 ) -> Sums
     ensures { λ r. ⌜
-        WindowAdded (addedTo (now (layout .entry)) (now (masks .entry)) page (now («record» .entry)) w first second (now (window .entry)) (now (items .entry)) (now (text .entry)) (now (counts .entry)))
-        w (r .number) (r .first) (r .second) (now (window .entry)) (now (window .exit)) (now (items .entry)) (now (items .exit)) (now (text .entry)) (now (text .exit)) (now (counts .entry)) (now (counts .exit)) ⌝ }
+        WindowAdded
+        (addedTo (now (layout .entry)) (now (masks .entry)) page (now («record» .entry)) w first second (now (window .entry)) (now (items .entry)) (now (text .entry)) (now (counts .entry)))
+        w (r .number) (r .first) (r .second) (now (window .entry)) (now (window .exit))
+        (now (items .entry)) (now (items .exit)) (now (text .entry)) (now (text .exit)) (now (counts .entry)) (now (counts .exit)) ⌝ }
 {
     let asked = ask_add(layout, masks, page, w, first, second, window, counts.len());
     if asked != 0 {

@@ -1,3 +1,4 @@
+-- Each way out is one law of Asked: the earlier number, 24, or none.
 use mathlib.Core.Path.{sym, _∙_}
 use mathlib.Core.Bool.{true, false}
 use Prim.Native.Nat.{_-_}

@@ -1,3 +1,4 @@
+-- Each way out is one law of Places on question 18.
 use mathlib.Core.Path.{sym, _∙_}
 use mathlib.Core.Bool.{true, false}
 use Prim.Native.Nat.{_-_}

@@ -1,3 +1,4 @@
+-- Each way out is one law of Asked; that 2W + 5 fits a word follows from question 18 passed.
 use mathlib.Core.Path.{sym, _∙_}
 use Prim.Native.Nat.{_-_}
 use native.Mathlib.Omega.{arith}

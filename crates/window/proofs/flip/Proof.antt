@@ -1,3 +1,4 @@
+-- -1 - n of a signed number, by cases on its sign.
 use Prim.Native.Nat.{_-_}
 use mir.Syntax.{w64}
 use mir.ValLaws.{toZ-ofZ}

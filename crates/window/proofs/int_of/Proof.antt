@@ -1,3 +1,4 @@
+-- A word below 2^63 is its own number; any other is -1 less its distance from the greatest word.
 use mathlib.Core.Path.{ap, _∙_}
 use Prim.Native.Nat.{_-_}
 use native.Mathlib.Omega.{arith}
@@ -24,7 +25,8 @@ flip-requires : tie.Need-flip-requires
 flip-requires c κs = search needs
 
 returns-2 : tie.Need-returns-2
-returns-2 c = back (c .flip .result) (c .flip .ok) ∙ c .flip .ensures ∙ ap flipped (back (c .before .whole2 .result) (c .before .whole2 .ok) ∙ c .before .whole2 .ensures) ∙ int-negative _ (omega arith) (search needs)
+returns-2 c = back (c .flip .result) (c .flip .ok) ∙ c .flip .ensures ∙ ap flipped (back (c .before .whole2 .result) (c .before .whole2 .ok) ∙ c .before .whole2 .ensures) ∙ int-negative _
+    (omega arith) (search needs)
 
 pub int-of-spec : {M : Type 1} → statement M
 int-of-spec =

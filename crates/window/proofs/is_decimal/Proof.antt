@@ -1,3 +1,4 @@
+-- By the test of the two options, then that of the kind.
 use mathlib.Core.Path.{sym, _∙_}
 use mathlib.Core.Bool.{true, false}
 use Prim.Native.Nat.{_-_}

@@ -1,3 +1,4 @@
+-- By the size's contract; that the number is a word is known of its type.
 use mathlib.Core.Path.{ap}
 use Prim.Native.Nat.{_-_, _<_}
 use borrow.Author.Tests.{lt-ltb}

@@ -1,3 +1,4 @@
+-- By what place_of says of the number, then by the entry that is loaded.
 use mathlib.Core.Path.{sym, ap, _∙_}
 use mathlib.Core.Bool.{true, false}
 use Prim.Native.Nat.{_-_}

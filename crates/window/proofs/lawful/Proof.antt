@@ -1,3 +1,4 @@
+-- The loop judges the pairs one by one and adds them up: `Judging` says what is left to judge and to add behind the pairs passed.
 use mathlib.Core.Path.{refl, sym, ap, _∙_}
 use mathlib.Core.Bool.{true, false}
 use Prim.Native.Nat.{_-_}
@@ -75,7 +76,8 @@ returns-4 c =
     let at-if3 = c .before .before .before .before .before .before .before .if3 in
     let at-loop = c .before .before .before .before .before .loop in
     let at-loop-test = c .before .before .before .before .loop-test in
-    not-small _ _ (at-if1 .left) (at-if2 .left) (at-if3 .left) (judging-first _ _ _ _ (at-loop .inv) (at-loop-test .taken) _ _ refl refl (sym (c .before .is-small .ensures) ∙ not-true _ (c .if4 .taken)))
+    not-small _ _ (at-if1 .left) (at-if2 .left) (at-if3 .left)
+    (judging-first _ _ _ _ (at-loop .inv) (at-loop-test .taken) _ _ refl refl (sym (c .before .is-small .ensures) ∙ not-true _ (c .if4 .taken)))
 
 is-small-requires-2 : tie.Need-is-small-requires-2 Inv-loop μ-loop
 is-small-requires-2 c κs = search needs
@@ -89,7 +91,9 @@ returns-5 c =
     let at-loop-test = c .before .before .before .before .before .before .loop-test in
     let at-is-small = c .before .before .before .is-small in
     let at-if4 = c .before .before .if4 in
-    not-small _ _ (at-if1 .left) (at-if2 .left) (at-if3 .left) (judging-second _ _ _ _ (at-loop .inv) (at-loop-test .taken) _ _ refl refl (sym (at-is-small .ensures) ∙ not-false _ (at-if4 .left)) (sym (c .before .is-small2 .ensures) ∙ not-true _ (c .if5 .taken)))
+    not-small _ _ (at-if1 .left) (at-if2 .left) (at-if3 .left)
+    (judging-second _ _ _ _ (at-loop .inv) (at-loop-test .taken) _ _ refl refl (sym (at-is-small .ensures) ∙ not-false _ (at-if4 .left))
+    (sym (c .before .is-small2 .ensures) ∙ not-true _ (c .if5 .taken)))
 
 wrapping-add-u64-requires : tie.Need-wrapping-add-u64-requires Inv-loop μ-loop
 wrapping-add-u64-requires c κs = search needs
@@ -111,7 +115,8 @@ loop-again c =
     let at-if4 = c .before .before .before .before .if4 in
     let at-is-small2 = c .before .before .before .is-small2 in
     let at-if5 = c .before .before .if5 in
-    judging-goes _ _ _ _ (at-loop .inv) (at-loop-test .taken) _ _ refl refl (sym (at-is-small .ensures) ∙ not-false _ (at-if4 .left)) (sym (at-is-small2 .ensures) ∙ not-false _ (at-if5 .left)) _ _ (c .before .wrapping-add-u64 .ensures) (c .wrapping-add-u642 .ensures)
+    judging-goes _ _ _ _ (at-loop .inv) (at-loop-test .taken) _ _ refl refl (sym (at-is-small .ensures) ∙ not-false _ (at-if4 .left))
+    (sym (at-is-small2 .ensures) ∙ not-false _ (at-if5 .left)) _ _ (c .before .wrapping-add-u64 .ensures) (c .wrapping-add-u642 .ensures)
 
 shared-slice-read-if6 : tie.Need-shared-slice-read-if6 Inv-loop μ-loop
 shared-slice-read-if6 c = search needs
@@ -123,7 +128,8 @@ returns-6 c =
     let at-if3 = c .before .before .before .before .before .if3 in
     let at-loop = c .before .before .before .loop in
     let at-loop-test = c .before .before .loop-test in
-    not-first _ _ (at-if1 .left) (at-if2 .left) (at-if3 .left) (judged-small _ _ _ _ (at-loop .inv) (at-loop-test .left)) (λ e. c .if6 .taken (e ∙ judged-first _ _ _ _ (at-loop .inv) (at-loop-test .left)))
+    not-first _ _ (at-if1 .left) (at-if2 .left) (at-if3 .left) (judged-small _ _ _ _ (at-loop .inv) (at-loop-test .left))
+    (λ e. c .if6 .taken (e ∙ judged-first _ _ _ _ (at-loop .inv) (at-loop-test .left)))
 
 shared-slice-read-result : tie.Need-shared-slice-read-result Inv-loop μ-loop
 shared-slice-read-result c = search needs
@@ -136,7 +142,8 @@ returns-7 c =
     let at-if3 = c .before .before .before .before .before .before .if3 in
     let at-loop = c .before .before .before .before .loop in
     let at-loop-test = c .before .before .before .loop-test in
-    ap (eqb (getD (at-args .window .now) 2 0)) (sym (judged-second _ _ _ _ (at-loop .inv) (at-loop-test .left))) ∙ by-second _ _ (at-if1 .left) (at-if2 .left) (at-if3 .left) (judged-small _ _ _ _ (at-loop .inv) (at-loop-test .left)) (c .before .if6 .left ∙ sym (judged-first _ _ _ _ (at-loop .inv) (at-loop-test .left)))
+    ap (eqb (getD (at-args .window .now) 2 0)) (sym (judged-second _ _ _ _ (at-loop .inv) (at-loop-test .left))) ∙ by-second _ _ (at-if1 .left) (at-if2 .left) (at-if3 .left)
+    (judged-small _ _ _ _ (at-loop .inv) (at-loop-test .left)) (c .before .if6 .left ∙ sym (judged-first _ _ _ _ (at-loop .inv) (at-loop-test .left)))
 
 pub lawful-spec : {M : Type 1} → statement M
 lawful-spec =

@@ -1,3 +1,4 @@
+-- The loop is a copy of the words from 7 on to 5 on, which never reads a word that it has written.
 use mathlib.Core.Path.{_≡_, refl, _∙_}
 use Prim.Native.Nat.{zero, _+_, _-_, _≤_, _<_}
 use native.Mathlib.Omega.{arith}

@@ -1,3 +1,4 @@
+-- Each way out is one law of Places on the pair.
 use mathlib.Core.Path.{sym, ap, _∙_}
 use mathlib.Core.Bool.{true, false}
 use Prim.Native.Nat.{_-_}
@@ -38,7 +39,8 @@ returns-3 c =
     let at-if2 = c .before .before .before .before .before .if2 in
     let at-load = c .before .before .before .before .load in
     let at-load2 = c .before .before .before .load2 in
-    pair-scale _ _ _ (sym (at-is-summed .ensures) ∙ not-false _ (at-if1 .left)) (sym (at-is-summed2 .ensures) ∙ not-false _ (at-if2 .left)) (λ e. c .if3 .taken (ap scaleOf (at-load .ensures) ∙ e ∙ sym (ap scaleOf (at-load2 .ensures))))
+    pair-scale _ _ _ (sym (at-is-summed .ensures) ∙ not-false _ (at-if1 .left)) (sym (at-is-summed2 .ensures) ∙ not-false _ (at-if2 .left))
+    (λ e. c .if3 .taken (ap scaleOf (at-load .ensures) ∙ e ∙ sym (ap scaleOf (at-load2 .ensures))))
 
 returns-4 : tie.Need-returns-4
 returns-4 c =
@@ -48,7 +50,8 @@ returns-4 c =
     let at-if2 = c .before .before .before .before .before .if2 in
     let at-load = c .before .before .before .before .load in
     let at-load2 = c .before .before .before .load2 in
-    pair-other _ _ _ (sym (at-is-summed .ensures) ∙ not-false _ (at-if1 .left)) (sym (at-is-summed2 .ensures) ∙ not-false _ (at-if2 .left)) (sym (ap scaleOf (at-load .ensures)) ∙ c .if3 .left ∙ ap scaleOf (at-load2 .ensures))
+    pair-other _ _ _ (sym (at-is-summed .ensures) ∙ not-false _ (at-if1 .left)) (sym (at-is-summed2 .ensures) ∙ not-false _ (at-if2 .left))
+    (sym (ap scaleOf (at-load .ensures)) ∙ c .if3 .left ∙ ap scaleOf (at-load2 .ensures))
 
 pub pair-ok-spec : {M : Type 1} → statement M
 pair-ok-spec =

@@ -1,3 +1,4 @@
+-- The loop goes from one top-level entry to the next: `Going` says what is left to ask of the entries from there on.
 use mathlib.Core.Path.{_≡_, refl, ap, _∙_}
 use Prim.Native.Nat.{_-_}
 use native.Mathlib.Omega.{arith}
@@ -46,8 +47,11 @@ loop-again c =
     let at-loop = c .before .before .before .before .before .before .loop in
     let at-if1 = c .before .before .before .before .if1 in
     let at-load = c .before .before .before .load in
-    let at-items-for = c .before .before .items-for in
-    (at-loop .inv .0, going-goes _ _ _ _ (at-loop .inv .1) (omega arith) (at-if1 .left) (at-load .result) (at-load .ensures) _ _ (at-items-for .ensures) (c .end-of .ensures ∙ ap (endOf (at-load .result .span) (at-loop .i)) (at-loop .inv .0)))
+    let at-items-for = c .before .before .items-for in (
+      at-loop .inv .0,
+      going-goes _ _ _ _ (at-loop .inv .1) (omega arith) (at-if1 .left) (at-load .result) (at-load .ensures) _ _ (at-items-for .ensures)
+          (c .end-of .ensures ∙ ap (endOf (at-load .result .span) (at-loop .i)) (at-loop .inv .0)),
+    )
 
 returns-2 : tie.Need-returns-2 Inv-loop μ-loop
 returns-2 c = going-ends _ _ _ _ (c .before .loop .inv .1) (omega arith)

@@ -1,3 +1,4 @@
+-- Each of the two ways is one law of Steps, from what the stores leave.
 use mathlib.Core.Path.{ap}
 use Prim.Native.Nat.{_-_}
 use lib.ListN.{length, take}
@@ -97,7 +98,8 @@ returns-2 c =
     let at-wrapping-add-u643 = c .before .before .before .before .wrapping-add-u643 in
     let at-wrapping-add-u644 = c .before .before .before .wrapping-add-u644 in
     let at-put-head2 = c .before .before .put-head2 in
-    push-rolls _ _ _ _ (at-if1 .left) _ _ _ _ _ _ _ (at-move-down .ensures) (at-put-pair2 .ensures) (at-less .ensures) (at-less2 .ensures) (at-wrapping-add-u643 .ensures) (at-wrapping-add-u644 .ensures) (at-put-head2 .ensures)
+    push-rolls _ _ _ _ (at-if1 .left) _ _ _ _ _ _ _ (at-move-down .ensures) (at-put-pair2 .ensures) (at-less .ensures) (at-less2 .ensures) (at-wrapping-add-u643 .ensures)
+    (at-wrapping-add-u644 .ensures) (at-put-head2 .ensures)
 
 pub push-spec : {M : Type 1} → statement M
 push-spec =

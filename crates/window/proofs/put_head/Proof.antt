@@ -1,3 +1,4 @@
+-- Three stores at the front.
 use Prim.Native.Nat.{_-_}
 use native.Mathlib.Omega.{arith}
 use lib.ListN.{length, set, length-set}

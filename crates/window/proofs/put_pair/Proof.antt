@@ -1,3 +1,4 @@
+-- Two stores, one behind the other.
 use Prim.Native.Nat.{_-_}
 use native.Mathlib.Omega.{arith}
 use lib.ListN.{length, set, length-set}

@@ -1,3 +1,4 @@
+-- From what the reader leaves and what is taken out of its list: `pair-read`.
 use Prim.Native.Nat.{_-_}
 use lib.ListN.{length}
 use borrow.Author.Needs.{needs}
@@ -48,7 +49,8 @@ returns c =
     let at-word-at2 = c .before .before .before .before .before .before .before .before .word-at2 in
     let at-clear-items = c .before .before .before .before .before .before .clear-items in
     let at-clear-text = c .before .before .clear-text in
-    pair-read _ _ _ _ _ _ _ _ _ _ _ _ _ (at-decode-record .ensures) _ _ _ _ _ (at-item-count .ensures) (at-place-of .ensures .1) (at-place-of2 .ensures .1) (at-word-at .ensures) (at-word-at2 .ensures) _ _ (at-clear-items .ensures) (at-clear-text .ensures) (at-decode-record .kept .1 .1 .1 .1 .0) (at-decode-record .kept .1 .1 .1 .1 .1 .0)
+    pair-read _ _ _ _ _ _ _ _ _ _ _ _ _ (at-decode-record .ensures) _ _ _ _ _ (at-item-count .ensures) (at-place-of .ensures .1) (at-place-of2 .ensures .1) (at-word-at .ensures)
+    (at-word-at2 .ensures) _ _ (at-clear-items .ensures) (at-clear-text .ensures) (at-decode-record .kept .1 .1 .1 .1 .0) (at-decode-record .kept .1 .1 .1 .1 .1 .0)
 
 pub read-pair-spec : {M : Type 1} → statement M
 read-pair-spec =

@@ -1,3 +1,4 @@
+-- 19 of either value, or the pair pushed: `taken-big`, `taken-small`.
 use mathlib.Core.Path.{_≡_, sym, _∙_}
 use mathlib.Core.Bool.{true, false}
 use Prim.Native.Nat.{_-_}
@@ -67,7 +68,8 @@ returns-3 c =
     let at-push = c .before .before .before .before .before .before .push in
     let at-int-of = c .before .before .int-of in
     let h : smallPair (pair (at-args .a) (at-args .b)) ≡ true = rw (sym (at-is-small .ensures) ∙ not-false _ (at-if1 .left), sym (at-is-small2 .ensures) ∙ not-false _ (at-if2 .left)) in
-    taken-small _ _ _ (at-pre .0) (at-pre .1 .0) (at-pre .1 .1 .0) (at-pre .1 .1 .1) h _ (at-push .ensures) _ _ (back (at-int-of .result) (at-int-of .ok) ∙ at-int-of .ensures) (back (c .int-of2 .result) (c .int-of2 .ok) ∙ c .int-of2 .ensures)
+    taken-small _ _ _ (at-pre .0) (at-pre .1 .0) (at-pre .1 .1 .0) (at-pre .1 .1 .1) h _ (at-push .ensures) _ _ (back (at-int-of .result) (at-int-of .ok) ∙ at-int-of .ensures)
+    (back (c .int-of2 .result) (c .int-of2 .ok) ∙ c .int-of2 .ensures)
 
 pub take-pair-spec : {M : Type 1} → statement M
 take-pair-spec =

@@ -1,3 +1,4 @@
+-- A word below 2^63 is a signed number as it stands.
 use Prim.Native.Nat.{_-_}
 use mir.Syntax.{w64}
 use mir.Facts.{toZ-pos}

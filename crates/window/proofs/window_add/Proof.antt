@@ -1,3 +1,4 @@
+-- Three ways: refused before the record is read, by the reader, or judged; each is a law of Parts from its callees' contracts.
 use mathlib.Core.Path.{sym, _∙_}
 use Prim.Native.Nat.{_-_}
 use lib.ListN.{length, take}
@@ -42,7 +43,9 @@ returns c =
     let at-clear-items = c .before .before .before .before .before .before .before .before .before .before .clear-items in
     let at-clear-text = c .before .before .before .before .before .before .clear-text in
     let at-clear-counts = c .before .before .clear-counts in
-    add-refused (at-args .layout .now) (at-args .masks .now) (at-args .page) (at-args .«record» .now) (at-args .w) (at-args .first) (at-args .second) (at-args .window .now) (at-args .items .now) (at-args .text .now) (at-args .counts .now) _ _ _ (c .refused .ensures .1) (c .refused .ensures .0 ∙ at-ask-add .ensures) (λ z. at-if1 .taken (sym (c .refused .ensures .0) ∙ z)) _ _ _ (at-clear-items .ensures) (at-clear-text .ensures) (at-clear-counts .ensures)
+    add-refused (at-args .layout .now) (at-args .masks .now) (at-args .page) (at-args .«record» .now) (at-args .w) (at-args .first) (at-args .second) (at-args .window .now)
+    (at-args .items .now) (at-args .text .now) (at-args .counts .now) _ _ _ (c .refused .ensures .1) (c .refused .ensures .0 ∙ at-ask-add .ensures)
+    (λ z. at-if1 .taken (sym (c .refused .ensures .0) ∙ z)) _ _ _ (at-clear-items .ensures) (at-clear-text .ensures) (at-clear-counts .ensures)
 
 read-pair-requires : tie.Need-read-pair-requires
 read-pair-requires c κs = search needs
@@ -68,7 +71,9 @@ returns-2 c =
     let at-ask-add = c .before .before .before .before .before .before .before .before .before .before .before .before .before .ask-add in
     let at-if1 = c .before .before .before .before .before .before .before .before .before .before .before .before .if1 in
     let at-read-pair = c .before .before .before .before .before .before .before .before .read-pair in
-    add-unread (at-args .layout .now) (at-args .masks .now) (at-args .page) (at-args .«record» .now) (at-args .w) (at-args .first) (at-args .second) (at-args .window .now) (at-args .items .now) (at-args .text .now) (at-args .counts .now) _ _ _ (c .refused2 .ensures .1) (sym (at-ask-add .ensures) ∙ at-if1 .left) _ _ _ _ _ _ (at-read-pair .ensures) (c .refused2 .ensures .0) (c .before .if2 .taken)
+    add-unread (at-args .layout .now) (at-args .masks .now) (at-args .page) (at-args .«record» .now) (at-args .w) (at-args .first) (at-args .second) (at-args .window .now)
+    (at-args .items .now) (at-args .text .now) (at-args .counts .now) _ _ _ (c .refused2 .ensures .1) (sym (at-ask-add .ensures) ∙ at-if1 .left) _ _ _ _ _ _ (at-read-pair .ensures)
+    (c .refused2 .ensures .0) (c .before .if2 .taken)
 
 take-pair-requires : tie.Need-take-pair-requires
 take-pair-requires c κs =
@@ -76,8 +81,10 @@ take-pair-requires c κs =
     let at-ask-add = c .before .before .before .before .before .before .before .before .before .before .before .before .before .ask-add in
     let at-if1 = c .before .before .before .before .before .before .before .before .before .before .before .before .if1 in
     let z = asked-lawful _ _ _ (sym (at-ask-add .ensures) ∙ at-if1 .left) in
-    let few = asks-few (at-args .layout .now) (at-args .masks .now) (at-args .page) (at-args .w) (at-args .first) (at-args .second) (length (at-args .window .now)) (length (at-args .counts .now)) (z .0) in
-    let long = asks-long (at-args .layout .now) (at-args .masks .now) (at-args .page) (at-args .w) (at-args .first) (at-args .second) (length (at-args .window .now)) (length (at-args .counts .now)) (z .0) in
+    let few = asks-few (at-args .layout .now) (at-args .masks .now) (at-args .page) (at-args .w) (at-args .first) (at-args .second) (length (at-args .window .now))
+    (length (at-args .counts .now)) (z .0) in
+    let long = asks-long (at-args .layout .now) (at-args .masks .now) (at-args .page) (at-args .w) (at-args .first) (at-args .second) (length (at-args .window .now))
+    (length (at-args .counts .now)) (z .0) in
     (few .0, (few .1, (long, z .1)))
 
 same-length-9 : tie.Need-same-length-9
@@ -100,7 +107,9 @@ returns-3 c =
     let at-read-pair = c .before .before .before .before .before .before .before .before .before .before .before .read-pair in
     let at-if2 = c .before .before .before .before .if2 in
     let at-take-pair = c .before .before .take-pair in
-    add-judged (at-args .layout .now) (at-args .masks .now) (at-args .page) (at-args .«record» .now) (at-args .w) (at-args .first) (at-args .second) (at-args .window .now) (at-args .items .now) (at-args .text .now) (at-args .counts .now) (sym (at-ask-add .ensures) ∙ at-if1 .left) _ _ _ _ _ _ (at-read-pair .ensures) (at-if2 .left) _ _ _ _ (at-take-pair .ensures)
+    add-judged (at-args .layout .now) (at-args .masks .now) (at-args .page) (at-args .«record» .now) (at-args .w) (at-args .first) (at-args .second) (at-args .window .now)
+    (at-args .items .now) (at-args .text .now) (at-args .counts .now) (sym (at-ask-add .ensures) ∙ at-if1 .left) _ _ _ _ _ _ (at-read-pair .ensures) (at-if2 .left) _ _ _ _
+    (at-take-pair .ensures)
 
 pub window-add-spec : {M : Type 1} → statement M
 window-add-spec =

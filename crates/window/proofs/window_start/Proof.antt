@@ -1,3 +1,4 @@
+-- Refused, or the front cleared with the words behind it kept: `start-refused`, `start-done`.
 use mathlib.Core.Path.{refl, sym, _∙_}
 use Prim.Native.Nat.{_-_}
 use native.Mathlib.Omega.{arith}
@@ -28,13 +29,21 @@ mul-n : tie.Need-mul-n
 mul-n c =
     let at-args = c .before .before .before .before .before .before .before .before .args in
     let at-ask-window = c .before .before .before .before .ask-window in
-    omega (arith, asks-few (at-args .layout .now) (at-args .masks .now) (at-args .page) (at-args .w) (at-args .first) (at-args .second) (length (at-args .window .now)) (length (at-args .counts .now)) (sym (at-ask-window .ensures) ∙ c .if1 .left))
+    omega (
+      arith,
+      asks-few (at-args .layout .now) (at-args .masks .now) (at-args .page) (at-args .w) (at-args .first) (at-args .second) (length (at-args .window .now))
+          (length (at-args .counts .now)) (sym (at-ask-window .ensures) ∙ c .if1 .left),
+    )
 
 add-n : tie.Need-add-n
 add-n c =
     let at-args = c .before .before .before .before .before .before .before .before .args in
     let at-ask-window = c .before .before .before .before .ask-window in
-    omega (arith, asks-few (at-args .layout .now) (at-args .masks .now) (at-args .page) (at-args .w) (at-args .first) (at-args .second) (length (at-args .window .now)) (length (at-args .counts .now)) (sym (at-ask-window .ensures) ∙ c .if1 .left))
+    omega (
+      arith,
+      asks-few (at-args .layout .now) (at-args .masks .now) (at-args .page) (at-args .w) (at-args .first) (at-args .second) (length (at-args .window .now))
+          (length (at-args .counts .now)) (sym (at-ask-window .ensures) ∙ c .if1 .left),
+    )
 
 slice-relend-prefix-clear-items : tie.Need-slice-relend-prefix-clear-items
 slice-relend-prefix-clear-items c =
@@ -61,7 +70,8 @@ returns-2 c =
     let at-clear-counts = c .before .before .before .before .before .before .clear-counts in
     let at-if1 = c .before .before .before .before .if1 in
     let at-clear-items = c .before .before .clear-items in
-    start-done _ _ _ _ _ _ (at-ask-window .ensures) (at-clear-counts .ensures) (at-if1 .left) _ _ refl (asks-long _ _ _ _ _ _ _ _ (sym (at-ask-window .ensures) ∙ at-if1 .left)) (at-clear-items .ensures)
+    start-done _ _ _ _ _ _ (at-ask-window .ensures) (at-clear-counts .ensures) (at-if1 .left) _ _ refl (asks-long _ _ _ _ _ _ _ _ (sym (at-ask-window .ensures) ∙ at-if1 .left))
+    (at-clear-items .ensures)
 
 pub window-start-spec : {M : Type 1} → statement M
 window-start-spec =

@@ -1,3 +1,4 @@
+-- The loop steps over so many items of the top level; what is left to step over is kept equal.
 use mathlib.Core.Path.{_≡_, sym, ap, _∙_}
 use Prim.Native.Nat.{_-_, _≤_}
 use native.Mathlib.Omega.{arith}

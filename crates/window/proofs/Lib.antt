@@ -6,3 +6,4 @@ pub mod Places
 pub mod Asked
 pub mod Runs
 pub mod Parts
+pub mod Own

@@ -134,7 +134,6 @@ module _ (l masks : List ℕ) (page w first second : ℕ) where
             → run l masks page w first second gs (windowAfter w (laid qs b) x) ≡ laid (lastOf w (qs ++ (pairsIn x ++ acceptedIn l masks page w first second gs (windowAfter w (laid qs b) x)))) b
         go (refused n) ih = ih qs few
         go (added p) ih =
-            let rs : List Pair = lastOf w (qs ++ (p ∷ [])) in
             subst (λ m. run l masks page w first second gs m ≡ laid (lastOf w (qs ++ (p ∷ acceptedIn l masks page w first second gs m))) b) (sym (accepted-laid w b qs few p))
             (ih (lastOf w (qs ++ (p ∷ []))) (last-length w (qs ++ (p ∷ [])))
             ∙ ap (λ ps. laid ps b) (one-more w qs (acceptedIn l masks page w first second gs (laid (lastOf w (qs ++ (p ∷ []))) b)) p))

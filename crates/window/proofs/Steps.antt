@@ -119,7 +119,6 @@ module _ (l : List ℕ) (i first second : ℕ) (j : Judging l i first second) (h
 
     pub judging-goes : small a ≡ true → small b ≡ true → (x y : ℕ) → x ≡ (first + a) % 2 ^ 64 → y ≡ (second + b) % 2 ^ 64 → Judging l (i + 1) x y
     judging-goes s t x y u v =
-        let rest : List Pair = pairsOf (getD l 0 0 - (i + 1)) (drop (5 + (i + 1) * 2) l) in
         let f : total (firsts (pairsOf (getD l 0 0 - i) (drop (5 + i * 2) l))) ≡ a + total (firsts (pairsOf (getD l 0 0 - (i + 1)) (drop (5 + (i + 1) * 2) l))) = ap
         (λ ps. total (firsts ps)) turn ∙ rw p in
         let g : total (seconds (pairsOf (getD l 0 0 - i) (drop (5 + i * 2) l))) ≡ b + total (seconds (pairsOf (getD l 0 0 - (i + 1)) (drop (5 + (i + 1) * 2) l))) = ap

@@ -3,6 +3,7 @@ pub mod Window
 pub mod Pair
 pub mod Calls
 pub mod Runs
+pub mod Own
 pub mod Steps
 pub mod Parts
 pub mod Examples

@@ -6,7 +6,8 @@ use lib.Dec.{eqb}
 use lib.ListN.{take, getD}
 use borrow.Author.Needs.{needs}
 use borrow.Author.Tests.{not-true, not-false}
-use Rattle.window.proofs.Steps.{not-count, not-third, not-fourth, not-small, not-first, by-second, Judging, judging-starts, judging-first, judging-second, judging-goes, judged-small, judged-first, judged-second}
+use Rattle.window.proofs.Steps.{not-count, not-third, not-fourth, not-small, not-first, by-second}
+use Rattle.window.proofs.Steps.{Judging, judging-starts, judging-first, judging-second, judging-goes, judged-small, judged-first, judged-second}
 use Rattle.window.proofs.lawful.Statement.{statement}
 use Rattle.window.proofs.lawful.Tie as tie
 

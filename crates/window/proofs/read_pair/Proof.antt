@@ -42,7 +42,7 @@ same-length-3 c = search needs
 returns : tie.Need-returns
 returns c =
     let at-decode-record = c .before .before .before .before .before .before .before .before .before .before .before .before .before .before
-        .before .before .before .before .before .before .decode-record in
+    .before .before .before .before .before .before .decode-record in
     let at-item-count = c .before .before .before .before .before .before .before .before .before .before .before .before .before .before .item-count in
     let at-place-of = c .before .before .before .before .before .before .before .before .before .before .before .before .place-of in
     let at-word-at = c .before .before .before .before .before .before .before .before .before .before .before .word-at in

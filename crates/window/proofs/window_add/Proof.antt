@@ -102,7 +102,7 @@ same-length-12 c = search needs
 returns-3 : tie.Need-returns-3
 returns-3 c =
     let at-args = c .before .before .before .before .before .before .before .before .before .before .before .before .before .before .before
-        .before .before .before .before .before .before .before .before .before .args in
+    .before .before .before .before .before .before .before .before .before .args in
     let at-ask-add = c .before .before .before .before .before .before .before .before .before .before .before .before .before .before .before .before .ask-add in
     let at-if1 = c .before .before .before .before .before .before .before .before .before .before .before .before .before .before .before .if1 in
     let at-read-pair = c .before .before .before .before .before .before .before .before .before .before .before .read-pair in

@@ -63,6 +63,9 @@ impl Tally {
         self.all
     }
     /// Whether a case of a group was refused by a number.
+    pub fn cases_of(&self, group: &str) -> u64 {
+        self.groups.get(group).map_or(0, |g| g.cases)
+    }
     pub fn reached(&self, group: &str, number: u32) -> bool {
         self.groups.get(group).map_or(false, |g| g.refused.contains_key(&number))
     }

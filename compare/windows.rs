@@ -47,7 +47,7 @@ impl Call {
         let counts = words.len() / 6;
         Call { entries, words, masks, page, fails: 0, w: 3, first: 0, second: 1, counts, items: 1600, text: 3000, record: vec![] }
     }
-    /// The number of the question on the layout that fails, for the reader's own words to be asked at all.
+    /// Makes question 1, 2 or 3 fail; `fails` is the first of those that were made to.
     fn spoil(&mut self, question: u32) {
         match question {
             1 => self.page = 2,
@@ -553,11 +553,29 @@ fn neighbours(t: &mut Tally) {
     }
 }
 
+/// A full window of 4,096 pairs of the largest size, rolled.
+fn widest(t: &mut Tally) {
+    let packed = |name, offset| Entry { name, offset, width: 7, kind: Kind { kind: 7, p: 1, q: 1, r: 2, s: 0, mask: vec![] }, occurs: None, depending: None, members: vec![] };
+    let record = [[0x09, 0x99, 0x99, 0x99, 0x99, 0x99, 0x9C], [0x09, 0x99, 0x99, 0x99, 0x99, 0x99, 0x9D]].concat();
+    let c = Call { record, w: 4096, ..Call::under(vec![packed(0, 0), packed(1, 7)], 0) };
+    let mut pairs: Pairs = (0..4096).map(|_| (LIMIT - 1, 1 - LIMIT)).collect();
+    let mut window = laid(&pairs, &vec![7; 2 * 4096 + 6]);
+    for _ in 0..3 {
+        assert_eq!(add_both(t, &c, &mut window, Some(&mut pairs)), 0);
+    }
+}
+
+/// So many starts and so many records at least.
 pub fn random(t: &mut Tally, calls: u64, seed: u64) {
     let mut g = Random(seed.wrapping_mul(0x9E37_79B9_7F4A_7C15) | 1);
-    let end = t.cases() + calls;
     neighbours(t);
-    while t.cases() < end {
+    widest(t);
+    while t.cases_of("window start") < calls {
+        let c = new_call(&mut g);
+        let lent = words(&mut g, c.w);
+        let _ = start_both(t, &c, &lent);
+    }
+    while t.cases_of("window add") < calls {
         if g.below(3) == 0 {
             stranger(t, &mut g);
         } else {

@@ -42,8 +42,9 @@ uint32_t ff_encode_record(const uint32_t *layout, size_t layout_len, const uint8
                           uint8_t *record, size_t record_len, int64_t *counts, size_t counts_len, uint64_t *record_length);
 
 /* Starts a window: zeroes its 2 * w + 5 words; words behind these are left alone. A window keeps the sums of two Decimals over the last w accepted records:
- * count, both sums, two zeros, then the pairs held, oldest first, all as two's complement words. It is neither output nor work space: after a refusal it is
- * unchanged. `first` and `second` are the numbers, from 0 and all entries counted, of two unrepeated Decimals of the layout's top level with the same scale.
+ * count, both sums, two zeros, then the pairs held, oldest first; the sums and numbers are two's complement words, unscaled, at the entries' common scale. It
+ * is neither output nor work space: after a refusal it is unchanged. w is from 1 to 4,096; `first` and `second` are the numbers, from 0 and all entries
+ * counted, of two different unrepeated Decimals of the layout's top level with the same scale.
  * Asks 1, 2, 3, 16 (counts), 18, 16 (window). */
 uint32_t ff_window_start(const uint32_t *layout, size_t layout_len, const uint8_t *masks, size_t masks_len, uint32_t page,
                          uint64_t w, uint64_t first, uint64_t second, uint64_t *window, size_t window_len, int64_t *counts, size_t counts_len);

@@ -9,7 +9,7 @@ use lib.Dec.{eqb, leb, ltb}
 use lib.ListN.{length, getD, take, drop, set, replicate, length-drop}
 use lib.Seq.{drop-drop, getD-drop, getD-append-add, paste, paste-suc, length-paste-head}
 use borrow.Author.Tests.{lt-ltb, le-ltb, le-leb, lt-leb, eq-eqb, ne-eqb}
-use Rattle.window.specs.Window.{Pair, pair, firsts, seconds, pairsOf, total, sumIn, windowWords, heldIn, small, allSmall, lawfulIn, started}
+use Rattle.window.specs.Window.{pair, firsts, seconds, pairsOf, total, sumIn, windowWords, heldIn, small, allSmall, lawfulIn, started}
 use Rattle.window.specs.Steps.{putAt, downed, plus, less, headed, pushed}
 
 -- ---- stores

@@ -40,13 +40,15 @@ rolls : accepted 2 (pair 1 1) full ≡ 2 ∷ 8 ∷ 4 ∷ 0 ∷ 0 ∷ 7 ∷ 3 ∷
 unfolding accepted laid
 rolls = refl
 
--- lawful; then a count above W, a word that is not 0, a number of size 10^12, a sum that is not that of the pairs
-judged : lawfulIn 2 full ∷ lawfulIn 1 full
-    ∷ lawfulIn 2 (0 ∷ 0 ∷ 0 ∷ 0 ∷ 1 ∷ [])
-    ∷ lawfulIn 2 (1 ∷ 17446744073709551616 ∷ 0 ∷ 0 ∷ 0 ∷ 17446744073709551616 ∷ 0 ∷ [])
-    ∷ lawfulIn 2 (1 ∷ 5 ∷ 6 ∷ 0 ∷ 0 ∷ 5 ∷ 7 ∷ [])
+-- lawful, the last with 10^12 - 1 and its minus; then a count above W, either word that is not 0, a number of size 10^12 in either half, a sum of either half that is not that of the pairs
+judged : lawfulIn 2 full ∷ lawfulIn 2 (1 ∷ 999999999999 ∷ 18446743073709551617 ∷ 0 ∷ 0 ∷ 999999999999 ∷ 18446743073709551617 ∷ [])
+    ∷ lawfulIn 1 full
+    ∷ lawfulIn 2 (0 ∷ 0 ∷ 0 ∷ 1 ∷ 0 ∷ []) ∷ lawfulIn 2 (0 ∷ 0 ∷ 0 ∷ 0 ∷ 1 ∷ [])
+    ∷ lawfulIn 2 (1 ∷ 18446743073709551616 ∷ 0 ∷ 0 ∷ 0 ∷ 18446743073709551616 ∷ 0 ∷ [])
+    ∷ lawfulIn 2 (1 ∷ 0 ∷ 1000000000000 ∷ 0 ∷ 0 ∷ 0 ∷ 1000000000000 ∷ [])
+    ∷ lawfulIn 2 (1 ∷ 6 ∷ 7 ∷ 0 ∷ 0 ∷ 5 ∷ 7 ∷ []) ∷ lawfulIn 2 (1 ∷ 5 ∷ 6 ∷ 0 ∷ 0 ∷ 5 ∷ 7 ∷ [])
     ∷ []
-    ≡ true ∷ false ∷ false ∷ false ∷ false ∷ []
+    ≡ true ∷ true ∷ false ∷ false ∷ false ∷ false ∷ false ∷ false ∷ false ∷ []
 unfolding lawfulIn
 judged = refl
 
@@ -69,6 +71,15 @@ pairs : pairAsks scrap 2 3 5 ∷ pairAsks scrap 2 2 5 ∷ pairAsks scrap 2 3 4 �
     ≡ 0 ∷ 18 ∷ 18 ∷ 18 ∷ 18 ∷ 18 ∷ 18 ∷ []
 unfolding pairAsks pairOk summed isDecimal isTop tree treeIn size entryAt unrepeated
 pairs = refl
+
+-- packed fields of scales 1 and 2, one with occurs, one under depending, an Int, and a zoned field of scale 1
+abbrev others : List ℕ
+others = once 0 0 1 7 1 1 1 ++ once 1 1 1 7 1 1 2 ++ entry 2 2 1 7 2 absent 1 1 1 1 ++ entry 3 4 1 7 absent 0 1 1 1 1 ++ once 4 5 1 1 0 0 0 ++ once 5 6 1 7 2 1 1
+
+-- W of 1 and of 4,096; another scale, either table, and an Int
+more-pairs : pairAsks others 1 0 5 ∷ pairAsks others 4096 5 0 ∷ map (pairAsks others 2 0) (1 ∷ 2 ∷ 3 ∷ 4 ∷ []) ≡ 0 ∷ 0 ∷ 18 ∷ 18 ∷ 18 ∷ 18 ∷ []
+unfolding pairAsks pairOk summed isDecimal isTop tree treeIn size entryAt unrepeated
+more-pairs = refl
 
 -- 9 in the group, then 2, then -3: the pair is each entry's own item, though both have one name
 takes : addRecord scrap [] 0 (0x20 ∷ 0x9C ∷ 0x2C ∷ 0x20 ∷ 0x3D ∷ []) 2 3 5 full 16 0 12 ≡ added (pair 2 18446744073709551613)

@@ -1,4 +1,4 @@
--- That the value of an entry is its own: the item at its place in the list read carries the entry's name and what the entry's own bytes say.
+-- The item at an entry's place in the list read is one of the entry: it carries the entry's name and what bytes of the record, as many as the entry has, say under it.
 use mathlib.Core.Path.{_≡_}
 use mathlib.Core.Bool.{true}
 use mathlib.Core.List.{List, []}

@@ -51,7 +51,7 @@ unfoldable pub valuesFrom : ℕ → Values → Values
 valuesFrom zero vs = vs
 valuesFrom (suc k) vs = valuesFrom k (restOf vs)
 
--- the word of a list's k-th item at the top level; 0 where there is none
+-- the number of a list's k-th item at the top level, word three of it: of a Decimal the unscaled one; 0 where there is none
 unfoldable pub wordAt : ℕ → List ℕ → ℕ
 wordAt k ws = headOf (valuesFrom k (values ws 0 (itemCount ws))) .a
 

@@ -1,4 +1,4 @@
--- What the parts of the call leave: a record's pair read, and a pair taken into a window.
+-- What the parts of the call leave: a record's pair read, and a pair taken into a window. Only inner functions cite this file.
 use mathlib.Core.Path.{_≡_}
 use mathlib.Core.Bool.{cond}
 use mathlib.Core.List.{List}

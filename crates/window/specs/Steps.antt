@@ -1,4 +1,4 @@
--- What the code does to a window, word by word.
+-- What the code does to a window, word by word. Only inner functions cite this file.
 use mathlib.Core.Bool.{cond}
 use mathlib.Core.List.{List, _∷_, _++_}
 use Prim.Native.Nat.{ℕ, _+_, _-_, _*_, _%_, _^_}

@@ -1,5 +1,5 @@
--- What is written is read back, over any width; and each byte of a written field by its place.
-use mathlib.Core.Path.{_≡_, refl, _∙_, ap}
+-- What is written is read back, over any width; and a written field is the one of its length that holds its digits by place.
+use mathlib.Core.Path.{_≡_, refl, _∙_, ap, sym}
 use mathlib.Core.List.{List, [], _∷_, _++_}
 use mathlib.Core.Bool.{Bool, true, false, _&&_, false≢true}
 use Prim.Native.Nat.{ℕ, zero, suc, _+_, _-_, _*_, _/_, _%_, _^_, _<_}
@@ -8,6 +8,7 @@ use native.Mathlib.Omega.{arith}
 use native.Mathlib.Decide.{decLt}
 use lib.Dec.{ltb, lit<}
 use lib.ListN.{length, getD, take}
+use lib.Seq.{ext-getD}
 use borrow.Author.Tests.{lt-ltb}
 use Rattle.value.specs.Answer.{Answer, refused, given}
 use lib.IntN.{ℤ, pos}
@@ -18,7 +19,7 @@ use Rattle.value.proofs.Digits.{ok-digits, value-of-digits, digit-below, high-d
 use Rattle.value.proofs.Answers.{numberIn-fits}
 use Rattle.value.proofs.Field.{read-lawful}
 use Rattle.value.proofs.Room.{room-below}
-use Rattle.packed.specs.Packed.{nibbles, highOf, signed, isNegative, isSign, packedBy, decodeOf, pairs, signOf, encodedOf, fitsOf}
+use Rattle.packed.specs.Packed.{nibbles, highOf, signed, isNegative, isSign, packedBy, decodeOf, pairs, signOf, encodedOf, fitsOf, ByPlace}
 
 double : ℕ → ℕ
 double zero = zero
@@ -123,23 +124,6 @@ pub decoded : (w : ℕ) (negative : Bool) (size : ℕ) (signed : Bool) → fitsO
 unfolding decodeOf
 decoded w negative size signed h l = within limit w negative size signed h l
 
--- each byte but the last holds the two digits of its place, and the last one the units and the sign
-pub by-place : (w : ℕ) (negative : Bool) (size : ℕ) (signed : Bool) (i : ℕ) → i < w - 1
-    → getD (encodedOf w negative size signed) i 0 ≡ digitAt (2 * (w - 1 - i)) size * 16 + digitAt (2 * (w - 1 - i) - 1) size
-by-place zero negative size signed i h = absurd (omega arith)
-by-place (suc k) negative size signed i h =
-    let e : suc k - 1 ≡ k = omega arith in
-    rw (encoded-is k negative size signed (sign-small signed negative), e)
-    (field-at size (signOf signed negative) (sign-small signed negative) k i (omega arith))
-
-pub by-place-last : (w : ℕ) (negative : Bool) (size : ℕ) (signed : Bool) → 0 < w
-    → getD (encodedOf w negative size signed) (w - 1) 0 ≡ digitAt 0 size * 16 + signOf signed negative
-by-place-last zero negative size signed h = absurd (omega arith)
-by-place-last (suc k) negative size signed h =
-    let e : suc k - 1 ≡ k = omega arith in
-    rw (encoded-is k negative size signed (sign-small signed negative), e)
-    (field-last size (signOf signed negative) (sign-small signed negative) k)
-
 -- the same in ℤ, of a field with a sign: -0 is 0
 abbrev pub integerIn : Answer Whole → ℤ
 integerIn (given (number negative size)) = signedOf negative size
@@ -154,22 +138,54 @@ pub round-integer : (w : ℕ) (negative : Bool) (size : ℕ) → fitsOf w size �
     → integerIn (decodeOf (encodedOf w negative size true)) ≡ signedOf negative size
 round-integer w negative size h l = ap integerIn (decoded w negative size true h l) ∙ zero-unsigned negative size
 
--- a written field is as long as the field, and made of bytes
+-- a written field is as long as the field, holds its digits by place, and is made of bytes
 pub encoded-length : (w : ℕ) (negative : Bool) (size : ℕ) (signed : Bool) → 0 < w → length (encodedOf w negative size signed) ≡ w
 encoded-length zero negative size signed h = absurd (omega arith)
 encoded-length (suc k) negative size signed h =
     ap length (encoded-is k negative size signed (sign-small signed negative)) ∙ field-length size (signOf signed negative) (sign-small signed negative) k
 
+pub by-place : (w : ℕ) (negative : Bool) (size : ℕ) (signed : Bool) → 0 < w → ByPlace (encodedOf w negative size signed) size (signOf signed negative)
+by-place zero negative size signed h = absurd (omega arith)
+by-place (suc k) negative size signed h =
+    let e : length (field size (signOf signed negative) (sign-small signed negative) k) - 1 ≡ k = omega (arith, field-length size (signOf signed negative) (sign-small signed negative) k) in
+    rw (encoded-is k negative size signed (sign-small signed negative))
+    (record {
+      two = λ i to. rw e (field-at size (signOf signed negative) (sign-small signed negative) k i (omega arith));
+      last = rw e (field-last size (signOf signed negative) (sign-small signed negative) k);
+    })
+
+-- two fields of one length that hold a size and a sign by place are the same
+by-place-same : (size sign : ℕ) (a b : List ℕ) → length a ≡ length b → ByPlace a size sign → ByPlace b size sign → a ≡ b
+by-place-same size sign a b e p q = ext-getD 0 a b e (λ i to. at i to (decLt i (length a - 1)))
+  where
+    at : (i : ℕ) → i < length a → Dec (i < length a - 1) → getD a i 0 ≡ getD b i 0
+    at i to (yes h) = p .two i h ∙ sym (rw (← e) at (q .two i (omega arith)))
+    at i to (no h) =
+        let z : i ≡ length a - 1 = omega arith in
+        rw z (p .last ∙ sym (rw (← e) at (q .last)))
+
+-- so what is written by place is the encoded field
+pub by-place-encoded : (part : List ℕ) (negative : Bool) (size : ℕ) (signed : Bool) → 0 < length part → ByPlace part size (signOf signed negative)
+    → part ≡ encodedOf (length part) negative size signed
+by-place-encoded part negative size signed h p =
+    let e = encoded-length (length part) negative size signed h in
+    by-place-same size (signOf signed negative) part (encodedOf (length part) negative size signed) (sym e) p (by-place (length part) negative size signed h)
+
 pub encoded-byte : (w : ℕ) (negative : Bool) (size : ℕ) (signed : Bool) (i : ℕ) → i < w → getD (encodedOf w negative size signed) i 0 < 256
 encoded-byte w negative size signed i h = go (decLt i (w - 1))
   where
+    p : ByPlace (encodedOf w negative size signed) size (signOf signed negative)
+    p = by-place w negative size signed (omega arith)
+
     go : Dec (i < w - 1) → getD (encodedOf w negative size signed) i 0 < 256
     go (yes k) =
+        let e = encoded-length w negative size signed (omega arith) in
         let a = digit-below (2 * (w - 1 - i)) size in
         let b = digit-below (2 * (w - 1 - i) - 1) size in
-        rw (by-place w negative size signed i k) (omega arith)
+        rw (rw e at (p .two i (omega (arith, e)))) (omega arith)
     go (no k) =
-        let e : i ≡ w - 1 = omega arith in
+        let e = encoded-length w negative size signed (omega arith) in
+        let z : i ≡ w - 1 = omega arith in
         let a = digit-below 0 size in
         let s = sign-small signed negative in
-        rw (e, by-place-last w negative size signed (omega arith)) (omega arith)
+        rw (z, rw e at (p .last)) (omega arith)

@@ -2,13 +2,13 @@
 use mathlib.Core.Path.{_≡_, refl}
 use mathlib.Core.List.{[], _∷_}
 use mathlib.Core.Bool.{true, false}
-use Prim.Native.Nat.{_-_, _^_}
+use Prim.Native.Nat.{_+_, _-_, _*_, _^_}
 use lib.IntN.{pos, negsuc}
 use Rattle.value.specs.Answer.{refused}
-use Rattle.value.specs.Digits.{signedOf}
+use Rattle.value.specs.Digits.{digitAt, signedOf}
 use Rattle.value.specs.Field.{fieldOf}
 use Rattle.value.specs.Number.{some}
-use Rattle.packed.specs.Packed.{decodeOf, fitsOf, writtenOf}
+use Rattle.packed.specs.Packed.{decodeOf, fitsOf, writtenOf, signOf, twoAt}
 
 minus-12345 : decodeOf (0x12 ∷ 0x34 ∷ 0x5D ∷ []) ≡ some true 12345
 unfolding decodeOf fieldOf
@@ -48,6 +48,15 @@ ten-in-one = refl
 five-unsigned : writtenOf (0 ∷ []) true 5 false ≡ (0x5F ∷ [])
 unfolding writtenOf
 five-unsigned = refl
+
+first-by-place : twoAt 3 0 12345 ≡ 0x12
+first-by-place = refl
+
+middle-by-place : twoAt 3 1 12345 ≡ 0x34
+middle-by-place = refl
+
+last-by-place : digitAt 0 12345 * 16 + signOf true true ≡ 0x5D
+last-by-place = refl
 
 as-integer : signedOf true 12345 ≡ negsuc 12344
 as-integer = refl

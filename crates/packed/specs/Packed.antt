@@ -1,10 +1,11 @@
 -- What a packed field of any width says, and the bytes of a number in one.
 use mathlib.Core.List.{List, [], _∷_, _++_}
 use mathlib.Core.Bool.{Bool, _||_, cond}
-use Prim.Native.Nat.{ℕ, _+_, _-_, _*_, _/_, _%_}
+use mathlib.Core.Path.{_≡_}
+use Prim.Native.Nat.{ℕ, _+_, _-_, _*_, _/_, _%_, _<_}
 use lib.Dec.{leb, eqb}
-use lib.ListN.{length}
-use Rattle.value.specs.Digits.{digitsOf, limit, roomFor}
+use lib.ListN.{length, getD}
+use Rattle.value.specs.Digits.{digitAt, digitsOf, limit, roomFor}
 use Rattle.value.specs.Answer.{Answer}
 use Rattle.value.specs.Number.{Whole, readIn, unlawful}
 use Rattle.value.specs.Field.{fieldOf}
@@ -57,3 +58,12 @@ fitsOf w size = roomFor (2 * w - 1) size
 unfoldable pub writtenOf : List ℕ → Bool → ℕ → Bool → List ℕ
 writtenOf part negative size signed =
     cond (fitsOf (length part) size) (encodedOf (length part) negative size signed) part
+
+-- 02, S-3: "each byte is proved to hold its two digits by its place": counted from the right, byte k holds places 2 k and 2 k - 1, for place 0, the units, stands in the last byte
+abbrev pub twoAt : ℕ → ℕ → ℕ → ℕ
+twoAt w i size = digitAt (2 * (w - 1 - i)) size * 16 + digitAt (2 * (w - 1 - i) - 1) size
+
+-- "Over any width, each byte .. , the last its digit and sign"
+pub record ByPlace (part : List ℕ) (size sign : ℕ) : Type 0 where
+  pub two : (i : ℕ) → i < length part - 1 → getD part i 0 ≡ twoAt (length part) i size
+  pub last : getD part (length part - 1) 0 ≡ digitAt 0 size * 16 + sign

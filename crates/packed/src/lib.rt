@@ -3,11 +3,10 @@
 use value::Number;
 ghost use mathlib.Core.Path.{_≡_};
 ghost use lib.ListN.{length};
-ghost use mathlib.Core.List.{List, [], _∷_, _++_};
-ghost use Prim.Native.Nat.{ℕ, _+_, _-_, _*_, _<_, _≤_};
-ghost use Rattle.value.specs.Digits.{digitsOf};
+ghost use mathlib.Core.Bool.{true};
+ghost use Prim.Native.Nat.{_+_, _*_, _<_};
 ghost use Rattle.value.specs.Number.{readAs};
-ghost use Rattle.packed.specs.Packed.{decodeOf, fitsOf, writtenOf, signOf, isNegative, pairs};
+ghost use Rattle.packed.specs.Packed.{decodeOf, fitsOf, writtenOf, signOf, isNegative, ByPlace};
 
 // The number of a packed field.
 pub fn decode(part: &[u8]) -> Number
@@ -79,7 +78,7 @@ fn pair_of(high: u8, low: u8) -> u8
 // The low digits of a size and the sign, from the right.
 fn write(part: &mut [u8], size: u64, sign: u8)
     requires { ⌜ (0 < length (now part)) × (sign < 16) ⌝ }
-    ensures { λ r. ⌜ now (part .exit) ≡ pairs (digitsOf (2 * length (now (part .entry)) - 1) size ++ (sign ∷ [])) ⌝ }
+    ensures { λ r. ⌜ ByPlace (now (part .exit)) size sign ⌝ }
 {
     let w = part.len();
     let mut i = w - 1;
@@ -108,6 +107,7 @@ fn sign_of(signed: bool, negative: bool) -> u8
 // Writes a number into a packed field, and answers whether it fits; a field that it does not fit stays as it was.
 pub fn encode(part: &mut [u8], negative: bool, size: u64, signed: bool) -> bool
     ensures { λ r. ⌜ (r ≡ fitsOf (length (now (part .entry))) size) × (now (part .exit) ≡ writtenOf (now (part .entry)) negative size signed) ⌝ }
+    ensures { λ _. ⌜ (fitsOf (length (now (part .entry))) size ≡ true → ByPlace (now (part .exit)) size (signOf signed negative)) ⌝ }
 {
     let w = part.len();
     if fits(w, size) {

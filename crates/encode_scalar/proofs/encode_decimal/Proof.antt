@@ -29,7 +29,7 @@ same-length-2 c = search needs
 
 returns-2 : tie.Need-returns-2
 unfolding Packed.writtenOf
-returns-2 c = rw (ne-eqb _ _ (c .before .before .before .before .before .before .if1 .left), eq-eqb _ _ (c .before .before .before .before .before .if2 .taken), ← (c .before .before .before .flag .ensures)) (c .before .before .encode .ensures)
+returns-2 c = rw (ne-eqb _ _ (c .before .before .before .before .before .before .if1 .left), eq-eqb _ _ (c .before .before .before .before .before .if2 .taken), ← (c .before .before .before .flag .ensures)) (c .before .before .encode .ensures .0)
 
 flag-requires-2 : tie.Need-flag-requires-2
 flag-requires-2 c κs = search needs

@@ -1,36 +1,33 @@
+-- What fits is what write leaves, by place and so as the encoded field; else nothing is stored.
+use mathlib.Core.Path.{sym, _∙_}
+use mathlib.Core.Bool.{false≢true}
 use borrow.Author.Needs.{needs}
 use Rattle.packed.proofs.encode.Statement.{statement}
 use Rattle.packed.proofs.encode.Tie as tie
-use mathlib.Core.Path.{sym, _∙_}
 use Rattle.packed.proofs.Writing.{fits-some, written-fits, written-not}
 
--- src/lib.rt:106:8
 fits-requires : tie.Need-fits-requires
 fits-requires c κs = search needs
 
--- src/lib.rt:107:13
 sign-of-requires : tie.Need-sign-of-requires
 sign-of-requires c κs = search needs
 
--- src/lib.rt:108:9
 write-requires : tie.Need-write-requires
 write-requires c κs = (fits-some _ (c .before .before .before .before .before .args .size) (sym (c .before .before .before .fits2 .ensures) ∙ c .before .before .if1 .taken), c .before .sign-of .ensures .1)
 
--- src/lib.rt:109:9
 same-length : tie.Need-same-length
 same-length c = search needs
 
--- src/lib.rt:109:9
 returns : tie.Need-returns
 returns c =
     let f = sym (c .before .before .before .before .before .if1 .taken) ∙ c .before .before .before .before .before .before .fits2 .ensures in
-    (f, c .before .before .write .ensures ∙ rw (c .before .before .before .before .sign-of .ensures .0) (written-fits _ _ _ _ (sym f)))
+    let p = rw (c .before .before .before .before .sign-of .ensures .0) at (c .before .before .write .ensures) in
+    ((f, written-fits _ _ _ _ _ (sym f) (search needs) p), λ h. p)
 
--- src/lib.rt:102:1
 returns-2 : tie.Need-returns-2
 returns-2 c =
     let f = sym (c .if1 .left) ∙ c .before .fits2 .ensures in
-    (f, written-not _ _ _ _ (sym f))
+    ((f, written-not _ _ _ _ (sym f)), λ h. absurd (false≢true (f ∙ h)))
 
 pub encode-spec : {M : Type 1} → statement M
 encode-spec =

@@ -1,3 +1,4 @@
+-- From the right: the bytes from i on hold their digits by place, and rest is what is left of the size.
 use mathlib.Core.Path.{_≡_}
 use Prim.Native.Nat.{_-_, _<_}
 use native.Mathlib.Omega.{arith}
@@ -63,7 +64,7 @@ same-length c = c .before .loop .inv .1 .0
 returns : tie.Need-returns Inv-loop μ-loop
 returns c =
     let e : c .before .loop .i ≡ 0 = omega arith in
-    written-all _ _ _ _ _ (rw e at (c .before .loop .inv .1 .1))
+    written-all _ _ _ _ _ (c .before .loop .inv .1 .0) (rw e at (c .before .loop .inv .1 .1))
 
 pub write-spec : {M : Type 1} → statement M
 write-spec =

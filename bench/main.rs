@@ -6,6 +6,8 @@
 mod cases;
 #[path = "../compare/check.rs"]
 mod check;
+#[path = "../compare/embedded.rs"]
+mod embedded;
 #[path = "../compare/records.rs"]
 mod records;
 

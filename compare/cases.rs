@@ -1,6 +1,7 @@
 //! The inputs: all short fields, and random ones around every boundary.
 
 use crate::check::{read, write, Item, Kind, Tally};
+use crate::embedded;
 
 fn kind(kind: u32, p: u32, q: u32, r: u32, s: u32) -> Kind {
     Kind { kind, p, q, r, s, mask: vec![] }
@@ -187,6 +188,9 @@ pub fn width(g: &mut Random, k: &Kind) -> usize {
 
 /// Bytes that come near what the kind takes.
 pub fn bytes(g: &mut Random, k: &Kind, page: u32, w: usize) -> Vec<u8> {
+    if embedded::is(k) {
+        return embedded::bytes(g, page, w);
+    }
     let mut b: Vec<u8> = match (k.kind, k.p) {
         (7, 1) => (0..w).map(|i| if i + 1 == w { (g.below(10) * 16 + 10 + g.below(6)) as u8 } else { (g.below(10) * 16 + g.below(10)) as u8 }).collect(),
         (7, 2) => (0..w).map(|i| if i + 1 == w { g.pick(b"0123456789{}ABCDEFGHIJKLMNOPQR") } else { 48 + g.below(10) as u8 }).collect(),

@@ -1,5 +1,6 @@
-//! One field, by the port and by the Rust.
+//! One field, by the port and by the Rust; a signed Embedded Int by the port and by the model of embedded.rs.
 
+use crate::embedded;
 use rust::{decode, ebcdic, edited, encode, packed, zoned, Encoding, Endian, Field, FieldKind, Justify, Layout, NumRepr, SignKind, Value};
 use std::collections::BTreeMap;
 
@@ -100,12 +101,12 @@ impl Tally {
     }
     /// Prints the table; answers whether every difference is a listed one.
     pub fn print(&self, wanted: u64, seed: u64) -> bool {
-        println!("{:<16}{:>10}{:>10}   refused by number", "group", "cases", "accepted");
+        println!("{:<28}{:>10}{:>10}   refused by number", "group", "cases", "accepted");
         let mut listed: BTreeMap<&str, (u64, usize, &str)> = BTreeMap::new();
         let mut unlisted = 0;
         for (name, g) in &self.groups {
             let by: Vec<String> = g.refused.iter().map(|(n, c)| format!("{n}: {c}")).collect();
-            println!("{:<16}{:>10}{:>10}   {}", name, g.cases, g.accepted, by.join(", "));
+            println!("{:<28}{:>10}{:>10}   {}", name, g.cases, g.accepted, by.join(", "));
             for (rule, (c, size, input)) in &g.listed {
                 let l = listed.entry(rule).or_insert((0, usize::MAX, ""));
                 l.0 += c;
@@ -229,6 +230,12 @@ pub fn same(a: &Value, b: &Value) -> bool {
 
 /// What the port reads in a part, and how that stands to what the Rust reads there.
 pub fn reads(k: &Kind, pg: u32, part: &[u8]) -> (Result<Value, u32>, Seen) {
+    if embedded::is(k) {
+        let ours = port_reads(k, pg, part).map(|x| x.0);
+        let model = embedded::read(pg, part).map(Value::Int);
+        let seen = if ours == model { Seen::Listed(embedded::RULE) } else { Seen::Other(format!("port {ours:?}, model {model:?}")) };
+        return (ours, seen);
+    }
     let layout = Layout::from_fields(vec![field(k, part.len())]).unwrap();
     let ours = port_reads(k, pg, part);
     let theirs = decode::decode_record(&layout, part, page(pg)).map(|mut f| f.pop().map_or(Value::Null, |x| x.1));
@@ -270,6 +277,7 @@ pub fn read(t: &mut Tally, k: &Kind, pg: u32, part: &[u8]) {
             "read Edited"
         }
         7 => "read Display",
+        1 if embedded::is(k) => "read Int, signed Embedded",
         n => ["read Text", "read Int", "read Binary", "read Float", "read Hex", "read Bool", "read Pad"][n as usize],
     };
     t.note(group, ours.as_ref().err().copied().unwrap_or(0), seen, part.len(), || format!("reading {} {k:?} page {pg} bytes {part:02x?}", NAMES[k.kind as usize]));
@@ -328,11 +336,17 @@ pub fn writes(k: &Kind, pg: u32, width: usize, v: &Item) -> Option<(u32, Vec<u8>
     let mut buf = vec![0xAAu8; taken + 8];
     let n = unsafe { leaf_encode(buf[4..].as_mut_ptr(), taken, k.kind, k.p, k.q, k.r, k.s, k.mask.as_ptr(), k.mask.len(), pg, v.tag, v.a, v.b, v.text.as_ptr(), v.text.len()) };
     let judged = unsafe { leaf_judge(k.kind, k.p, k.q, k.r, k.s, k.mask.as_ptr(), k.mask.len(), width, v.tag, v.a, v.b, v.text.as_ptr(), v.text.len()) };
+    let untouched = buf[..4].iter().chain(&buf[4 + taken..]).all(|&b| b == 0xAA) && (n == 0 || buf.iter().all(|&b| b == 0xAA));
+    if embedded::is(k) {
+        let model = embedded::write(pg, width, v);
+        let same = untouched && judged == n && model.as_ref().map_or_else(|&m| m == n, |b| n == 0 && b[..] == buf[4..4 + taken]);
+        let seen = if same { Seen::Listed(embedded::RULE) } else { Seen::Other(format!("port {n} {:02x?}, judged {judged}, model {model:02x?}", &buf)) };
+        return Some((n, buf[4..4 + taken].to_vec(), seen));
+    }
     let mut layout = Layout::from_fields(vec![field(k, width)]).unwrap();
     layout.record_len = 0;
     let theirs = encode::encode_record(&layout, &[("F".into(), theirs_value.clone())], page(pg));
     let high = v.tag == 1 && v.text.iter().any(|&b| b >= 0x80);
-    let untouched = buf[..4].iter().chain(&buf[4 + taken..]).all(|&b| b == 0xAA) && (n == 0 || buf.iter().all(|&b| b == 0xAA));
     let size_at = |scale: i128, unscaled: i128, from: i128| if from < scale { unscaled.checked_mul(10i128.pow((scale - from) as u32)) } else { Some(unscaled / 10i128.pow((from - scale) as u32)) };
     let big = match theirs_value {
         Value::Int(i) => size_at(k.r as i128, i as i128, 0).map_or(true, |x| x.abs() >= LIMIT),
@@ -370,6 +384,7 @@ pub fn write(t: &mut Tally, k: &Kind, pg: u32, width: usize, v: &Item) {
         7 if k.p == 2 => "write zoned",
         7 => "write Display",
         8 => "write Edited",
+        1 if embedded::is(k) => "write Int, signed Embedded",
         n => ["write Text", "write Int", "write Binary", "write Float", "write Hex", "write Bool", "write Pad"][n as usize],
     };
     if v.tag == 3 && v.b == k.r as u64 && k.kind >= 7 {

@@ -4,6 +4,7 @@
 
 mod cases;
 mod check;
+mod embedded;
 mod records;
 mod store;
 mod trips;
@@ -29,6 +30,8 @@ fn main() {
     step("all short fields read", &tally);
     cases::write_short(&mut tally);
     step("all small values written", &tally);
+    embedded::random(&mut tally, 400_000, seed);
+    step("signed Embedded Ints", &tally);
     let left = cases.saturating_sub(tally.cases());
     cases::random(&mut tally, left.max(200_000), seed);
     step("random fields", &tally);

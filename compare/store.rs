@@ -5,11 +5,12 @@
 //!   D PAGE NUMBER   reading the record gives the list; a number but 0 refuses
 //!   E PAGE NUMBER   writing the list gives the record; a number but 0 refuses
 //! Values and bytes are the Rust's own. It gives no numbers: that of a refusal is the model's (records.rs). Cases that differ by a rule of docs/DIFFERENCES.md
-//! are left out.
+//! are left out, and so are layouts with a signed Embedded Int.
 
 use crate::cases::{any_kind, bytes, width, Random};
 use crate::records::{list, list_words, raw, rust_list, whole, written, Entry, Layouts};
 use crate::check::page;
+use crate::embedded;
 use rust::{decode, encode, Layout, Value};
 use std::collections::{BTreeMap, HashMap};
 use std::fmt::Write;
@@ -61,12 +62,19 @@ fn small(g: &mut Random) -> Vec<Entry> {
     vec![Entry { name: 0, offset: g.below(6).saturating_sub(4) as u32, width: w, kind: k, occurs, depending: None, members: vec![] }]
 }
 
+fn has_embedded(e: &Entry) -> bool {
+    embedded::is(&e.kind) || e.members.iter().any(has_embedded)
+}
+
 pub fn store(cases: u64, seed: u64) {
     let mut g = Random(seed.wrapping_mul(0x9E37_79B9_7F4A_7C15) | 1);
     let mut seen: BTreeMap<String, u64> = BTreeMap::new();
     let mut done = 0;
     while done < cases {
         let entries = small(&mut g);
+        if entries.iter().any(has_embedded) {
+            continue;
+        }
         let layout = Layout::from_fields(entries.iter().map(|e| e.field()).collect()).unwrap();
         let (mut words, mut masks) = (vec![], vec![]);
         entries.iter().for_each(|e| e.words(&mut words, &mut masks));

@@ -3,6 +3,7 @@
 
 use crate::cases::Random;
 use crate::check::{Item, Kind, Seen, Tally};
+use crate::embedded;
 use crate::records::{list_words, Entry, Node};
 use std::collections::HashMap;
 
@@ -150,6 +151,7 @@ fn value(g: &mut Random, e: &Entry) -> Item {
         }
         1 | 2 if controls && g.below(12) != 0 => item(2, g.below(5), 0),
         7 if controls && g.below(12) != 0 => item(3, g.below(5), 0),
+        1 if embedded::is(k) => item(2, { let (n, m) = (below_power(g, w), g.below(2) == 0); signed(n, m) }, 0),
         1 if k.q >= 2 && w >= 2 => item(2, { let (n, m) = (below_power(g, w - 1), g.below(2) == 0); signed(n, m) }, 0),
         1 => item(2, below_power(g, w), 0),
         2 => {
@@ -222,8 +224,24 @@ impl Lists {
     }
 }
 
+/// The values that fit a signed Embedded Int are those that the model writes.
+fn embedded_fits(t: &mut Tally, g: &mut Random) {
+    let mut counts = [7i64; 2];
+    for _ in 0..20_000 {
+        let w = g.below(25) as u32;
+        let v = embedded::value(g, w as usize);
+        let (mut words, items) = (vec![], [0, v.tag, v.a, v.b]);
+        Entry { name: 0, offset: 0, width: w, kind: embedded::FIELD, occurs: None, depending: None, members: vec![] }.words(&mut words, &mut vec![]);
+        let none = [0u8; 1];
+        let fits = unsafe { trip_is_fitting(words.as_ptr(), words.len(), none.as_ptr(), 0, items.as_ptr(), 4, none.as_ptr(), 0, counts.as_mut_ptr(), 2) } == 1;
+        let seen = if fits == embedded::write(0, w as usize, &v).is_ok() { Seen::Listed(embedded::RULE) } else { Seen::Other(format!("fitting: {fits}")) };
+        t.note(if fits { "fitting, signed Embedded" } else { "not, signed Embedded" }, 0, seen, w as usize, || format!("{v:?} width {w}"));
+    }
+}
+
 pub fn random(t: &mut Tally, cases: u64, seed: u64) {
     let mut g = Random(seed.wrapping_mul(0x9E37_79B9_7F4A_7C15) | 1);
+    embedded_fits(t, &mut g);
     let (mut record, mut counts, mut back, mut said) = (vec![0x55u8; 65_536], vec![7i64; 1024], vec![0x55u64; 40_000], vec![0x55u8; 65_536]);
     let mut done = 0;
     while done < cases {

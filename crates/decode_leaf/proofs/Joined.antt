@@ -2,7 +2,7 @@
 use mathlib.Core.Path.{_≡_, refl, ap, _∙_}
 use mathlib.Core.Bool.{Bool, true, false, _&&_, _||_, not, cond, false≢true}
 use mathlib.Core.Logic.{inl}
-use mathlib.Core.List.{List, [], _∷_, _++_, map}
+use mathlib.Core.List.{List, [], _∷_, _++_}
 use Prim.Native.Nat.{ℕ, zero, suc, _+_, _-_, _<_, _≤_}
 use native.Mathlib.Omega.{arith}
 use lib.Dec.{eqb, leb, ltb}
@@ -19,10 +19,8 @@ use Rattle.value.specs.Answer.{Answer, refused as refusedBy, given}
 use Rattle.value.specs.Number.{Whole, number}
 use Rattle.value.specs.declared.Scalar.{Scalar}
 use Rattle.value.specs.declared.Scalar.the-variants.{Null, Text, Int, Decimal, Float as FloatV, FloatBits, Bool as BoolV}
-use Rattle.ebcdic.specs.Ebcdic.{fromPage}
-use Rattle.display.specs.Display as Display
 use Rattle.binary.specs.Binary.{integerOf}
-use Rattle.decode_scalar.specs.Decode.{Says, refused, value, text, says, flag, intSays, decimalSays, decimalIn}
+use Rattle.decode_scalar.specs.Decode.{Says, refused, value, text, says, flag, intSays, intIn, decimalSays, decimalIn}
 use Rattle.walks.specs.Walk.{Many, times, atMost, bad, leaf, howMany}
 use Rattle.walks.specs.Kinds as W
 use Rattle.walks.specs.Kinds.{Count, State, start, countOf, noted, kinds}
@@ -61,7 +59,7 @@ unfolding says
 ranged kind p q r page bs h = go (eqb kind 1) (eqb kind 2) (eqb kind 7) refl refl refl h
   where
     go : (a b c : Bool) → eqb kind 1 ≡ a → eqb kind 2 ≡ b → eqb kind 7 ≡ c → (a || b || (c && eqb r 0)) ≡ true → Ranged (says kind p q r page bs)
-    go true b c e f g z = rw (eqb-true kind 1 e) (int-ranged (Display.intOf q (map (fromPage page) bs)) (int-small q (map (fromPage page) bs)))
+    go true b c e f g z = rw (eqb-true kind 1 e) (int-ranged (intIn p q page bs) (int-small p q page bs))
     go false true c e f g z = rw (eqb-true kind 2 f) (int-ranged (integerOf p (flag q) bs) (binary-small p (flag q) bs))
     go false false true e f g z = rw (eqb-true kind 7 g) (decimal-ranged r (decimalIn p q page bs) (decimal-small p q page bs))
     go false false false e f g z = absurd (false≢true z)

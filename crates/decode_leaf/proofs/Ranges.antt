@@ -22,7 +22,9 @@ use Rattle.binary.specs.Bytes.{wordIn}
 use Rattle.binary.proofs.Integers.{width-high}
 use Rattle.packed.specs.Packed as Packed
 use Rattle.zoned.specs.Zoned as Zoned
-use Rattle.decode_scalar.specs.Decode.{decimalIn}
+use Rattle.decode_scalar.specs.Decode as Decode
+use Rattle.decode_scalar.specs.Decode.{isEmbedded, embeddedOf, decimalIn}
+use Rattle.decode_scalar.proofs.Embedded.{embedded-all}
 
 -- a number that is not negative is below 2^63
 abbrev pub Small : Answer Whole → Type 0
@@ -60,12 +62,17 @@ whole-small t =
     by (eqb (getD t 0 0) 45) (digitsIn (2 ^ 63 + 1) true (drop 1 t)) _ (λ _. digits-minus (2 ^ 63 + 1) (drop 1 t)) (λ _.
     by (eqb (getD t 0 0) 43) (digitsIn (2 ^ 63) false (drop 1 t)) (digitsIn (2 ^ 63) false t) (λ _. digits-small (2 ^ 63) false (drop 1 t) (omega arith)) (λ _. digits-small (2 ^ 63) false t (omega arith)))
 
-pub int-small : (sign : ℕ) (s : List ℕ) → Small (intOf sign s)
+text-small : (sign : ℕ) (s : List ℕ) → Small (intOf sign s)
 unfolding intOf intIn
-int-small sign s =
+text-small sign s =
     by (eqb (length (trimmed (restOf sign (trimmed s)))) 0) (some false 0) _ (λ _ _. omega arith) (λ _.
     by (isSign (signAt sign (trimmed s))) (digitsIn (2 ^ 63) (eqb (signAt sign (trimmed s)) 45) (trimmed (restOf sign (trimmed s)))) (wholeOf (trimmed (restOf sign (trimmed s))))
     (λ _. digits-small (2 ^ 63) (eqb (signAt sign (trimmed s)) 45) (trimmed (restOf sign (trimmed s))) (omega arith)) (λ _. whole-small (trimmed (restOf sign (trimmed s)))))
+
+pub int-small : (p q page : ℕ) (part : List ℕ) → Small (Decode.intIn p q page part)
+int-small p q page part =
+    let s = map (fromPage page) part in
+    by (isEmbedded p q) (embeddedOf s) (intOf q s) (λ _. embedded-all Small s (λ negative v. number-small (2 ^ 63) negative v (omega arith)) tt (text-small 1 s)) (λ _. text-small q s)
 
 half-small : (n : ℕ) → n ≤ 8 → 256 ^ n / 2 ≤ 9223372036854775808
 half-small zero h = omega arith

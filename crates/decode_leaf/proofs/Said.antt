@@ -17,8 +17,6 @@ use Rattle.value.specs.Number.{Whole, number}
 use Rattle.value.proofs.Answers.{Numbered}
 use Rattle.ebcdic.specs.Ebcdic.{fromPage}
 use Rattle.text.specs.Text.{readText, front}
-use Rattle.display.specs.Display as Display
-use Rattle.display.proofs.Numbered.{int-numbered}
 use Rattle.binary.specs.Binary.{integerOf, boolOf}
 use Rattle.binary.proofs.Integers.{integer-numbered}
 use Rattle.float.specs.Field.{floatIn, fieldOk, wordFor}
@@ -28,8 +26,8 @@ use lib.Ieee.{binary64, ofBits, nanBits}
 use Rattle.hex.specs.Hex.{hexOf}
 use Rattle.edited.specs.Edited as Edited
 use Rattle.edited.proofs.Round as EditedRound
-use Rattle.decode_scalar.specs.Decode.{Says, refused, value, text, says, flag, intSays, decimalSays, floatSays, decimalIn, answerOf, textAfter}
-use Rattle.decode_scalar.proofs.Answers.{decimal-numbered}
+use Rattle.decode_scalar.specs.Decode.{Says, refused, value, text, says, flag, intSays, decimalSays, floatSays, intIn, decimalIn, answerOf, textAfter}
+use Rattle.decode_scalar.proofs.Answers.{int-numbered, decimal-numbered}
 use Rattle.layout.specs.Layout.{controls}
 use Rattle.walks.specs.Walk.{Leaf, bad, leaf}
 use Rattle.decode_leaf.specs.Counts.{noteIn, setAll}
@@ -72,7 +70,7 @@ pub matches : (kind p q r page : ℕ) (bs : List ℕ) → Matches (says kind p q
 unfolding says
 matches kind p q r page bs =
     by (eqb kind 0) (text (readText page (flag p) (flag q) (r % 256) bs)) _ tt (
-    by (eqb kind 1) (intSays (Display.intOf q (map (fromPage page) bs))) _ (int-matches (Display.intOf q (map (fromPage page) bs)) (int-numbered q (map (fromPage page) bs))) (
+    by (eqb kind 1) (intSays (intIn p q page bs)) _ (int-matches (intIn p q page bs) (int-numbered p q page bs)) (
     by (eqb kind 2) (intSays (integerOf p (flag q) bs)) _ (int-matches (integerOf p (flag q) bs) (integer-numbered p (flag q) bs)) (
     by (eqb kind 3) (floatSays (floatIn p q bs)) _ (float-matches p q bs) (
     by (eqb kind 4) (text (hexOf p bs)) _ tt (

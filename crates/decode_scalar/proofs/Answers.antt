@@ -2,14 +2,15 @@
 use mathlib.Core.Path.{_≡_, refl, sym, _∙_}
 use mathlib.Core.List.{List, map}
 use mathlib.Core.Bool.{Bool, true, false, cond}
-use Prim.Native.Nat.{ℕ}
+use Prim.Native.Nat.{ℕ, _^_}
+use native.Mathlib.Omega.{arith}
 use lib.Dec.{eqb, leb}
 use lib.ListN.{length}
 use Rattle.value.specs.declared.Scalar.{Scalar}
 use Rattle.value.specs.declared.Scalar.the-variants.{Text}
 use Rattle.value.specs.Answer.{Answer, refused, given}
 use Rattle.value.specs.Number.{Whole, number}
-use Rattle.value.proofs.Answers.{Numbered, numbered-cond}
+use Rattle.value.proofs.Answers.{Numbered, numbered-cond, numbered-in}
 use Rattle.ebcdic.specs.Ebcdic.{fromPage}
 use Rattle.text.specs.Text.{putOf}
 use Rattle.display.specs.Display as Display
@@ -18,7 +19,8 @@ use Rattle.packed.specs.Packed as Packed
 use Rattle.packed.proofs.Reading as PackedReading
 use Rattle.zoned.specs.Zoned as Zoned
 use Rattle.zoned.proofs.Reading as ZonedReading
-use Rattle.decode_scalar.specs.Decode.{Says, text, intSays, decimalSays, floatSays, decimalIn, answerOf, textAfter}
+use Rattle.decode_scalar.specs.Decode.{Says, text, intSays, decimalSays, floatSays, isEmbedded, embeddedOf, intIn, decimalIn, answerOf, textAfter}
+use Rattle.decode_scalar.proofs.Embedded.{embedded-all}
 
 -- what is no text does not depend on the buffer, and leaves it
 pub record Plain (s : Says) : Type 0 where
@@ -54,7 +56,14 @@ put-answer t out = by (leb (length t) (length out))
     by true = refl
     by false = refl
 
--- what refuses a Decimal field of either form is a question
+-- what refuses an Int field, and a Decimal field of either form, is a question
+pub int-numbered : (p q page : ℕ) (part : List ℕ) → Numbered (intIn p q page part)
+int-numbered p q page part =
+    let s = map (fromPage page) part in
+    numbered-cond (isEmbedded p q) (embeddedOf s) (Display.intOf q s)
+    (embedded-all Numbered s (λ negative v. numbered-in 9 (2 ^ 63) negative v (λ e. omega arith)) (λ e. omega arith) (DisplayNumbered.int-numbered 1 s))
+    (DisplayNumbered.int-numbered q s)
+
 pub decimal-numbered : (p q page : ℕ) (part : List ℕ) → Numbered (decimalIn p q page part)
 decimal-numbered p q page part =
     numbered-cond (eqb p 0) (Display.decimalOf q (map (fromPage page) part)) _ (DisplayNumbered.decimal-numbered q (map (fromPage page) part))

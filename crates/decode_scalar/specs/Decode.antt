@@ -1,16 +1,20 @@
 -- What the bytes of a scalar field say, by its kind: the table of kinds and their words p, q, r.
 use mathlib.Core.List.{List, map}
-use mathlib.Core.Bool.{Bool, not, cond}
-use Prim.Native.Nat.{ℕ, _%_}
+use mathlib.Core.Bool.{Bool, not, _&&_, _||_, cond}
+use Prim.Native.Nat.{ℕ, _-_, _%_, _^_}
 use lib.Dec.{eqb, leb}
-use lib.ListN.{length}
+use lib.ListN.{length, take}
 use Rattle.codes.specs.Codes.{kindText, kindInt, kindBinary, kindFloat, kindHex, kindBool, kindDecimal, kindEdited}
+use Rattle.lists.specs.Scan.{everyBy}
 use Rattle.value.specs.declared.Scalar.{Scalar}
 use Rattle.value.specs.declared.Scalar.the-variants.{Null, Text, Int, Bool as BoolV}
 use Rattle.value.specs.Answer.{Answer, refused as refusedBy, given}
-use Rattle.value.specs.Number.{Whole, number}
+use Rattle.value.specs.Digits.{isDigit}
+use Rattle.value.specs.Field.{lastOf}
+use Rattle.value.specs.Number.{Whole, number, readIn, unlawful}
 use Rattle.value.specs.Scalar.{decimal}
 use Rattle.ebcdic.specs.Ebcdic.{fromPage}
+use Rattle.numerals.specs.Numerals.{trimmed}
 use Rattle.text.specs.Text.{readText, front}
 use Rattle.display.specs.Display as Display
 use Rattle.binary.specs.Binary.{integerOf, boolOf}
@@ -44,7 +48,29 @@ abbrev pub floatSays : Answer Scalar → Says
 floatSays (refusedBy question) = refused question
 floatSays (given v) = value v
 
--- "p 0 Display 1 Comp3 2 Zoned, q sign"
+-- ---- Int: "p signed 0/1, q sign". 02, S-4: "Signed Embedded Ints"
+
+abbrev pub isEmbedded : ℕ → ℕ → Bool
+isEmbedded p q = flag p && eqb q 1
+
+-- 02, S-4: "one of { } A to R"
+abbrev pub isOverpunched : ℕ → Bool
+isOverpunched b = (leb 0x41 b && leb b 0x52) || (eqb b 0x7B || eqb b 0x7D)
+
+-- 02, S-4: "a trimmed field of digits whose last byte is one of { } A to R"
+abbrev pub isZoned : List ℕ → Bool
+isZoned t = everyBy isDigit (take (length t - 1) t) && isOverpunched (lastOf t)
+
+-- 02, S-4: "Reading takes a trimmed field of digits whose last byte is one of { } A to R as a zoned number, and any other field as before;
+-- a size above 2^63 − 1 so read is refused with 9"
+unfoldable pub embeddedOf : List ℕ → Answer Whole
+embeddedOf s = cond (isZoned (trimmed s)) (Zoned.zonedBy (readIn (2 ^ 63)) unlawful (trimmed s)) (Display.intOf 1 s)
+
+abbrev pub intIn : ℕ → ℕ → ℕ → List ℕ → Answer Whole
+intIn p q page part = cond (isEmbedded p q) (embeddedOf (map (fromPage page) part)) (Display.intOf q (map (fromPage page) part))
+
+-- ---- Decimal: "p 0 Display 1 Comp3 2 Zoned, q sign"
+
 abbrev pub decimalIn : ℕ → ℕ → ℕ → List ℕ → Answer Whole
 decimalIn p q page part =
     cond (eqb p 0) (Display.decimalOf q (map (fromPage page) part))
@@ -55,7 +81,7 @@ decimalIn p q page part =
 unfoldable pub says : ℕ → ℕ → ℕ → ℕ → ℕ → List ℕ → Says
 says kind p q r page part =
     cond (eqb kind kindText) (text (readText page (flag p) (flag q) (r % 256) part))
-    (cond (eqb kind kindInt) (intSays (Display.intOf q (map (fromPage page) part)))
+    (cond (eqb kind kindInt) (intSays (intIn p q page part))
     (cond (eqb kind kindBinary) (intSays (integerOf p (flag q) part))
     (cond (eqb kind kindFloat) (floatSays (floatIn p q part))
     (cond (eqb kind kindHex) (text (hexOf p part))

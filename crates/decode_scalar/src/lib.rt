@@ -17,13 +17,14 @@ ghost use mathlib.Core.List.{map};
 ghost use Prim.Native.Nat.{ℕ, _%_, _<_};
 ghost use lib.ListN.{length};
 ghost use Rattle.value.specs.Answer.{given};
+ghost use Rattle.value.specs.Field.{lastOf};
 ghost use Rattle.value.specs.Number.{readAs};
 ghost use Rattle.float.specs.Field.{parsedAs};
 ghost use Rattle.ebcdic.specs.Ebcdic.{fromPage};
 ghost use Rattle.text.specs.Text.{readText};
 ghost use Rattle.hex.specs.Hex.{hexOf};
 ghost use Rattle.decode_scalar.specs.Decode as Decode;
-ghost use Rattle.decode_scalar.specs.Decode.{says, answerOf, decodedAs, textAfter, intSays, decimalSays, floatSays, decimalIn};
+ghost use Rattle.decode_scalar.specs.Decode.{says, answerOf, decodedAs, textAfter, intSays, decimalSays, floatSays, isEmbedded, isOverpunched, embeddedOf, intIn, decimalIn};
 
 // What reading a scalar field answers: its value, a Text lying at the front of the text buffer; or the number of the question that refuses it.
 pub enum Decoded {
@@ -72,6 +73,62 @@ fn float_answer(f: Parsed) -> Decoded
         Parsed::Value(v) => Decoded::Value(v),
         Parsed::Bad => Decoded::Refused(8),
     }
+}
+
+// A signed Int with an embedded sign.
+pub fn is_embedded(p: u32, q: u32) -> bool
+    ensures { λ r. ⌜ r ≡ isEmbedded p q ⌝ }
+{
+    if p == 0 {
+        return false;
+    }
+    q == 1
+}
+
+fn is_overpunched(b: u8) -> bool
+    ensures { λ r. ⌜ r ≡ isOverpunched b ⌝ }
+{
+    if b < 0x41 {
+        return false;
+    }
+    if b < 0x53 {
+        return true;
+    }
+    if b == 0x7B {
+        return true;
+    }
+    b == 0x7D
+}
+
+fn ends_overpunched(part: &[u8], page: u32) -> bool
+    ensures { λ r. ⌜ r ≡ isOverpunched (lastOf (map (fromPage page) (now (part .entry)))) ⌝ }
+{
+    let n = part.len();
+    if n == 0 {
+        return false;
+    }
+    let b = part[n - 1];
+    is_overpunched(ebcdic::from_page(page, b))
+}
+
+// The number of a signed Embedded Int: of a zoned field where an overpunched byte stands last.
+fn parse_embedded(part: &[u8], page: u32) -> Number
+    ensures { λ r. ⌜ readAs r ≡ embeddedOf (map (fromPage page) (now (part .entry))) ⌝ }
+{
+    let t = numerals::trim(part, page);
+    if ends_overpunched(t, page) {
+        return zoned::decode_within(t, page, 9223372036854775808);
+    }
+    display::parse_display_int(part, page, 1)
+}
+
+fn parse_int(part: &[u8], page: u32, p: u32, q: u32) -> Number
+    ensures { λ r. ⌜ readAs r ≡ intIn p q page (now (part .entry)) ⌝ }
+{
+    if is_embedded(p, q) {
+        return parse_embedded(part, page);
+    }
+    display::parse_display_int(part, page, q)
 }
 
 fn parse_decimal(part: &[u8], page: u32, p: u32, q: u32) -> Number
@@ -127,7 +184,7 @@ pub fn decode_scalar(
 {
     match kind {
         KIND_TEXT => read_text(part, page, flag(p), flag(q), low_byte(r), text),
-        KIND_INT => int_scalar(display::parse_display_int(part, page, q)),
+        KIND_INT => int_scalar(parse_int(part, page, p, q)),
         KIND_BINARY => int_scalar(binary::parse_binary_int(part, p, flag(q))),
         KIND_FLOAT => float_answer(float::parse_float(part, q, p)),
         KIND_HEX => read_hex(part, p, text),

@@ -13,7 +13,7 @@ use Rattle.value.specs.Number.{Whole, number}
 use Rattle.value.proofs.Answers.{Numbered}
 use Rattle.text.specs.Shown.{Shows, shows, none, textIn, refusalAt}
 use Rattle.text.proofs.Back.{written-length, padded-length}
-use Rattle.display.specs.Display.{wholeIn, intFits}
+use Rattle.display.specs.Display.{wholeIn}
 use Rattle.display.proofs.Numbered.{in-whole-numbered}
 use Rattle.float.specs.Convert.{floatedOf, decimalFor}
 use Rattle.float.proofs.Numbered.{floated-numbered, for-numbered}
@@ -21,7 +21,8 @@ use Rattle.hex.proofs.Back as HexBack
 use Rattle.edited.specs.Edited as Edited
 use Rattle.edited.proofs.Round as EditedRound
 use Rattle.decode_scalar.specs.Decode.{flag}
-use Rattle.encode_scalar.specs.Encode.{textBytes, intJudged, intWritten, binaryJudged, binaryWritten, floatJudged, floatWritten, hexText, hexJudged, hexWritten, decimalFit, decimalJudged, decimalWritten, editedWritten, numberJudged, numberBytes, judgedOf, bytesOf}
+use Rattle.encode_scalar.specs.Encode.{textBytes, intFit, intJudged, intWritten, binaryJudged, binaryWritten, floatJudged, floatWritten, hexText, hexJudged, hexWritten}
+use Rattle.encode_scalar.specs.Encode.{decimalFit, decimalJudged, decimalWritten, editedWritten, numberJudged, numberBytes, judgedOf, bytesOf}
 use Rattle.encode_scalar.proofs.Parts.{int-length, binary-length, float-length, decimal-length}
 use Rattle.encode_leaf.specs.Machine.{putting}
 
@@ -39,9 +40,9 @@ text-wide : (page : ℕ) (right : Bool) (pad w : ℕ) (s : Shows) → refusalAt 
 text-wide page right pad w (shows t) h = written-length page right pad w t (leb-true (length t) w (passed (leb (length t) w) h))
 text-wide page right pad w none h = absurd (omega (arith, h))
 
-int-wide : (page w : ℕ) (signed : Bool) (sign : ℕ) (n : Answer Whole) → Numbered n → intJudged w signed sign n ≡ 0 → length (intWritten page w sign n) ≡ w
-int-wide page w signed sign (given (number negative size)) z h = int-length page w negative size signed sign (passed (intFits w negative size signed sign) h)
-int-wide page w signed sign (refused question) z h = absurd (z h)
+int-wide : (p q page w : ℕ) (n : Answer Whole) → Numbered n → intJudged p q w n ≡ 0 → length (intWritten p q page w n) ≡ w
+int-wide p q page w (given (number negative size)) z h = int-length p q page w negative size (passed (intFit p q w negative size) h)
+int-wide p q page w (refused question) z h = absurd (z h)
 
 binary-wide : (order w : ℕ) (n : Answer Whole) → Numbered n → binaryJudged w n ≡ 0 → length (binaryWritten order w n) ≡ w
 binary-wide order w (given (number negative size)) z h = binary-length order w negative size
@@ -118,7 +119,7 @@ module _ (p q r s : ℕ) (mask : List ℕ) (page w tag : ℕ) (v : Scalar) (t : 
   unfolding judgedOf bytesOf numberJudged numberBytes
   wide = by-kind Wide
       (λ h. text-wide page (flag p) (r % 256) w (textIn v t) h)
-      (λ h. int-wide page w (flag p) q (wholeIn v t) (in-whole-numbered v t) (tagged (leb 6 tag) _ h))
+      (λ h. int-wide p q page w (wholeIn v t) (in-whole-numbered v t) (tagged (leb 6 tag) _ h))
       (λ h. binary-wide p w (wholeIn v t) (in-whole-numbered v t) (tagged (leb 6 tag) _ h))
       (λ h. float-wide p q w (floatedOf v) (floated-numbered v) (tagged (leb 6 tag) _ h))
       (λ h. hex-wide p w (hexText v t) (tagged (leb 6 tag) _ h))

@@ -2,13 +2,14 @@
 use mathlib.Core.Path.{_≡_, refl, sym, ap, _∙_}
 use mathlib.Core.List.{List, [], _∷_, map, append-nil}
 use mathlib.Core.Bool.{Bool, true, false, cond, false≢true}
-use Prim.Native.Nat.{ℕ, _-_, _≤_, _<_}
+use Prim.Native.Nat.{ℕ, _-_, _^_, _≤_, _<_}
 use native.Mathlib.Nat.{le-refl}
 use native.Mathlib.Omega.{arith}
-use lib.Dec.{eqb, leb}
+use lib.Dec.{eqb, leb, ltb}
 use lib.ListN.{length, drop, set, length-map}
 use lib.Seq.{drop-length}
 use borrow.Author.Tests.{le-leb, lt-leb, leb-true, eqb-true}
+use Rattle.lists.proofs.Logic.{and-right}
 use Rattle.value.specs.Answer.{Answer, refused, given}
 use Rattle.value.specs.Number.{Whole, number, noNumber}
 use Rattle.value.proofs.Room.{room-some}
@@ -30,8 +31,8 @@ use Rattle.zoned.specs.Zoned as Zoned
 use Rattle.zoned.proofs.Back as ZonedBack
 use Rattle.edited.specs.Edited as Edited
 use Rattle.edited.proofs.Round as EditedRound
-use Rattle.encode_scalar.specs.Encode.{textBytes, decimalFit, decimalBytes, decimalJudged, decimalWritten, editedWritten, partAfter}
-use Rattle.decode_scalar.specs.Decode.{flag}
+use Rattle.encode_scalar.specs.Encode.{textBytes, embeddedFit, intFit, intText, decimalFit, decimalBytes, decimalJudged, decimalWritten, editedWritten, partAfter}
+use Rattle.decode_scalar.specs.Decode.{flag, isEmbedded}
 
 -- bytes that fill the part
 pub whole : (bytes part : List ℕ) → length bytes ≡ length part → bytes ≡ partAfter 0 bytes part
@@ -68,8 +69,18 @@ text-part page right pad part last (shows t) e =
     fitted (leb (length t) (length part)) (written page right pad (length part) t) part last e (λ q. written-length page right pad (length part) t (leb-true (length t) (length part) q))
 text-part page right pad part last none e = e
 
-pub int-length : (page w : ℕ) (negative : Bool) (size : ℕ) (signed : Bool) (sign : ℕ) → intFits w negative size signed sign ≡ true → length (map (ontoPage page) (intBytes w negative size sign)) ≡ w
-int-length page w negative size signed sign f = length-map (intBytes w negative size sign) (ontoPage page) ∙ length-bytes w negative size signed sign f
+display-length : (page w : ℕ) (negative : Bool) (size : ℕ) (signed : Bool) (sign : ℕ) → intFits w negative size signed sign ≡ true → length (map (ontoPage page) (intBytes w negative size sign)) ≡ w
+display-length page w negative size signed sign f = length-map (intBytes w negative size sign) (ontoPage page) ∙ length-bytes w negative size signed sign f
+
+zoned-length : (page w : ℕ) (negative : Bool) (size : ℕ) (signed : Bool) → Zoned.fitsOf w size ≡ true → length (map (ontoPage page) (Zoned.encodedOf w negative size signed)) ≡ w
+zoned-length page w negative size signed f = length-map (Zoned.encodedOf w negative size signed) (ontoPage page) ∙ ZonedBack.encoded-length w negative size signed (room-some w size f)
+
+pub int-length : (p q page w : ℕ) (negative : Bool) (size : ℕ) → intFit p q w negative size ≡ true → length (map (ontoPage page) (intText p q w negative size)) ≡ w
+int-length p q page w negative size f = by (isEmbedded p q) f
+  where
+    by : (e : Bool) → cond e (embeddedFit w size) (intFits w negative size (flag p) q) ≡ true → length (map (ontoPage page) (cond e (Zoned.encodedOf w negative size true) (intBytes w negative size q))) ≡ w
+    by true f = zoned-length page w negative size true (and-right (ltb size (2 ^ 63)) (Zoned.fitsOf w size) f)
+    by false f = display-length page w negative size (flag p) q f
 
 pub binary-length : (order w : ℕ) (negative : Bool) (size : ℕ) → length (integerBytes order w negative size) ≡ w
 unfolding integerBytes
@@ -84,9 +95,9 @@ decimal-length p q s page w negative size f = by (eqb p 0) (eqb p 1) f
   where
     by : (a b : Bool) → cond a (decimalFits w s negative size q) (cond b (Packed.fitsOf w size) (Zoned.fitsOf w size)) ≡ true
         → length (cond a (map (ontoPage page) (intBytes w negative size q)) (cond b (Packed.encodedOf w negative size (flag q)) (map (ontoPage page) (Zoned.encodedOf w negative size (flag q))))) ≡ w
-    by true b e = int-length page w negative size (hasSign q) q (decimal-fits w s negative size q e)
+    by true b e = display-length page w negative size (hasSign q) q (decimal-fits w s negative size q e)
     by false true e = PackedRound.encoded-length w negative size (flag q) (PackedWriting.fits-some w size e)
-    by false false e = length-map (Zoned.encodedOf w negative size (flag q)) (ontoPage page) ∙ ZonedBack.encoded-length w negative size (flag q) (room-some w size e)
+    by false false e = zoned-length page w negative size (flag q) e
 
 -- ---- a Decimal field's number by the item: a List or Struct (the Bool t) is refused
 

@@ -1,8 +1,8 @@
 -- What writing a value into a scalar field asks and gives, by the field's kind and its words p, q, r, s; w is its width.
 use mathlib.Core.List.{List, [], _∷_, map}
-use mathlib.Core.Bool.{Bool, false, not, _&&_, cond}
-use Prim.Native.Nat.{ℕ, _%_}
-use lib.Dec.{eqb, leb}
+use mathlib.Core.Bool.{Bool, true, false, not, _&&_, cond}
+use Prim.Native.Nat.{ℕ, _%_, _^_}
+use lib.Dec.{eqb, leb, ltb}
 use lib.ListN.{length}
 use Rattle.codes.specs.Codes.{kindText, kindInt, kindBinary, kindFloat, kindHex, kindBool, kindPad, kindDecimal, kindEdited, tagList}
 use Rattle.value.specs.declared.Scalar.{Scalar}
@@ -21,7 +21,7 @@ use Rattle.hex.specs.Hex as Hex
 use Rattle.packed.specs.Packed as Packed
 use Rattle.zoned.specs.Zoned as Zoned
 use Rattle.edited.specs.Edited as Edited
-use Rattle.decode_scalar.specs.Decode.{flag}
+use Rattle.decode_scalar.specs.Decode.{flag, isEmbedded}
 
 -- ---- Text
 
@@ -31,13 +31,24 @@ textBytes page right pad w none = []
 
 -- ---- Int and Binary: the integer that a value stands for
 
-abbrev pub intJudged : ℕ → Bool → ℕ → Answer Whole → ℕ
-intJudged w signed sign (refused question) = question
-intJudged w signed sign (given (number negative size)) = cond (intFits w negative size signed sign) 0 14
+-- 02, S-4: "writing −2^63 with 14": the one integer whose size is no less than 2^63
+abbrev pub embeddedFit : ℕ → ℕ → Bool
+embeddedFit w size = ltb size (2 ^ 63) && Zoned.fitsOf w size
 
-abbrev pub intWritten : ℕ → ℕ → ℕ → Answer Whole → List ℕ
-intWritten page w sign (refused question) = []
-intWritten page w sign (given (number negative size)) = map (ontoPage page) (intBytes w negative size sign)
+abbrev pub intFit : ℕ → ℕ → ℕ → Bool → ℕ → Bool
+intFit p q w negative size = cond (isEmbedded p q) (embeddedFit w size) (intFits w negative size (flag p) q)
+
+-- 02, S-4: "Signed Embedded Ints are now written as zoned numbers of the same width"
+abbrev pub intText : ℕ → ℕ → ℕ → Bool → ℕ → List ℕ
+intText p q w negative size = cond (isEmbedded p q) (Zoned.encodedOf w negative size true) (intBytes w negative size q)
+
+abbrev pub intJudged : ℕ → ℕ → ℕ → Answer Whole → ℕ
+intJudged p q w (refused question) = question
+intJudged p q w (given (number negative size)) = cond (intFit p q w negative size) 0 14
+
+abbrev pub intWritten : ℕ → ℕ → ℕ → ℕ → Answer Whole → List ℕ
+intWritten p q page w (refused question) = []
+intWritten p q page w (given (number negative size)) = map (ontoPage page) (intText p q w negative size)
 
 abbrev pub binaryJudged : ℕ → Answer Whole → ℕ
 binaryJudged w (refused question) = question
@@ -122,7 +133,7 @@ editedWritten page mask (given (number negative size)) = map (ontoPage page) (Ed
 -- the kinds that take a number, and Hex: the number that refuses the value at this width, 0 for none
 unfoldable pub numberJudged : ℕ → ℕ → ℕ → ℕ → ℕ → List ℕ → ℕ → Scalar → List ℕ → ℕ
 numberJudged kind p q r s mask w v text =
-    cond (eqb kind kindInt) (intJudged w (flag p) q (wholeIn v text))
+    cond (eqb kind kindInt) (intJudged p q w (wholeIn v text))
     (cond (eqb kind kindBinary) (binaryJudged w (wholeIn v text))
     (cond (eqb kind kindFloat) (floatJudged q w (floatedOf v))
     (cond (eqb kind kindHex) (hexJudged w (hexText v text))
@@ -132,7 +143,7 @@ numberJudged kind p q r s mask w v text =
 
 unfoldable pub numberBytes : ℕ → ℕ → ℕ → ℕ → List ℕ → ℕ → ℕ → Scalar → List ℕ → List ℕ
 numberBytes kind p q r mask page w v text =
-    cond (eqb kind kindInt) (intWritten page w q (wholeIn v text))
+    cond (eqb kind kindInt) (intWritten p q page w (wholeIn v text))
     (cond (eqb kind kindBinary) (binaryWritten p w (wholeIn v text))
     (cond (eqb kind kindFloat) (floatWritten p q w (floatedOf v))
     (cond (eqb kind kindHex) (hexWritten p w (hexText v text))

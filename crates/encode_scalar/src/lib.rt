@@ -17,19 +17,22 @@ use value::Amount;
 use value::Number;
 use value::Scalar;
 ghost use mathlib.Core.Path.{_≡_};
-ghost use mathlib.Core.List.{[], _∷_};
-ghost use mathlib.Core.Bool.{cond, false};
+ghost use mathlib.Core.List.{[], _∷_, map};
+ghost use mathlib.Core.Bool.{cond, true, false};
 ghost use Prim.Native.Nat.{ℕ, _<_};
 ghost use lib.ListN.{length};
 ghost use lib.Dec.{eqb};
 ghost use Rattle.value.specs.Number.{writtenAs, amountAs};
 ghost use Rattle.value.specs.Scalar.{scalarOf};
+ghost use Rattle.ebcdic.specs.Ebcdic.{ontoPage};
+ghost use Rattle.zoned.specs.Zoned.{encodedOf};
 ghost use Rattle.float.specs.Convert.{floatedAs};
 ghost use Rattle.text.specs.Text.{padded};
 ghost use Rattle.text.specs.Shown.{textIn, refusalAt};
 ghost use Rattle.edited.specs.Edited.{answerOf};
-ghost use Rattle.encode_scalar.specs.Encode.{textBytes, intJudged, intWritten, binaryJudged, binaryWritten, floatJudged, floatWritten, hexText, hexJudged, hexWritten};
-ghost use Rattle.encode_scalar.specs.Encode.{boolIn, decimalFit, decimalBytes, decimalJudged, decimalWritten, editedWritten, numberJudged, numberBytes, judgedOf, bytesOf, partAfter, itemNumber};
+ghost use Rattle.encode_scalar.specs.Encode.{textBytes, embeddedFit, intFit, intText, intJudged, intWritten, binaryJudged, binaryWritten, floatJudged, floatWritten};
+ghost use Rattle.encode_scalar.specs.Encode.{hexText, hexJudged, hexWritten, boolIn, decimalFit, decimalBytes, decimalJudged, decimalWritten, editedWritten};
+ghost use Rattle.encode_scalar.specs.Encode.{numberJudged, numberBytes, judgedOf, bytesOf, partAfter, itemNumber};
 ghost use Rattle.decode_scalar.specs.Decode as Decode;
 
 fn fitting(fits: bool) -> u32
@@ -43,17 +46,30 @@ fn fitting(fits: bool) -> u32
 
 // ---- the judging alone
 
-fn judge_int(width: usize, signed: bool, sign: u32, n: Number) -> u32
-    ensures { λ r. ⌜ r ≡ intJudged width signed sign (writtenAs n) ⌝ }
+// A signed Embedded Int is written as a zoned number, which holds no size from 2^63 on.
+fn fits_embedded(width: usize, size: u64) -> bool
+    ensures { λ r. ⌜ r ≡ embeddedFit width size ⌝ }
+{
+    if size >= 0x8000_0000_0000_0000 {
+        return false;
+    }
+    zoned::fits(width, size)
+}
+
+fn fits_int(p: u32, q: u32, width: usize, negative: bool, size: u64) -> bool
+    ensures { λ r. ⌜ r ≡ intFit p q width negative size ⌝ }
+{
+    if decode_scalar::is_embedded(p, q) {
+        return fits_embedded(width, size);
+    }
+    display::fits_int(width, negative, size, decode_scalar::flag(p), q)
+}
+
+fn judge_int(p: u32, q: u32, width: usize, n: Number) -> u32
+    ensures { λ r. ⌜ r ≡ intJudged p q width (writtenAs n) ⌝ }
 {
     match n {
-        Number::Of(negative, size) => fitting(display::fits_int(
-            width,
-            negative,
-            size,
-            signed,
-            sign,
-        )),
+        Number::Of(negative, size) => fitting(fits_int(p, q, width, negative, size)),
         Number::Bad => 13,
         Number::Big => 14,
     }
@@ -128,7 +144,7 @@ fn judge_number(
     ensures { λ n. ⌜ n ≡ numberJudged kind p q r s (now (mask .entry)) width v (now (text .entry)) ⌝ }
 {
     match kind {
-        KIND_INT => judge_int(width, decode_scalar::flag(p), q, display::as_i128(v, text)),
+        KIND_INT => judge_int(p, q, width, display::as_i128(v, text)),
         KIND_BINARY => judge_binary(width, display::as_i128(v, text)),
         KIND_FLOAT => judge_float(q, width, float::as_f64(v)),
         KIND_HEX => judge_hex(width, v, text),
@@ -190,20 +206,33 @@ fn write_text(part: &mut [u8], page: u32, right: bool, pad: u8, v: Scalar, text:
     text::encode_text(part, v, text, right, pad, page)
 }
 
-fn write_int(part: &mut [u8], page: u32, signed: bool, sign: u32, n: Number) -> u32
-    ensures { λ r. ⌜ r ≡ intJudged (length (now (part .entry))) signed sign (writtenAs n) ⌝ }
-    ensures { λ _. ⌜ now (part .exit) ≡ partAfter (intJudged (length (now (part .entry))) signed sign (writtenAs n))
-        (intWritten page (length (now (part .entry))) sign (writtenAs n)) (now (part .entry)) ⌝ }
+fn encode_embedded(part: &mut [u8], page: u32, negative: bool, size: u64) -> bool
+    ensures { λ r. ⌜ r ≡ embeddedFit (length (now (part .entry))) size ⌝ }
+    ensures { λ _. ⌜ now (part .exit) ≡ cond (embeddedFit (length (now (part .entry))) size) (map (ontoPage page) (encodedOf (length (now (part .entry))) negative size true)) (now (part .entry)) ⌝ }
+{
+    if size >= 0x8000_0000_0000_0000 {
+        return false;
+    }
+    zoned::encode(part, page, negative, size, true)
+}
+
+fn encode_int(part: &mut [u8], page: u32, p: u32, q: u32, negative: bool, size: u64) -> bool
+    ensures { λ r. ⌜ r ≡ intFit p q (length (now (part .entry))) negative size ⌝ }
+    ensures { λ _. ⌜ now (part .exit) ≡ cond (intFit p q (length (now (part .entry))) negative size) (map (ontoPage page) (intText p q (length (now (part .entry))) negative size)) (now (part .entry)) ⌝ }
+{
+    if decode_scalar::is_embedded(p, q) {
+        return encode_embedded(part, page, negative, size);
+    }
+    display::encode_display_int(part, page, negative, size, decode_scalar::flag(p), q)
+}
+
+fn write_int(part: &mut [u8], page: u32, p: u32, q: u32, n: Number) -> u32
+    ensures { λ r. ⌜ r ≡ intJudged p q (length (now (part .entry))) (writtenAs n) ⌝ }
+    ensures { λ _. ⌜ now (part .exit) ≡ partAfter (intJudged p q (length (now (part .entry))) (writtenAs n))
+        (intWritten p q page (length (now (part .entry))) (writtenAs n)) (now (part .entry)) ⌝ }
 {
     match n {
-        Number::Of(negative, size) => fitting(display::encode_display_int(
-            part,
-            page,
-            negative,
-            size,
-            signed,
-            sign,
-        )),
+        Number::Of(negative, size) => fitting(encode_int(part, page, p, q, negative, size)),
         Number::Bad => 13,
         Number::Big => 14,
     }
@@ -357,13 +386,7 @@ fn write_number(
         (numberBytes kind p q r (now (mask .entry)) page (length (now (part .entry))) v (now (text .entry))) (now (part .entry)) ⌝ }
 {
     match kind {
-        KIND_INT => write_int(
-            part,
-            page,
-            decode_scalar::flag(p),
-            q,
-            display::as_i128(v, text),
-        ),
+        KIND_INT => write_int(part, page, p, q, display::as_i128(v, text)),
         KIND_BINARY => write_binary(part, p, display::as_i128(v, text)),
         KIND_FLOAT => write_float(part, p, q, float::as_f64(v)),
         KIND_HEX => write_hex(part, p, v, text),

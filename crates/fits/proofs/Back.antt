@@ -37,10 +37,11 @@ use Rattle.zoned.proofs.Back as ZonedBack
 use Rattle.edited.specs.Edited as Edited
 use Rattle.edited.specs.Fits as EditedFits
 use Rattle.edited.proofs.Round as EditedRound
-use Rattle.decode_scalar.specs.Decode.{Says, value, text, says, flag, intSays, decimalSays}
+use Rattle.decode_scalar.specs.Decode.{Says, value, text, says, flag, isEmbedded, intSays, decimalSays}
 use Rattle.encode_scalar.specs.Encode.{numberJudged, numberBytes, judgedOf, bytesOf}
 use Rattle.fits.specs.Fits.{Minus, Digits, plain, separate, InRange, unsigned, plus, minus, Fits, text-fits}
-use Rattle.fits.specs.Fits.{int-fits, binary-fits, float-fits, hex-fits, bool-fits, display-fits, packed-fits, zoned-fits, edited-fits, saidOf}
+use Rattle.fits.specs.Fits.{int-fits, embedded-fits, binary-fits, float-fits, hex-fits, bool-fits, display-fits, packed-fits, zoned-fits, edited-fits, saidOf}
+use Rattle.fits.proofs.Embedded.{embedded-back}
 
 -- a value is accepted, and what is written for it says it
 pub record Kept (kind p q r s : ℕ) (mask : List ℕ) (page w : ℕ) (v : Scalar) (t : List ℕ) : Type 0 where
@@ -82,13 +83,23 @@ module _ (p q r s : ℕ) (mask : List ℕ) (page w : ℕ) (t : List ℕ) where
         said = ap text (TextBack.read-back page (flag p) (flag q) (r % 256) w t (mod-lt r (lit< tt)) f);
       }
 
-  int-kept : (negative : Bool) (size : ℕ) → Digits w q negative size → size < 2 ^ 63 → Kept 1 p q r s mask page w (Int negative size) t
+  int-kept : (negative : Bool) (size : ℕ) → isEmbedded p q ≡ false → Digits w q negative size → size < 2 ^ 63 → Kept 1 p q r s mask page w (Int negative size) t
   unfolding judgedOf numberJudged bytesOf numberBytes says
-  int-kept negative size d l =
+  int-kept negative size e d l =
       let m = minus-is negative size (digits-minus d) in
       record {
-        accepted = rw (m, digits-fit (flag p) d);
-        said = rw m (ap intSays (DisplayBack.int-back page w negative size (flag p) q (digits-fit (flag p) d) (digits-plain d) l ∙ ap (λ (n : Bool). given (number n size)) m));
+        accepted = rw (m, e, digits-fit (flag p) d);
+        said = rw (m, e) (ap intSays (DisplayBack.int-back page w negative size (flag p) q (digits-fit (flag p) d) (digits-plain d) l ∙ ap (λ (n : Bool). given (number n size)) m));
+      }
+
+  embedded-kept : (negative : Bool) (size : ℕ) → isEmbedded p q ≡ true → 0 < w → size < 10 ^ w → size < 2 ^ 63 → Minus negative size → Kept 1 p q r s mask page w (Int negative size) t
+  unfolding judgedOf numberJudged bytesOf numberBytes says
+  embedded-kept negative size e h k l g =
+      let m = minus-is negative size g in
+      let f : Zoned.fitsOf w size ≡ true = room-fits w size h k in
+      record {
+        accepted = rw (m, e, lt-ltb size (2 ^ 63) l, f);
+        said = rw (m, e) (ap intSays (embedded-back w negative size f page l ∙ ap (λ (n : Bool). given (number n size)) m));
       }
 
   binary-kept : (negative : Bool) (size : ℕ) → widthOk w ≡ true → InRange w (flag q) negative size → Kept 2 p q r s mask page w (Int negative size) t
@@ -197,7 +208,8 @@ module _ (p q r s : ℕ) (mask : List ℕ) (page w : ℕ) (t : List ℕ) where
 -- every kind
 pub field-kept : (p q r s : ℕ) (mask : List ℕ) (page w : ℕ) {kind : ℕ} {v : Scalar} {t : List ℕ} → Fits p q r s mask w kind v t → Kept kind p q r s mask page w v t
 field-kept p q r s mask page w (text-fits start count t f) = text-kept p q r s mask page w t start count f
-field-kept p q r s mask page w (int-fits negative size t d l) = int-kept p q r s mask page w t negative size d l
+field-kept p q r s mask page w (int-fits negative size t e d l) = int-kept p q r s mask page w t negative size e d l
+field-kept p q r s mask page w (embedded-fits negative size t e h k l m) = embedded-kept p q r s mask page w t negative size e h k l m
 field-kept p q r s mask page w (binary-fits negative size t ok f) = binary-kept p q r s mask page w t negative size ok f
 field-kept p q r s mask page w (float-fits x t f e) = float-kept p q r s mask page w t x f e
 field-kept p q r s mask page w (hex-fits start count t f) = hex-kept p q r s mask page w t start count f

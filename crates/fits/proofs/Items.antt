@@ -17,14 +17,16 @@ use Rattle.value.proofs.Items.{float-tag, float-first}
 use Rattle.binary.specs.Binary.{widthOk}
 use Rattle.binary.proofs.Integers.{width-high}
 use Rattle.float.proofs.Back.{exact-lt}
-use Rattle.fits.specs.Fits.{Minus, InRange, unsigned, plus, minus, Fits, text-fits, int-fits, binary-fits, float-fits, hex-fits, bool-fits, display-fits, packed-fits, zoned-fits, edited-fits}
+use Rattle.fits.specs.Fits.{Minus, InRange, unsigned, plus, minus, Fits}
+use Rattle.fits.specs.Fits.{text-fits, int-fits, embedded-fits, binary-fits, float-fits, hex-fits, bool-fits, display-fits, packed-fits, zoned-fits, edited-fits}
 use Rattle.fits.proofs.Back.{minus-is, digits-minus}
 use Rattle.fits.specs.Decide.{tagFor}
 
 -- "Text for Text and Hex, Int for Int and Binary, Decimal for Decimal and Edited, Float for Float, Bool for Bool"
 pub kind-scalar : {p q r s : ℕ} {mask : List ℕ} {w kind : ℕ} {v : Scalar} {t : List ℕ} → Fits p q r s mask w kind v t → tagOf v ≡ tagFor kind
 kind-scalar (text-fits start count t f) = refl
-kind-scalar (int-fits negative size t d l) = refl
+kind-scalar (int-fits negative size t e d l) = refl
+kind-scalar (embedded-fits negative size t e h k l m) = refl
 kind-scalar (binary-fits negative size t ok f) = refl
 kind-scalar (float-fits x t f e) = float-tag x
 kind-scalar (hex-fits start count t f) = refl
@@ -83,7 +85,8 @@ float-words x h = rw (float-tag x, float-first x h)
 pub item-back : {p q r s : ℕ} {mask : List ℕ} {w kind : ℕ} {v : Scalar} {t : List ℕ} → Fits p q r s mask w kind v t → scalarOf (tagOf v) (firstOf v) (secondOf v) ≡ v
 unfolding scalarOf
 item-back (text-fits start count t f) = refl
-item-back (int-fits negative size t d l) = int-words (small negative size (digits-minus d) l)
+item-back (int-fits negative size t e d l) = int-words (small negative size (digits-minus d) l)
+item-back (embedded-fits negative size t e h k l m) = int-words (small negative size m l)
 item-back {w = w} (binary-fits negative size t ok f) = int-words (range-held (width-le w ok) f)
 item-back (float-fits x t f e) = float-words x (exact-lt f)
 item-back (hex-fits start count t f) = refl

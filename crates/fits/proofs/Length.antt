@@ -2,9 +2,11 @@
 use mathlib.Core.Path.{_≡_, sym, _∙_}
 use mathlib.Core.List.{List}
 use mathlib.Core.Bool.{true, _&&_}
-use Prim.Native.Nat.{ℕ, _-_, _%_}
+use Prim.Native.Nat.{ℕ, _-_, _%_, _^_}
 use lib.Dec.{ltb}
 use lib.ListN.{length}
+use borrow.Author.Tests.{lt-ltb}
+use Rattle.lists.proofs.Logic.{and}
 use Rattle.value.specs.declared.Scalar.{Scalar}
 use Rattle.value.proofs.Room.{room-fits}
 use Rattle.text.proofs.Back.{written-length}
@@ -17,16 +19,20 @@ use Rattle.packed.proofs.Writing.{fits-below}
 use Rattle.zoned.specs.Zoned as Zoned
 use Rattle.edited.proofs.Round as EditedRound
 use Rattle.decode_scalar.specs.Decode.{flag}
-use Rattle.encode_scalar.specs.Encode.{decimalFit, bytesOf, numberBytes}
-use Rattle.fits.specs.Fits.{Fits, text-fits, int-fits, binary-fits, float-fits, hex-fits, bool-fits, display-fits, packed-fits, zoned-fits, edited-fits}
+use Rattle.encode_scalar.specs.Encode.{intFit, decimalFit, bytesOf, numberBytes}
+use Rattle.fits.specs.Fits.{Fits, text-fits, int-fits, embedded-fits, binary-fits, float-fits, hex-fits, bool-fits, display-fits, packed-fits, zoned-fits, edited-fits}
 use Rattle.fits.proofs.Back.{minus-is, digits-minus, digits-fit, same-scale, floated}
 use Rattle.encode_scalar.proofs.Parts.{int-length, binary-length, float-length, decimal-length}
 
 pub bytes-long : {p q r s : ℕ} {mask : List ℕ} {w kind : ℕ} {v : Scalar} {t : List ℕ} (page : ℕ) → Fits p q r s mask w kind v t → length (bytesOf kind p q r mask page w v t) ≡ w
 unfolding bytesOf numberBytes
 bytes-long {p} {q} {r} {s} {mask} {w} page (text-fits start count t f) = written-length page (flag p) (r % 256) w t (f .room)
-bytes-long {p} {q} {r} {s} {mask} {w} page (int-fits negative size t d l) =
-    rw (minus-is negative size (digits-minus d)) (int-length page w negative size (flag p) q (digits-fit (flag p) d))
+bytes-long {p} {q} {r} {s} {mask} {w} page (int-fits negative size t e d l) =
+    let f : intFit p q w negative size ≡ true = rw e (digits-fit (flag p) d) in
+    rw (minus-is negative size (digits-minus d)) (int-length p q page w negative size f)
+bytes-long {p} {q} {r} {s} {mask} {w} page (embedded-fits negative size t e h k l m) =
+    let f : intFit p q w negative size ≡ true = rw e (and (lt-ltb size (2 ^ 63) l) (room-fits w size h k)) in
+    rw (minus-is negative size m) (int-length p q page w negative size f)
 bytes-long {p} {q} {r} {s} {mask} {w} page (binary-fits negative size t ok f) = binary-length p w (ltb 0 size && negative) size
 bytes-long {p} {q} {r} {s} {mask} {w} page (float-fits x t f e) = rw (floated p q r s mask page w t x (exact-lt f)) (float-length p q w x)
 bytes-long {p} {q} {r} {s} {mask} {w} page (hex-fits start count t f) = HexBack.bytes-length p w t (HexBack.hex-fits w t f)

@@ -1,3 +1,4 @@
+pub mod Embedded
 pub mod Back
 pub mod Tests
 pub mod Sound

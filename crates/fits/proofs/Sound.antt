@@ -7,7 +7,7 @@ use lib.Dec.{eqb, leb, ltb}
 use lib.ListN.{length}
 use lib.Ieee.{Float, binary64, fits, isNan, ofBits, toBits, nanBits}
 use borrow.Author.Tests.{lt-ltb, le-leb, eq-eqb, eqb-true, ltb-true, leb-true}
-use Rattle.lists.proofs.Logic.{both, and}
+use Rattle.lists.proofs.Logic.{both, and, and-right}
 use Rattle.value.specs.declared.Scalar.{Scalar}
 use Rattle.value.specs.declared.Scalar.the-variants.{Null, Text, Int, Decimal, Float as FloatV, FloatBits, Bool as BoolV}
 use Rattle.value.specs.Digits.{limit}
@@ -16,8 +16,8 @@ use Rattle.value.proofs.Items.{float-first}
 use Rattle.binary.specs.Binary.{widthOk}
 use Rattle.float.specs.Field.{Exact, exactIn}
 use Rattle.float.proofs.Back.{exact-true, true-exact, exact-lt}
-use Rattle.decode_scalar.specs.Decode.{flag}
-use Rattle.fits.specs.Fits.{Fits, text-fits, int-fits, binary-fits, float-fits, hex-fits, bool-fits, display-fits, packed-fits, zoned-fits, edited-fits}
+use Rattle.decode_scalar.specs.Decode.{flag, isEmbedded}
+use Rattle.fits.specs.Fits.{Fits, text-fits, int-fits, embedded-fits, binary-fits, float-fits, hex-fits, bool-fits, display-fits, packed-fits, zoned-fits, edited-fits}
 use Rattle.fits.specs.Decide.{textFits, hexFits, digitsFit, intFits, inRange, binaryFits, wordFits, signOk, displayFits, packedFits, zonedFits, decimalFits, editedMinusOk, maskFits, editedFits, fitsOf}
 use Rattle.fits.proofs.Tests.{text-sound, text-complete, hex-sound, hex-complete, sign-sound, sign-complete, digits-sound}
 use Rattle.fits.proofs.Tests.{digits-complete, range-sound, range-complete, plain-float, float-plain, edited-sound, edited-complete}
@@ -30,14 +30,26 @@ module _ (p q r s : ℕ) (mask : List ℕ) (w : ℕ) (t : List ℕ) where
       by true k e = rw (eqb-true kind 0 k) (text-fits start count t (text-sound (flag p) (flag q) (r % 256) w t e))
       by false k e = let a = both (eqb kind 4) (hexFits w t) e in rw (eqb-true kind 4 (a .0)) (hex-fits start count t (hex-sound w t (a .1)))
 
-  int-so : (kind : ℕ) (negative : Bool) (size : ℕ) → cond (eqb kind 1) (intFits w q negative size) (eqb kind 2 && binaryFits w (flag q) negative size) ≡ true → Fits p q r s mask w kind (Int negative size) t
-  unfolding intFits binaryFits
+  whole-so : (negative : Bool) (size : ℕ) → intFits p q w negative size ≡ true → Fits p q r s mask w 1 (Int negative size) t
+  unfolding intFits
+  whole-so negative size e =
+      let a = both (ltb size (2 ^ 63)) (cond (isEmbedded p q) (zonedFits w q negative size) (digitsFit w q negative size)) e in
+      by (ltb-true size (2 ^ 63) (a .0)) (isEmbedded p q) refl (a .1)
+    where
+      by : size < 2 ^ 63 → (b : Bool) → isEmbedded p q ≡ b → cond b (zonedFits w q negative size) (digitsFit w q negative size) ≡ true → Fits p q r s mask w 1 (Int negative size) t
+      by l true h e =
+          let a = both (ltb 0 w) (ltb size (10 ^ w) && signOk q negative size) e in
+          let b = both (ltb size (10 ^ w)) (signOk q negative size) (a .1) in
+          embedded-fits negative size t h (ltb-true 0 w (a .0)) (ltb-true size (10 ^ w) (b .0)) l (sign-sound q negative size (b .1) .1)
+      by l false h e = int-fits negative size t h (digits-sound w q negative size e) l
+
+  int-so : (kind : ℕ) (negative : Bool) (size : ℕ) → cond (eqb kind 1) (intFits p q w negative size) (eqb kind 2 && binaryFits w (flag q) negative size) ≡ true
+      → Fits p q r s mask w kind (Int negative size) t
+  unfolding binaryFits
   int-so kind negative size e = by (eqb kind 1) refl e
     where
-      by : (b : Bool) → eqb kind 1 ≡ b → cond b (digitsFit w q negative size && ltb size (2 ^ 63)) (eqb kind 2 && (widthOk w && inRange w (flag q) negative size)) ≡ true → Fits p q r s mask w kind (Int negative size) t
-      by true k e =
-          let a = both (digitsFit w q negative size) (ltb size (2 ^ 63)) e in
-          rw (eqb-true kind 1 k) (int-fits negative size t (digits-sound w q negative size (a .0)) (ltb-true size (2 ^ 63) (a .1)))
+      by : (b : Bool) → eqb kind 1 ≡ b → cond b (intFits p q w negative size) (eqb kind 2 && (widthOk w && inRange w (flag q) negative size)) ≡ true → Fits p q r s mask w kind (Int negative size) t
+      by true k e = rw (eqb-true kind 1 k) (whole-so negative size e)
       by false k e =
           let a = both (eqb kind 2) (widthOk w && inRange w (flag q) negative size) e in
           let b = both (widthOk w) (inRange w (flag q) negative size) (a .1) in
@@ -129,7 +141,10 @@ float-test p q r s mask w x t f e = by (nanBits binary64 x) refl
 pub fits-complete : {p q r s : ℕ} {mask : List ℕ} {w kind : ℕ} {v : Scalar} {t : List ℕ} → Fits p q r s mask w kind v t → fitsOf p q r s mask w kind v t ≡ true
 unfolding fitsOf intFits binaryFits decimalFits editedFits
 fits-complete {p} {q} {r} {s} {mask} {w} (text-fits start count t f) = text-complete (flag p) (flag q) (r % 256) w t f
-fits-complete (int-fits negative size t d l) = and (digits-complete d) (lt-ltb size (2 ^ 63) l)
+fits-complete {p} {q} (int-fits negative size t e d l) = rw (lt-ltb size (2 ^ 63) l, e) (digits-complete d)
+fits-complete {p} {q} {w = w} (embedded-fits negative size t e h k l m) =
+    let o = eqb-true q 1 (and-right (flag p) (eqb q 1) e) in
+    rw (lt-ltb size (2 ^ 63) l, e) (and (lt-ltb 0 w h) (and (lt-ltb size (10 ^ w) k) (sign-complete q negative size (λ _. rw o, m))))
 fits-complete (binary-fits negative size t ok f) = and ok (range-complete f)
 fits-complete {p} {q} {r} {s} {mask} {w} (float-fits x t f e) = float-test p q r s mask w x t f e
 fits-complete {w = w} (hex-fits start count t f) = hex-complete w t f

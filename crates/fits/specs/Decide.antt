@@ -17,7 +17,7 @@ use Rattle.binary.specs.Binary.{widthOk}
 use Rattle.float.specs.Field.{exactIn}
 use Rattle.hex.specs.Hex.{isLower}
 use Rattle.edited.specs.Edited.{isLawful, isFloating, countOf, positions}
-use Rattle.decode_scalar.specs.Decode.{flag}
+use Rattle.decode_scalar.specs.Decode.{flag, isEmbedded}
 
 -- ---- Text and Hex
 
@@ -59,9 +59,17 @@ unfoldable pub digitsFit : ℕ → ℕ → Bool → ℕ → Bool
 digitsFit w sign negative size =
     cond (isSeparate sign) (leb 2 w && (ltb size (10 ^ (w - 1)) && minusOk negative size)) (ltb 0 w && (ltb size (10 ^ w) && not negative))
 
--- "never −2^63"
-unfoldable pub intFits : ℕ → ℕ → Bool → ℕ → Bool
-intFits w sign negative size = digitsFit w sign negative size && ltb size (2 ^ 63)
+-- "no minus if Unsigned"
+abbrev pub signOk : ℕ → Bool → ℕ → Bool
+signOk sign negative size = not negative || (flag sign && ltb 0 size)
+
+-- ".. zoned: below .. 10^w"
+abbrev pub zonedFits : ℕ → ℕ → Bool → ℕ → Bool
+zonedFits w sign negative size = ltb 0 w && (ltb size (10 ^ w) && signOk sign negative size)
+
+-- "never −2^63"; 02, S-4: "Fitting lists now hold such values of size below 10^w, −2^63 excepted"
+unfoldable pub intFits : ℕ → ℕ → ℕ → Bool → ℕ → Bool
+intFits p q w negative size = ltb size (2 ^ 63) && cond (isEmbedded p q) (zonedFits w q negative size) (digitsFit w q negative size)
 
 -- "Binary: its range, below 2^63"
 abbrev pub inRange : ℕ → Bool → Bool → ℕ → Bool
@@ -79,20 +87,13 @@ wordFits bits w x = exactIn bits x && eqb w (bits / 8)
 
 -- ---- Decimal: "p 0 Display 1 Comp3 2 Zoned"
 
--- "no minus if Unsigned"
-abbrev pub signOk : ℕ → Bool → ℕ → Bool
-signOk sign negative size = not negative || (flag sign && ltb 0 size)
-
 -- "precision at most width"
 abbrev pub displayFits : ℕ → ℕ → ℕ → Bool → ℕ → Bool
 displayFits w sign precision negative size = digitsFit w sign negative size && leb precision w
 
--- "Packed, zoned: below 10^(2w−1), 10^w"
+-- "Packed ..: below 10^(2w−1)"
 abbrev pub packedFits : ℕ → ℕ → Bool → ℕ → Bool
 packedFits w sign negative size = ltb 0 w && (ltb size (10 ^ (2 * w - 1)) && signOk sign negative size)
-
-abbrev pub zonedFits : ℕ → ℕ → Bool → ℕ → Bool
-zonedFits w sign negative size = ltb 0 w && (ltb size (10 ^ w) && signOk sign negative size)
 
 unfoldable pub decimalFits : ℕ → ℕ → ℕ → ℕ → Bool → ℕ → Bool
 decimalFits p q s w negative size =
@@ -127,7 +128,7 @@ editedFits signed w negative size mask = eqb (length mask) w && (maskFits size m
 unfoldable pub fitsOf : (p q r s : ℕ) (mask : List ℕ) (w kind : ℕ) → Scalar → List ℕ → Bool
 fitsOf p q r s mask w kind Null t = false
 fitsOf p q r s mask w kind (Text start count) t = cond (eqb kind kindText) (textFits (flag p) (flag q) (r % 256) w t) (eqb kind kindHex && hexFits w t)
-fitsOf p q r s mask w kind (Int negative size) t = cond (eqb kind kindInt) (intFits w q negative size) (eqb kind kindBinary && binaryFits w (flag q) negative size)
+fitsOf p q r s mask w kind (Int negative size) t = cond (eqb kind kindInt) (intFits p q w negative size) (eqb kind kindBinary && binaryFits w (flag q) negative size)
 fitsOf p q r s mask w kind (Decimal negative size scale) t =
     eqb scale r && cond (eqb kind kindDecimal) (decimalFits p q s w negative size) (eqb kind kindEdited && editedFits (flag p) w negative size mask)
 fitsOf p q r s mask w kind (FloatV x) t = eqb kind kindFloat && ((fits binary64 x && not (isNan x)) && wordFits q w (toBits binary64 x))

@@ -65,7 +65,7 @@ hex-upper : fitsOf 0 0 0 0 [] 1 4 (Text 0 0) (0x41 ∷ 0x39 ∷ []) ≡ false
 unfolding fitsOf hexFits everyBy
 hex-upper = refl
 
--- an Int in 2 bytes
+-- a signed Int in 2 bytes
 abbrev int : ℕ → Bool → ℕ → Bool
 int sign negative size = fitsOf 1 sign 0 0 [] 2 1 (Int negative size) []
 
@@ -77,9 +77,26 @@ int-above : int 0 false 100 ≡ false
 unfolding fitsOf intFits digitsFit
 int-above = refl
 
-int-minus : int 1 true 5 ≡ false
+int-minus : int 0 true 5 ≡ false
 unfolding fitsOf intFits digitsFit
 int-minus = refl
+
+int-embedded : int 1 true 99 ≡ true
+unfolding fitsOf intFits
+int-embedded = refl
+
+int-embedded-above : int 1 true 100 ≡ false
+unfolding fitsOf intFits
+int-embedded-above = refl
+
+int-embedded-zero : int 1 true 0 ≡ false
+unfolding fitsOf intFits
+int-embedded-zero = refl
+
+-- Embedded, but not signed
+int-unsigned : fitsOf 0 1 0 0 [] 2 1 (Int true 5) [] ≡ false
+unfolding fitsOf intFits digitsFit
+int-unsigned = refl
 
 int-separate : int 2 true 9 ≡ true
 unfolding fitsOf intFits digitsFit
@@ -92,6 +109,10 @@ int-separate-above = refl
 int-least : fitsOf 1 2 0 0 [] 20 1 (Int true (2 ^ 63)) [] ≡ false
 unfolding fitsOf intFits digitsFit
 int-least = refl
+
+int-embedded-least : fitsOf 1 1 0 0 [] 20 1 (Int true (2 ^ 63)) [] ≡ false
+unfolding fitsOf intFits
+int-embedded-least = refl
 
 binary-least : fitsOf 0 1 0 0 [] 8 2 (Int true (2 ^ 63)) [] ≡ true
 unfolding fitsOf binaryFits

@@ -15,13 +15,13 @@ use Rattle.binary.specs.Binary.{widthOk}
 use Rattle.float.specs.Field.{Exact}
 use Rattle.hex.specs.Hex as Hex
 use Rattle.edited.specs.Fits as Edited
-use Rattle.decode_scalar.specs.Decode.{Says, value, text, flag}
+use Rattle.decode_scalar.specs.Decode.{Says, value, text, flag, isEmbedded}
 
 -- 0 has no minus
 abbrev pub Minus : Bool → ℕ → Type 0
 Minus negative size = negative ≡ true → 0 < size
 
--- "0 to 10^w − 1, separate from width 2 ±(10^(w−1) − 1)": Int and Display
+-- "0 to 10^w − 1, separate from width 2 ±(10^(w−1) − 1)": Int, but for signed Embedded ones, and Display
 pub data Digits (w : ℕ) (sign : ℕ) : Bool → ℕ → Type 0 where
   plain : (size : ℕ) → isSeparate sign ≡ false → 0 < w → size < 10 ^ w → Digits w sign false size
   separate : (negative : Bool) (size : ℕ) → isSeparate sign ≡ true → 2 ≤ w → size < 10 ^ (w - 1) → Minus negative size → Digits w sign negative size
@@ -40,7 +40,9 @@ pub data Fits (p q r s : ℕ) (mask : List ℕ) (w : ℕ) : ℕ → Scalar → L
   -- "Text: length at most width, no 0 byte, no pad byte at its cut end; untrimmed, length equal to width"
   text-fits : (start count : ℕ) (t : List ℕ) → Text.Fits (flag p) (flag q) (r % 256) w t → Fits p q r s mask w kindText (Text start count) t
   -- "never −2^63"
-  int-fits : (negative : Bool) (size : ℕ) (t : List ℕ) → Digits w q negative size → size < 2 ^ 63 → Fits p q r s mask w kindInt (Int negative size) t
+  int-fits : (negative : Bool) (size : ℕ) (t : List ℕ) → isEmbedded p q ≡ false → Digits w q negative size → size < 2 ^ 63 → Fits p q r s mask w kindInt (Int negative size) t
+  -- 02, S-4: "Fitting lists now hold such values of size below 10^w, −2^63 excepted"
+  embedded-fits : (negative : Bool) (size : ℕ) (t : List ℕ) → isEmbedded p q ≡ true → 0 < w → size < 10 ^ w → size < 2 ^ 63 → Minus negative size → Fits p q r s mask w kindInt (Int negative size) t
   binary-fits : (negative : Bool) (size : ℕ) (t : List ℕ) → widthOk w ≡ true → InRange w (flag q) negative size → Fits p q r s mask w kindBinary (Int negative size) t
   -- "Float: 64 any; 32 exact, no NaN; 16 exact normal, zero or infinity"
   float-fits : (x : ℕ) (t : List ℕ) → Exact q x → w ≡ q / 8 → Fits p q r s mask w kindFloat (floatOf x) t

@@ -156,13 +156,16 @@ fn fits_digits(width: usize, sign: u32, negative: bool, size: u64) -> bool
     false
 }
 
-fn fits_int(width: usize, sign: u32, negative: bool, size: u64) -> bool
-    ensures { λ r. ⌜ r ≡ intFits width sign negative size ⌝ }
+fn fits_int(p: u32, q: u32, width: usize, negative: bool, size: u64) -> bool
+    ensures { λ r. ⌜ r ≡ intFits p q width negative size ⌝ }
 {
-    if fits_digits(width, sign, negative, size) {
-        return size < 0x8000_0000_0000_0000;
+    if size >= 0x8000_0000_0000_0000 {
+        return false;
     }
-    false
+    if decode_scalar::is_embedded(p, q) {
+        return fits_zoned(width, q, negative, size);
+    }
+    fits_digits(width, q, negative, size)
 }
 
 fn in_range(width: usize, signed: bool, negative: bool, size: u64) -> bool
@@ -197,11 +200,11 @@ fn fits_binary(width: usize, signed: bool, negative: bool, size: u64) -> bool
     false
 }
 
-fn int_fits(kind: u32, q: u32, width: usize, negative: bool, size: u64) -> bool
-    ensures { λ r. ⌜ r ≡ cond (eqb kind 1) (intFits width q negative size) (eqb kind 2 && binaryFits width (Decode.flag q) negative size) ⌝ }
+fn int_fits(kind: u32, p: u32, q: u32, width: usize, negative: bool, size: u64) -> bool
+    ensures { λ r. ⌜ r ≡ cond (eqb kind 1) (intFits p q width negative size) (eqb kind 2 && binaryFits width (Decode.flag q) negative size) ⌝ }
 {
     if kind == KIND_INT {
-        return fits_int(width, q, negative, size);
+        return fits_int(p, q, width, negative, size);
     }
     if kind == KIND_BINARY {
         return fits_binary(width, decode_scalar::flag(q), negative, size);
@@ -443,7 +446,7 @@ pub fn fits_scalar(
     match v {
         Scalar::Null => false,
         Scalar::Text(_, _) => text_fits(kind, p, q, r, width, text),
-        Scalar::Int(negative, size) => int_fits(kind, q, width, negative, size),
+        Scalar::Int(negative, size) => int_fits(kind, p, q, width, negative, size),
         Scalar::Decimal(negative, size, scale) => scaled_fits(
             kind,
             p,

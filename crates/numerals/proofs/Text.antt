@@ -34,13 +34,17 @@ inked-digitText (suc w) size =
     let d = digit-below w size in
     inked-cons (asciiOf (digitAt w size)) (digitText w size) (omega arith) (omega arith) (inked-digitText w size)
 
-no-blank : (x : ℕ) → 43 ≤ x → isBlank x ≡ false
+pub no-blank : (x : ℕ) → 43 ≤ x → isBlank x ≡ false
 no-blank x h = rw (ne-eqb x 32 (omega arith), lt-leb x 13 (omega arith), and-false)
 
+-- bytes from + on are trimmed away nowhere
+pub trimmed-kept : (t : List ℕ) → ((k : ℕ) → k < length t → 43 ≤ getD t k 0) → trimmed t ≡ t
+trimmed-kept t h =
+    ap (rightBy isBlank) (left-kept isBlank t (λ k. no-blank (getD t 0 0) (h 0 k)))
+    ∙ right-kept isBlank t (λ k. no-blank (getD t (length t - 1) 0) (h (length t - 1) (omega arith)))
+
 pub trimmed-inked : (t : List ℕ) → Inked t → trimmed t ≡ t
-trimmed-inked t h =
-    ap (rightBy isBlank) (left-kept isBlank t (λ k. no-blank (getD t 0 0) (h 0 k .0)))
-    ∙ right-kept isBlank t (λ k. no-blank (getD t (length t - 1) 0) (h (length t - 1) (omega arith) .0))
+trimmed-inked t h = trimmed-kept t (λ k l. h k l .0)
 
 -- ---- the digits of a text
 

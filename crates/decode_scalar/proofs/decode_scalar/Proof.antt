@@ -5,11 +5,10 @@ use borrow.Author.Tests.{ne-eqb}
 use lib.Dec.{eqb}
 use lib.ListN.{length}
 use Rattle.ebcdic.specs.Ebcdic.{fromPage}
-use Rattle.display.specs.Display as Display
 use Rattle.binary.specs.Binary.{integerOf}
 use Rattle.float.specs.Field.{floatIn}
 use Rattle.edited.specs.Edited as Edited
-use Rattle.decode_scalar.specs.Decode.{flag, says, answerOf, intSays, decimalSays, floatSays, decimalIn}
+use Rattle.decode_scalar.specs.Decode.{flag, says, answerOf, intSays, decimalSays, floatSays, intIn, decimalIn}
 use Rattle.decode_scalar.proofs.Answers.{answered, int-plain, decimal-plain, float-plain}
 use borrow.Author.Needs.{needs}
 use Rattle.decode_scalar.proofs.decode_scalar.Statement.{statement}
@@ -27,8 +26,8 @@ low-byte-requires c κs = search needs
 read-text-requires : tie.Need-read-text-requires
 read-text-requires c κs = search needs
 
-parse-display-int-requires : tie.Need-parse-display-int-requires
-parse-display-int-requires c κs = search needs
+parse-int-requires : tie.Need-parse-int-requires
+parse-int-requires c κs = search needs
 
 int-scalar-requires : tie.Need-int-scalar-requires
 int-scalar-requires c κs = search needs
@@ -78,7 +77,9 @@ returns c = rw (c .before .before .before .before .before .before .before .match
 
 returns-2 : tie.Need-returns-2
 unfolding says
-returns-2 c = rw (c .before .before .match .keys2) (answered _ _ _ (int-plain (Display.intOf (c .before .before .before .before .before .args .q) (map (fromPage (c .before .before .before .before .before .args .page)) (c .before .before .before .before .before .args .part .now)))) (c .int-scalar .ensures ∙ ap (λ n. answerOf (intSays n) 0) (c .before .parse-display-int .ensures)))
+returns-2 c =
+    let a = c .before .before .before .before .before .args in
+    rw (c .before .before .match .keys2) (answered _ _ _ (int-plain (intIn (a .p) (a .q) (a .page) (a .part .now))) (c .int-scalar .ensures ∙ ap (λ n. answerOf (intSays n) 0) (c .before .parse-int .ensures)))
 
 returns-3 : tie.Need-returns-3
 unfolding says
@@ -128,7 +129,7 @@ decode-scalar-spec =
     flag-requires-2
     low-byte-requires
     read-text-requires
-    parse-display-int-requires
+    parse-int-requires
     int-scalar-requires
     flag-requires-3
     parse-binary-int-requires

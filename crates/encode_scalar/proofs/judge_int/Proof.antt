@@ -23,7 +23,9 @@ enum-told-2 : tie.Need-enum-told-2
 enum-told-2 c = search needs
 
 returns : tie.Need-returns
-returns c = c .fitting .ensures ∙ rw (c .before .fits-int .ensures) refl ∙ sym (ap (λ (m : Number). intJudged (c .before .before .before .before .before .args .width) (c .before .before .before .before .before .args .signed) (c .before .before .before .before .before .args .sign) (writtenAs m)) (c .before .before .before .n .given .1))
+returns c =
+    let a = c .before .before .before .before .before .args in
+    c .fitting .ensures ∙ rw (c .before .fits-int .ensures) refl ∙ sym (ap (λ (m : Number). intJudged (a .p) (a .q) (a .width) (writtenAs m)) (c .before .before .before .n .given .1))
 
 returns-2 : tie.Need-returns-2
 returns-2 c = search needs

@@ -6,9 +6,6 @@ use borrow.Author.Needs.{needs}
 use Rattle.encode_scalar.proofs.judge_number.Statement.{statement}
 use Rattle.encode_scalar.proofs.judge_number.Tie as tie
 
-flag-requires : tie.Need-flag-requires
-flag-requires c κs = search needs
-
 as-i128-requires : tie.Need-as-i128-requires
 as-i128-requires c κs = search needs
 
@@ -44,7 +41,7 @@ judge-edited-requires c κs = search needs
 
 returns : tie.Need-returns
 unfolding numberJudged
-returns c = rw (c .before .before .before .match .keys1, ← (c .before .before .flag .ensures), ← (c .before .as-i128 .ensures)) (c .judge-int .ensures)
+returns c = rw (c .before .before .match .keys1, ← (c .before .as-i128 .ensures)) (c .judge-int .ensures)
 
 returns-2 : tie.Need-returns-2
 unfolding numberJudged
@@ -76,7 +73,6 @@ pub judge-number-spec : {M : Type 1} → statement M
 judge-number-spec =
     tie.close
     (tie.spec
-    flag-requires
     as-i128-requires
     judge-int-requires
     as-i128-requires-2

@@ -3,8 +3,7 @@ use mathlib.Core.List.{map}
 use Prim.Native.Nat.{_-_}
 use lib.ListN.{length}
 use Rattle.ebcdic.specs.Ebcdic.{ontoPage}
-use Rattle.display.specs.Display as Display
-use Rattle.encode_scalar.specs.Encode.{intWritten}
+use Rattle.encode_scalar.specs.Encode.{intFit, intText, intWritten}
 use Rattle.encode_scalar.proofs.Parts.{fitted, int-length}
 use borrow.Author.Needs.{needs}
 use Rattle.encode_scalar.proofs.write_int.Statement.{statement}
@@ -13,8 +12,8 @@ use Rattle.encode_scalar.proofs.write_int.Tie as tie
 enum-known-n : tie.Need-enum-known-n
 enum-known-n c = search needs
 
-encode-display-int-requires : tie.Need-encode-display-int-requires
-encode-display-int-requires c κs = search needs
+encode-int-requires : tie.Need-encode-int-requires
+encode-int-requires c κs = search needs
 
 fitting-requires : tie.Need-fitting-requires
 fitting-requires c κs = search needs
@@ -29,13 +28,16 @@ same-length : tie.Need-same-length
 same-length c = search needs
 
 returns : tie.Need-returns
-unfolding Display.intWritten
 returns c =
     let a = c .before .before .before .before .before .before .before .before .before .args in
     let g = c .before .before .before .before .before .before .n .given in
     let w = length (a .part .now) in
-    let f = Display.intFits w (g .0 .0) (g .0 .1 .0) (a .signed) (a .sign) in
-    rw (g .1) (c .fitting .ensures ∙ rw (c .before .before .before .encode-display-int .ensures .0) refl, fitted f (map (ontoPage (a .page)) (Display.intBytes w (g .0 .0) (g .0 .1 .0) (a .sign))) (a .part .now) (c .before .before .before .encode-display-int .last .0) (c .before .before .before .encode-display-int .ensures .1) (int-length (a .page) w (g .0 .0) (g .0 .1 .0) (a .signed) (a .sign)))
+    let encode = c .before .before .before .encode-int in
+    rw (g .1) (
+      c .fitting .ensures ∙ rw (encode .ensures .0) refl,
+      fitted (intFit (a .p) (a .q) w (g .0 .0) (g .0 .1 .0)) (map (ontoPage (a .page)) (intText (a .p) (a .q) w (g .0 .0) (g .0 .1 .0))) (a .part .now) (encode .last .0) (encode .ensures .1)
+      (int-length (a .p) (a .q) (a .page) w (g .0 .0) (g .0 .1 .0)),
+    )
 
 returns-2 : tie.Need-returns-2
 returns-2 c = rw (c .enum-told .given .1) (refl, refl)
@@ -48,7 +50,7 @@ write-int-spec =
     tie.close
     (tie.spec
     enum-known-n
-    encode-display-int-requires
+    encode-int-requires
     fitting-requires
     enum-told
     enum-told-2

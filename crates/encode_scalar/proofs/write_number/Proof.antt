@@ -9,9 +9,6 @@ use borrow.Author.Needs.{needs}
 use Rattle.encode_scalar.proofs.write_number.Statement.{statement}
 use Rattle.encode_scalar.proofs.write_number.Tie as tie
 
-flag-requires : tie.Need-flag-requires
-flag-requires c κs = search needs
-
 as-i128-requires : tie.Need-as-i128-requires
 as-i128-requires c κs = search needs
 
@@ -44,7 +41,7 @@ same-length c = search needs
 
 returns : tie.Need-returns
 unfolding numberJudged numberBytes
-returns c = rw (c .before .before .before .before .before .before .match .keys1, ← (c .before .before .before .before .flag .ensures), ← (c .before .before .before .as-i128 .ensures)) (c .before .before .write-int .ensures)
+returns c = rw (c .before .before .before .before .before .match .keys1, ← (c .before .before .before .as-i128 .ensures)) (c .before .before .write-int .ensures)
 
 same-length-2 : tie.Need-same-length-2
 same-length-2 c = search needs
@@ -84,7 +81,6 @@ pub write-number-spec : {M : Type 1} → statement M
 write-number-spec =
     tie.close
     (tie.spec
-    flag-requires
     as-i128-requires
     write-int-requires
     as-i128-requires-2

@@ -3,12 +3,16 @@
 // - COBOL: GnuCOBOL's fields on standard input, made by tools/cobol-vectors;
 // - IEEE 754: every binary16 number, and pseudo-random ones of the other sizes, as a sum that Python's struct and ctypes gave.
 
+use codes::KIND_INT;
+use codes::TAG_INT;
+use decode_scalar::Decoded;
 use float::Parsed;
 use libc::STDOUT_FILENO;
 use testing::at;
 use testing::more;
 use value::Amount;
 use value::Number;
+use value::Scalar;
 ghost use Prim.Native.Nat.{_<_, _≤_};
 ghost use lib.ListN.{length};
 
@@ -372,6 +376,32 @@ fn same_bytes(r: &[u8], part: &[u8]) -> bool {
     true
 }
 
+// A signed Embedded Int; it has no mask and no text.
+fn encode_int(part: &mut [u8], none: &[u8], size: u64, negative: bool) -> bool {
+    let word = value::word_of(negative, size);
+    encode_scalar::encode_scalar(part, KIND_INT, 1, 1, 0, 0, none, 0, TAG_INT, word, 0, none) == 0
+}
+
+fn decode_int(part: &[u8]) -> Number {
+    let mut text = [0u8; 1];
+    match decode_scalar::decode_scalar(KIND_INT, 1, 1, 0, 0, part, &mut text) {
+        Decoded::Value(v) => whole_in(v),
+        Decoded::Refused(_) => Number::Bad,
+    }
+}
+
+fn whole_in(v: Scalar) -> Number {
+    match v {
+        Scalar::Int(negative, size) => Number::Of(negative, size),
+        Scalar::Null => Number::Bad,
+        Scalar::Text(_, _) => Number::Bad,
+        Scalar::Decimal(_, _, _) => Number::Bad,
+        Scalar::Float(_) => Number::Bad,
+        Scalar::FloatBits(_) => Number::Bad,
+        Scalar::Bool(_) => Number::Bad,
+    }
+}
+
 fn encode_row(r: &[u8], part: &mut [u8], size: u64, negative: bool) -> bool {
     let kind = at(r, 0);
     let signed = at(r, 1) == 115;
@@ -380,6 +410,9 @@ fn encode_row(r: &[u8], part: &mut [u8], size: u64, negative: bool) -> bool {
     }
     if kind == 122 {
         return zoned::encode(part, 0, negative, size, signed);
+    }
+    if kind == 105 {
+        return encode_int(part, &r[0..0], size, negative);
     }
     let w = part.len();
     if 24 + 18 <= r.len() {
@@ -398,6 +431,9 @@ fn decode_row(r: &[u8], part: &[u8]) -> Number {
     }
     if kind == 122 {
         return zoned::decode(part, 0);
+    }
+    if kind == 105 {
+        return decode_int(part);
     }
     edited::decode(part, 0, true)
 }
@@ -609,6 +645,11 @@ fn main() {
     page_037();
     cobol(&all[..n], 112, b"COBOL packed, written and read");
     cobol(&all[..n], 122, b"COBOL zoned, written and read");
+    cobol(
+        &all[..n],
+        105,
+        b"COBOL whole numbers with an embedded sign, written and read",
+    );
     cobol(&all[..n], 101, b"COBOL edited, written and read");
     worked();
     halves();

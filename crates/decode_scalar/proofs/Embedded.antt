@@ -24,7 +24,7 @@ use Rattle.numerals.specs.Numerals.{isBlank, trimmed}
 use Rattle.numerals.proofs.Text.{no-blank}
 use Rattle.display.specs.Display as Display
 use Rattle.zoned.specs.Zoned.{zone, digitOf, lastDigit, anySign, minus, zonedBy}
-use Rattle.decode_scalar.specs.Decode.{isEmbedded, isOverpunched, isZoned, embeddedOf}
+use Rattle.decode_scalar.specs.Decode.{isOverpunched, isZoned, embeddedOf}
 
 -- { } A to R stand above the digits, the signs and the blanks
 pub over-high : (b : ℕ) → isOverpunched b ≡ true → 64 < b
@@ -100,8 +100,8 @@ module _ (b : ℕ) (high : 64 < b) where
   whole-bad [] = rw (ne-eqb b 45 (omega arith), ne-eqb b 43 (omega arith)) (digits-bad (2 ^ 63) false [])
   whole-bad (x ∷ s) = by (eqb x 45) (eqb x 43)
     where
-      by : (m p : Bool)
-          → cond m (Display.digitsIn (2 ^ 63 + 1) true (s ++ (b ∷ []))) (cond p (Display.digitsIn (2 ^ 63) false (s ++ (b ∷ []))) (Display.digitsIn (2 ^ 63) false (x ∷ (s ++ (b ∷ []))))) ≡ unlawful
+      by : (m p : Bool) → cond m (Display.digitsIn (2 ^ 63 + 1) true (s ++ (b ∷ [])))
+          (cond p (Display.digitsIn (2 ^ 63) false (s ++ (b ∷ []))) (Display.digitsIn (2 ^ 63) false (x ∷ (s ++ (b ∷ []))))) ≡ unlawful
       by true p = digits-bad (2 ^ 63 + 1) true s
       by false true = digits-bad (2 ^ 63) false s
       by false false = digits-bad (2 ^ 63) false (x ∷ s)

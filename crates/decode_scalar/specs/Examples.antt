@@ -1,6 +1,6 @@
 -- Signed Embedded Ints, by computation: p and q are 1.
 use mathlib.Core.Path.{_≡_, refl}
-use mathlib.Core.List.{List, [], _∷_, map}
+use mathlib.Core.List.{List, [], _∷_}
 use mathlib.Core.Bool.{true, false}
 use Prim.Native.Nat.{ℕ, _-_, _^_}
 use Rattle.lists.specs.Scan.{leftBy, rightBy, everyBy}

@@ -79,7 +79,7 @@ wholeIn (BoolV b) text = noNumber
 unfoldable pub intFits : ℕ → Bool → ℕ → Bool → ℕ → Bool
 intFits w negative size signed sign = cond (isSeparate sign) (roomFor (w - 1) size) (not (negative && not signed) && roomFor w size)
 
--- "signed Int without a separate sign and Embedded Display lose the minus"
+-- "signed Int without a separate sign and Embedded Display lose the minus"; since S-4 of 02 signed Embedded Ints are zoned numbers and are not written here
 unfoldable pub intBytes : ℕ → Bool → ℕ → ℕ → List ℕ
 intBytes w negative size sign =
     cond (eqb sign 2) (signByte negative ∷ digitText (w - 1) size)

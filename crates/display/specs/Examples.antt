@@ -85,7 +85,7 @@ precise : decimalFits 3 4 false 5 0 ≡ false
 unfolding decimalFits
 precise = refl
 
-lost : intWritten 0 true 7 true 1 (0 ∷ 0 ∷ []) ≡ (0x30 ∷ 0x37 ∷ [])
+lost : intWritten 0 true 7 true 0 (0 ∷ 0 ∷ []) ≡ (0x30 ∷ 0x37 ∷ [])
 unfolding intWritten intFits intBytes ontoPage
 lost = refl
 

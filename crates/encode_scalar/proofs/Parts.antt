@@ -78,7 +78,8 @@ zoned-length page w negative size signed f = length-map (Zoned.encodedOf w negat
 pub int-length : (p q page w : ℕ) (negative : Bool) (size : ℕ) → intFit p q w negative size ≡ true → length (map (ontoPage page) (intText p q w negative size)) ≡ w
 int-length p q page w negative size f = by (isEmbedded p q) f
   where
-    by : (e : Bool) → cond e (embeddedFit w size) (intFits w negative size (flag p) q) ≡ true → length (map (ontoPage page) (cond e (Zoned.encodedOf w negative size true) (intBytes w negative size q))) ≡ w
+    by : (e : Bool) → cond e (embeddedFit w size) (intFits w negative size (flag p) q) ≡ true
+        → length (map (ontoPage page) (cond e (Zoned.encodedOf w negative size true) (intBytes w negative size q))) ≡ w
     by true f = zoned-length page w negative size true (and-right (ltb size (2 ^ 63)) (Zoned.fitsOf w size) f)
     by false f = display-length page w negative size (flag p) q f
 

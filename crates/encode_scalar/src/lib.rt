@@ -208,7 +208,8 @@ fn write_text(part: &mut [u8], page: u32, right: bool, pad: u8, v: Scalar, text:
 
 fn encode_embedded(part: &mut [u8], page: u32, negative: bool, size: u64) -> bool
     ensures { λ r. ⌜ r ≡ embeddedFit (length (now (part .entry))) size ⌝ }
-    ensures { λ _. ⌜ now (part .exit) ≡ cond (embeddedFit (length (now (part .entry))) size) (map (ontoPage page) (encodedOf (length (now (part .entry))) negative size true)) (now (part .entry)) ⌝ }
+    ensures { λ _. ⌜ now (part .exit) ≡ cond (embeddedFit (length (now (part .entry))) size)
+        (map (ontoPage page) (encodedOf (length (now (part .entry))) negative size true)) (now (part .entry)) ⌝ }
 {
     if size >= 0x8000_0000_0000_0000 {
         return false;
@@ -218,7 +219,8 @@ fn encode_embedded(part: &mut [u8], page: u32, negative: bool, size: u64) -> boo
 
 fn encode_int(part: &mut [u8], page: u32, p: u32, q: u32, negative: bool, size: u64) -> bool
     ensures { λ r. ⌜ r ≡ intFit p q (length (now (part .entry))) negative size ⌝ }
-    ensures { λ _. ⌜ now (part .exit) ≡ cond (intFit p q (length (now (part .entry))) negative size) (map (ontoPage page) (intText p q (length (now (part .entry))) negative size)) (now (part .entry)) ⌝ }
+    ensures { λ _. ⌜ now (part .exit) ≡ cond (intFit p q (length (now (part .entry))) negative size)
+        (map (ontoPage page) (intText p q (length (now (part .entry))) negative size)) (now (part .entry)) ⌝ }
 {
     if decode_scalar::is_embedded(p, q) {
         return encode_embedded(part, page, negative, size);

@@ -1,7 +1,7 @@
 -- A signed Embedded Int that was written as a zoned number is read back: its bytes are no blanks, digits and then one that is overpunched.
-use mathlib.Core.Path.{_≡_, refl, sym, ap, _∙_}
+use mathlib.Core.Path.{_≡_, refl}
 use mathlib.Core.List.{List, [], _∷_, _++_, map}
-use mathlib.Core.Bool.{Bool, true, false, cond}
+use mathlib.Core.Bool.{Bool, true, false}
 use Prim.Native.Nat.{ℕ, zero, suc, _+_, _-_, _/_, _^_, _<_, _≤_}
 use native.Mathlib.Decide.{decLt}
 use native.Mathlib.Omega.{arith}
@@ -10,9 +10,8 @@ use lib.ListN.{length, getD, List·getD-append}
 use lib.Seq.{getD-at}
 use borrow.Author.Tests.{le-leb, ne-eqb}
 use Rattle.lists.proofs.Logic.{and}
-use Rattle.value.specs.Digits.{digitAt, digitText, isDigit}
-use Rattle.value.specs.Field.{lastOf}
-use Rattle.value.specs.Number.{some, readIn, unlawful}
+use Rattle.value.specs.Digits.{digitAt, digitText}
+use Rattle.value.specs.Number.{some}
 use Rattle.value.proofs.Digits.{digit-below, length-digitText}
 use Rattle.value.proofs.Field.{last-snoc, front-snoc}
 use Rattle.value.proofs.Room.{room-some}
@@ -20,7 +19,7 @@ use Rattle.ebcdic.specs.Ebcdic.{fromPage, ontoPage}
 use Rattle.ebcdic.proofs.Laws.{bytes-back}
 use Rattle.numerals.specs.Numerals.{trimmed}
 use Rattle.numerals.proofs.Text.{inked-digitText, trimmed-kept, all-digits}
-use Rattle.zoned.specs.Zoned.{overpunch, zonedBy, encodedOf, fitsOf}
+use Rattle.zoned.specs.Zoned.{overpunch, encodedOf, fitsOf}
 use Rattle.zoned.proofs.Back.{encoded-length, encoded-byte, within}
 use Rattle.decode_scalar.specs.Decode.{isOverpunched, isZoned, embeddedOf}
 use Rattle.decode_scalar.proofs.Embedded.{over-high}

@@ -42,7 +42,8 @@ pub data Fits (p q r s : ℕ) (mask : List ℕ) (w : ℕ) : ℕ → Scalar → L
   -- "never −2^63"
   int-fits : (negative : Bool) (size : ℕ) (t : List ℕ) → isEmbedded p q ≡ false → Digits w q negative size → size < 2 ^ 63 → Fits p q r s mask w kindInt (Int negative size) t
   -- 02, S-4: "Fitting lists now hold such values of size below 10^w, −2^63 excepted"
-  embedded-fits : (negative : Bool) (size : ℕ) (t : List ℕ) → isEmbedded p q ≡ true → 0 < w → size < 10 ^ w → size < 2 ^ 63 → Minus negative size → Fits p q r s mask w kindInt (Int negative size) t
+  embedded-fits : (negative : Bool) (size : ℕ) (t : List ℕ) → isEmbedded p q ≡ true → 0 < w → size < 10 ^ w → size < 2 ^ 63 → Minus negative size
+      → Fits p q r s mask w kindInt (Int negative size) t
   binary-fits : (negative : Bool) (size : ℕ) (t : List ℕ) → widthOk w ≡ true → InRange w (flag q) negative size → Fits p q r s mask w kindBinary (Int negative size) t
   -- "Float: 64 any; 32 exact, no NaN; 16 exact normal, zero or infinity"
   float-fits : (x : ℕ) (t : List ℕ) → Exact q x → w ≡ q / 8 → Fits p q r s mask w kindFloat (floatOf x) t

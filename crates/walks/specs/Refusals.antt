@@ -23,7 +23,7 @@ use Rattle.binary.specs.Bytes as Bytes
 use Rattle.float.specs.Convert.{decimalFor}
 use Rattle.hex.specs.Hex as Hex
 use Rattle.text.specs.Text as Text
-use Rattle.decode_scalar.specs.Decode.{says}
+use Rattle.decode_scalar.specs.Decode.{says, embeddedOf}
 use Rattle.encode_scalar.specs.Encode.{numberJudged, numberBytes, judgedOf, bytesOf}
 use Rattle.fits.specs.Decide as Scalar
 use Rattle.walks.specs.Walk.{howMany}
@@ -63,6 +63,7 @@ reader-refuses :
     ∷ readNumber (entry 0 0 1 1 2 7 1 0 0 0) (0x31 ∷ []) 8 4 4
     ∷ readNumber counted (0x33 ∷ 0x31 ∷ 0x31 ∷ 0x31 ∷ []) 40 4 4
     ∷ readNumber (behind (once 0 0 1 2 0 1 0)) largest 40 4 4
+    ∷ readNumber (behind (once 0 0 1 1 1 1 0)) (0x4A ∷ 0x31 ∷ []) 40 4 4
     ∷ readNumber counted (0x32 ∷ 0x31 ∷ []) 40 4 4
     ∷ readNumber (once 0 0 1 7 1 1 0) (0x19 ∷ []) 8 4 4
     ∷ readNumber (once 0 0 8 2 0 0 0) largest 8 4 4
@@ -77,8 +78,8 @@ reader-refuses :
     ∷ readNumber (entry 0 0 0 0 2 absent 1 0 1 0x20) [] 3 4 4
     ∷ readNumber (entry 0 0 0 0 2 absent 1 0 1 0x20) [] 4 4 4
     ∷ []
-    ≡ 1 ∷ 2 ∷ 3 ∷ 16 ∷ 4 ∷ 5 ∷ 6 ∷ 6 ∷ 7 ∷ 8 ∷ 9 ∷ 10 ∷ 16 ∷ 16 ∷ 8 ∷ 8 ∷ 8 ∷ 16 ∷ 16 ∷ 10 ∷ []
-unfolding layoutAsks checkedOf wordsOk entriesOk allBelow entryOk placeOk optionOk kindOk plainOk boolOk floatOk editedOk upTo spansOk nested size tree treeIn entryAt recordLength furthest reservedWidth dependsIn someBelow decodeRecord R.seq R.field R.elements R.one R.pad R.scalar R.container unrepeated isPad controls howMany look dec says fromPage everyBy leftBy rightBy beforeBy fieldOf Display.intOf Display.intIn Display.digitsIn Display.signAt Display.restOf Display.wholeOf Packed.decodeOf Text.cut wordIn integerOf
+    ≡ 1 ∷ 2 ∷ 3 ∷ 16 ∷ 4 ∷ 5 ∷ 6 ∷ 6 ∷ 6 ∷ 7 ∷ 8 ∷ 9 ∷ 10 ∷ 16 ∷ 16 ∷ 8 ∷ 8 ∷ 8 ∷ 16 ∷ 16 ∷ 10 ∷ []
+unfolding layoutAsks checkedOf wordsOk entriesOk allBelow entryOk placeOk optionOk kindOk plainOk boolOk floatOk editedOk upTo spansOk nested size tree treeIn entryAt recordLength furthest reservedWidth dependsIn someBelow decodeRecord R.seq R.field R.elements R.one R.pad R.scalar R.container unrepeated isPad controls howMany look dec says fromPage everyBy leftBy rightBy beforeBy fieldOf Display.intOf Display.intIn Display.digitsIn Display.signAt Display.restOf Display.wholeOf Packed.decodeOf Text.cut wordIn integerOf embeddedOf
 reader-refuses = refl
 
 -- ---- 02, S-1: "An unrepeated Decimal of scale 0 now sets the count for its name, in all three forms."

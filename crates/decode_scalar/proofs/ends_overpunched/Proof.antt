@@ -1,3 +1,4 @@
+-- A part of no bytes has no last byte; of any other the last byte is looked up on its page.
 use mathlib.Core.Path.{sym, ap, _∙_}
 use Prim.Native.Nat.{_-_}
 use native.Mathlib.Omega.{arith}

@@ -1,3 +1,4 @@
+-- Each way fixes one of the two tests.
 use borrow.Author.Tests.{eq-eqb, ne-eqb}
 use lib.Dec.{eqb}
 use Rattle.decode_scalar.proofs.is_embedded.Statement.{statement}

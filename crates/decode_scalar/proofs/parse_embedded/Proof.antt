@@ -1,6 +1,5 @@
 -- What is trimmed is read as the last byte tells; that this is the definition's way is the law of Embedded.
-use mathlib.Core.Path.{_≡_, sym, ap, _∙_}
-use mathlib.Core.Bool.{Bool, true, false}
+use mathlib.Core.Path.{sym, ap, _∙_}
 use mathlib.Core.List.{List, map}
 use Prim.Native.Nat.{ℕ, _^_}
 use borrow.Author.Needs.{needs}

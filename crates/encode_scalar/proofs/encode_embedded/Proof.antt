@@ -1,3 +1,4 @@
+-- A size from 2^63 on fails the first test of the definition; below it the zoned writer promises the rest.
 use borrow.Author.Needs.{needs}
 use borrow.Author.Tests.{lt-ltb, le-ltb}
 use native.Mathlib.Omega.{arith}

@@ -1,3 +1,4 @@
+-- A size from 2^63 on fails the first test of the definition; below it the room for the digits is the rest.
 use Prim.Native.Nat.{_^_}
 use native.Mathlib.Omega.{arith}
 use borrow.Author.Needs.{needs}

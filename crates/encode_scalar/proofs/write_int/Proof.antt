@@ -3,7 +3,7 @@ use mathlib.Core.List.{map}
 use Prim.Native.Nat.{_-_}
 use lib.ListN.{length}
 use Rattle.ebcdic.specs.Ebcdic.{ontoPage}
-use Rattle.encode_scalar.specs.Encode.{intFit, intText, intWritten}
+use Rattle.encode_scalar.specs.Encode.{intFit, intText}
 use Rattle.encode_scalar.proofs.Parts.{fitted, int-length}
 use borrow.Author.Needs.{needs}
 use Rattle.encode_scalar.proofs.write_int.Statement.{statement}
@@ -36,7 +36,7 @@ returns c =
     rw (g .1) (
       c .fitting .ensures ∙ rw (encode .ensures .0) refl,
       fitted (intFit (a .p) (a .q) w (g .0 .0) (g .0 .1 .0)) (map (ontoPage (a .page)) (intText (a .p) (a .q) w (g .0 .0) (g .0 .1 .0))) (a .part .now) (encode .last .0) (encode .ensures .1)
-      (int-length (a .p) (a .q) (a .page) w (g .0 .0) (g .0 .1 .0)),
+          (int-length (a .p) (a .q) (a .page) w (g .0 .0) (g .0 .1 .0)),
     )
 
 returns-2 : tie.Need-returns-2

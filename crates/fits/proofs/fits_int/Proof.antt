@@ -1,3 +1,4 @@
+-- A size from 2^63 on fails the first test of the definition; below it the test of the entry picks the other.
 use mathlib.Core.Path.{sym, _∙_}
 use Prim.Native.Nat.{_^_}
 use native.Mathlib.Omega.{arith}

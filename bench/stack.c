@@ -99,7 +99,7 @@ int main(void)
     for (page = 0; page < 2; page++) {
         used = 0;
         for (level = 0; level < 7; level++)
-            entry(level, 0, 64, 9, 19 - level, 0, 0, 0);
+            entry(level, 0, 64, 9, 20 - level, 0, 0, 0);
         entry(20, 0, 8, 0, 1, 0, 1, 32);
         entry(21, 0, 4, 1, 1, 1, 2, 0);
         entry(22, 0, 4, 2, 1, 0, 1, 0);
@@ -112,8 +112,10 @@ int main(void)
         entry(29, 8, 5, 7, 1, 1, 1, 2);
         entry(30, 16, 5, 7, 1, 2, 1, 2);
         entry(31, 24, 7, 8, 1, 1, 0, 2);
+        entry(32, 32, 4, 1, 1, 1, 1, 0);
         memset(record, page ? 0xF0 : '0', sizeof record);
         memcpy(record + 8, "\x12\x34\x56\x78\x9C", 5);
+        record[35] = page ? 0xD1 : 'J';
         measure("decode_record", decode);
         kept = b;
         measure("encode_record", encode);

@@ -29,6 +29,7 @@ fn readings() -> Vec<Kind> {
     }
     all.push(kind(5, 0, 0, 0, 0));
     for sign in 0..4 {
+        all.push(kind(1, 0, sign, 0, 0));
         all.push(kind(1, 1, sign, 0, 0));
         for p in 0..3 {
             all.push(kind(7, p, sign, 3, 0));

@@ -36,7 +36,7 @@ plus : signed 0 (0x31 ∷ 0x41 ∷ []) ≡ some false 11
 unfolding embeddedOf fieldOf leftBy rightBy everyBy fromPage
 plus = refl
 
--- `1}2`, `1r`, `-1}`: no digits but the last, and no number as before
+-- `1}2`, `1r`, `-1}`: not digits and then one of { } A to R, so refused as before
 inside : signed 0 (0x31 ∷ 0x7D ∷ 0x32 ∷ []) ≡ refused 8
 unfolding embeddedOf leftBy rightBy everyBy fromPage intOf textIn signAt restOf digitsIn wholeOf
 inside = refl
@@ -63,6 +63,10 @@ unfolding embeddedOf leftBy rightBy everyBy fromPage intOf textIn signAt restOf 
 blanks-alone = refl
 
 -- no Embedded sign, or not signed: `}` is no digit
+not-embedded : intIn 1 0 0 (0x7D ∷ []) ≡ refused 8
+unfolding leftBy rightBy everyBy fromPage intOf textIn signAt restOf digitsIn wholeOf
+not-embedded = refl
+
 unsigned : intIn 0 1 0 (0x7D ∷ []) ≡ refused 8
 unfolding leftBy rightBy everyBy fromPage intOf textIn signAt restOf digitsIn wholeOf
 unsigned = refl

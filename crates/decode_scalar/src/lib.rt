@@ -111,7 +111,7 @@ fn ends_overpunched(part: &[u8], page: u32) -> bool
     is_overpunched(ebcdic::from_page(page, b))
 }
 
-// The number of a signed Embedded Int: of a zoned field where an overpunched byte stands last.
+// The number of a signed Embedded Int: of a zoned field where an overpunched byte stands last, else as of any other Int.
 fn parse_embedded(part: &[u8], page: u32) -> Number
     ensures { λ r. ⌜ readAs r ≡ embeddedOf (map (fromPage page) (now (part .entry))) ⌝ }
 {

@@ -46,7 +46,7 @@ fn fitting(fits: bool) -> u32
 
 // ---- the judging alone
 
-// A signed Embedded Int is written as a zoned number, which holds no size from 2^63 on.
+// A signed Embedded Int is written as a zoned number; -2^63, the one size from 2^63 on, is refused.
 fn fits_embedded(width: usize, size: u64) -> bool
     ensures { λ r. ⌜ r ≡ embeddedFit width size ⌝ }
 {

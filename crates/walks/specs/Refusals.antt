@@ -63,6 +63,7 @@ reader-refuses :
     ∷ readNumber (entry 0 0 1 1 2 7 1 0 0 0) (0x31 ∷ []) 8 4 4
     ∷ readNumber counted (0x33 ∷ 0x31 ∷ 0x31 ∷ 0x31 ∷ []) 40 4 4
     ∷ readNumber (behind (once 0 0 1 2 0 1 0)) largest 40 4 4
+    -- 02, S-4: a signed Embedded Int of -1
     ∷ readNumber (behind (once 0 0 1 1 1 1 0)) (0x4A ∷ 0x31 ∷ []) 40 4 4
     ∷ readNumber counted (0x32 ∷ 0x31 ∷ []) 40 4 4
     ∷ readNumber (once 0 0 1 7 1 1 0) (0x19 ∷ []) 8 4 4

@@ -199,6 +199,12 @@ pub fn bytes(g: &mut Random, k: &Kind, page: u32, w: usize) -> Vec<u8> {
             let digits = g.below(3) == 0;
             (0..w).map(|i| if digits || (i > 1 && i + 2 < w) { 48 + g.below(10) as u8 } else { g.pick(b"0123456789 +-\t,.CRcrDBdb") }).collect()
         }
+        // pads before a zero byte, or nearly so, in every third text
+        (0, _) if g.below(3) == 0 && w > 0 => {
+            let zero = g.below(w as u64) as usize;
+            let pads = zero - g.below(zero as u64 + 1).min(3) as usize;
+            (0..w).map(|i| if i == zero { 0 } else if (pads..zero).contains(&i) { k.r as u8 } else { g.pick(b"AB 0z") }).collect()
+        }
         (0, _) => (0..w).map(|_| g.pick(b"AB 0\0z\x7f\x80")).collect(),
         _ => (0..w).map(|_| g.next() as u8).collect(),
     };

@@ -242,10 +242,12 @@ pub fn reads(k: &Kind, pg: u32, part: &[u8]) -> (Result<Value, u32>, Seen) {
     let ascii: Vec<u8> = part.iter().map(|&b| if pg == 0 { b } else { ebcdic::to_ascii(b) }).collect();
     let high = ascii.iter().any(|&b| b >= 0x80);
     let seen = match (&ours, &theirs) {
+        (Ok((Value::Text(a), _)), _) if pad_before_zero(k, &ascii) && *a == text_of(k, &ascii) => Seen::Listed("the pad before the first 0 byte of a left-justified Text is cut too (S-5)"),
+        (a, b) if pad_before_zero(k, &ascii) => Seen::Other(format!("port {:?}, definition {:?}, Rust {b:?}", a.as_ref().map(|x| &x.0), text_of(k, &ascii))),
         (Ok((a, _)), Ok(b)) if same(a, b) => Seen::Same,
         (Err(8), Err(_)) | (Err(9), Err(_)) => Seen::Same,
         (Ok((Value::Float(a), _)), Ok(Value::Float(b))) if a.is_nan() && b.is_nan() && k.q != 64 && a.to_bits() == 0x7FF8_0000_0000_0000 => Seen::Listed("NaN of 16 or 32 bits reads as 0x7FF8000000000000"),
-        (Ok((Value::Text(a), _)), Ok(Value::Text(_))) if k.kind == 0 && high && *a == bytes_kept(k, &ascii) => Seen::Listed("bytes from 0x80 are kept in Text"),
+        (Ok((Value::Text(a), _)), Ok(Value::Text(_))) if k.kind == 0 && high && *a == text_of(k, &ascii) => Seen::Listed("bytes from 0x80 are kept in Text"),
         (Err(8), Ok(_)) if matches!(k.kind, 1 | 7 | 8) && k.p_is_text() && high => Seen::Listed("bytes from 0x80 refused in Int, Display, Edited (8)"),
         (Err(9), Ok(Value::Decimal { unscaled, .. })) if unscaled.abs() >= LIMIT => Seen::Listed("Decimal sizes from 10^18 (9)"),
         (Err(9), Ok(Value::Int(n))) if k.kind == 2 && k.q == 0 && *n < 0 => Seen::Listed("unsigned Binary from 2^63 (9)"),
@@ -283,16 +285,22 @@ pub fn read(t: &mut Tally, k: &Kind, pg: u32, part: &[u8]) {
     t.note(group, ours.as_ref().err().copied().unwrap_or(0), seen, part.len(), || format!("reading {} {k:?} page {pg} bytes {part:02x?}", NAMES[k.kind as usize]));
 }
 
-/// A Text field's text where bytes are kept as they are: a pad is cut at the unjustified end, then all from the first 0 byte on.
-fn bytes_kept(k: &Kind, ascii: &[u8]) -> String {
+/// A Text field's text by the definition, bytes kept as they are: right-justified the pad goes first and then all from the first 0 byte on, left-justified the other way round.
+fn text_of(k: &Kind, ascii: &[u8]) -> String {
     let s: String = ascii.iter().map(|&b| b as char).collect();
     let pad = k.r as u8 as char;
-    let cut = match (k.q != 0, k.p != 0) {
-        (false, _) => return s,
-        (true, true) => s.trim_start_matches(pad),
-        (true, false) => s.trim_end_matches(pad),
-    };
-    cut.split('\0').next().unwrap_or("").to_string()
+    let before_zero = |t: &str| t.split('\0').next().unwrap_or("").to_string();
+    match (k.q != 0, k.p != 0) {
+        (false, _) => s,
+        (true, true) => before_zero(s.trim_start_matches(pad)),
+        (true, false) => before_zero(&s).trim_end_matches(pad).to_string(),
+    }
+}
+
+/// The Text fields whose answer 02's S-5 changed: trimmed, left-justified, the pad not 0, and the byte before the first 0 byte is the pad.
+fn pad_before_zero(k: &Kind, ascii: &[u8]) -> bool {
+    let zero = ascii.iter().position(|&b| b == 0);
+    k.kind == 0 && k.q != 0 && k.p == 0 && k.r != 0 && zero.map_or(false, |z| z > 0 && ascii[z - 1] == k.r as u8)
 }
 
 impl Kind {

@@ -1,5 +1,5 @@
 -- Reading what was written gives the text back, over any width and on both pages; what is written is as long as the field, and bytes.
-use mathlib.Core.Path.{_≡_, refl, ap, _∙_}
+use mathlib.Core.Path.{_≡_, refl, sym, ap, _∙_}
 use mathlib.Core.Bool.{Bool, true, false, cond}
 use mathlib.Core.List.{List, [], _∷_, _++_, map, append-nil}
 use Prim.Native.Nat.{ℕ, zero, suc, _-_, _≤_, _<_, suc-le-suc}
@@ -9,7 +9,7 @@ use native.Mathlib.Decide.{decLe}
 use lib.Dec.{leb}
 use lib.ListN.{length, getD, replicate, length-map, length-append, length-replicate}
 use borrow.Author.Tests.{eq-eqb, ne-eqb, le-leb, lt-leb}
-use Rattle.lists.specs.Scan.{beforeBy}
+use Rattle.lists.specs.Scan.{rightBy, beforeBy}
 use Rattle.lists.proofs.Lists.{map-append, map-replicate}
 use Rattle.lists.proofs.Scan.{left-kept, right-kept, before-kept, left-pads, right-pads}
 use Rattle.ebcdic.specs.Ebcdic.{fromPage, ontoPage}
@@ -17,7 +17,7 @@ use Rattle.ebcdic.proofs.Laws.{page-back, bytes-back, onto-byte}
 use Rattle.text.specs.Text.{isByte, cut, readText, justified, written, padded, Fits}
 use Rattle.value.specs.declared.Scalar.the-variants.{Text}
 use Rattle.text.specs.Shown.{Shows, shows, none, textIn, refusalAt, encodedIn}
-use Rattle.text.proofs.Cuts.{Bytes}
+use Rattle.text.proofs.Cuts.{Bytes, right-spared}
 
 -- the written bytes, read: the text and its pads
 pub field-back : (page : ℕ) (right : Bool) (pad w : ℕ) (t : List ℕ) → pad < 256 → Bytes t → map (fromPage page) (written page right pad w t) ≡ justified right pad w t
@@ -38,8 +38,10 @@ module _ (pad w : ℕ) (t : List ℕ) where
       ap (beforeBy (isByte 0)) (left-pads (isByte pad) pad (w - length t) t same ∙ left-kept (isByte pad) t (λ b. ne-eqb (getD t 0 0) pad (f .noPad refl b)))
       ∙ zero-kept (f .noZero refl)
   cut-back false true f =
-      ap (beforeBy (isByte 0)) (right-pads (isByte pad) pad (w - length t) t same ∙ right-kept (isByte pad) t (λ b. ne-eqb (getD t (length t - 1) 0) pad (f .noPad refl b)))
-      ∙ zero-kept (f .noZero refl)
+      let k = right-kept (isByte pad) t (λ b. ne-eqb (getD t (length t - 1) 0) pad (f .noPad refl b)) in
+      sym (right-spared (isByte pad) (isByte 0) (t ++ replicate (w - length t) pad))
+      ∙ ap (λ (l : List ℕ). rightBy (isByte pad) (beforeBy (isByte 0) l)) (right-pads (isByte pad) pad (w - length t) t same ∙ k)
+      ∙ ap (rightBy (isByte pad)) (zero-kept (f .noZero refl)) ∙ k
   cut-back true false f =
       let e : w - length t ≡ 0 = omega (arith, f .whole refl) in
       rw e

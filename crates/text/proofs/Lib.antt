@@ -5,3 +5,4 @@ pub mod Places
 pub mod Showing
 pub mod Answers
 pub mod Back
+pub mod Changed

@@ -1,6 +1,6 @@
 -- Worked texts, by computation.
 use mathlib.Core.Path.{_≡_, refl}
-use mathlib.Core.List.{[], _∷_}
+use mathlib.Core.List.{List, [], _∷_}
 use mathlib.Core.Bool.{true, false, false≢true}
 use Prim.Native.Nat.{ℕ, zero, suc, _<_}
 use native.Mathlib.Omega.{arith}
@@ -9,6 +9,7 @@ use lib.ListN.{getD}
 use Rattle.lists.specs.Scan.{leftBy, rightBy, beforeBy}
 use Rattle.ebcdic.specs.Ebcdic.{fromPage, ontoPage, toAscii, asciiTable, toEbcdic, ebcdicTable}
 use Rattle.text.specs.Text.{cut, readText, written, Fits}
+use Rattle.text.specs.Changed.{padFirst, Changed}
 use Rattle.text.specs.Shown.{digitCount, wholeText, intText, decimalText, textIn, refusalAt}
 use Rattle.value.specs.declared.Scalar.the-variants.{Text, FloatBits}
 use Rattle.value.specs.Scalar.{decimal}
@@ -23,10 +24,57 @@ right-cut : readText 0 true true 32 (32 ∷ 32 ∷ 65 ∷ 32 ∷ []) ≡ 65 ∷ 
 unfolding cut leftBy rightBy beforeBy fromPage
 right-cut = refl
 
--- the pad first, then the 0 byte
-zero-cut : readText 0 false true 32 (65 ∷ 66 ∷ 32 ∷ 0 ∷ 88 ∷ 32 ∷ []) ≡ 65 ∷ 66 ∷ 32 ∷ []
+-- `AB`, space, zero byte, `X` (02, S-5): the 0 byte first, then the pad; before it was `AB` and a space
+zero-cut : readText 0 false true 32 (65 ∷ 66 ∷ 32 ∷ 0 ∷ 88 ∷ []) ≡ 65 ∷ 66 ∷ []
 unfolding cut leftBy rightBy beforeBy fromPage
 zero-cut = refl
+
+zero-before : padFirst false true 32 (65 ∷ 66 ∷ 32 ∷ 0 ∷ 88 ∷ []) ≡ 65 ∷ 66 ∷ 32 ∷ []
+unfolding padFirst leftBy rightBy beforeBy
+zero-before = refl
+
+zero-changed : Changed false true 32 (65 ∷ 66 ∷ 32 ∷ 0 ∷ 88 ∷ [])
+zero-changed =
+    record {
+      trimmed = refl;
+      left = refl;
+      other = λ q. omega (arith, q);
+      before = front;
+      after = 88 ∷ [];
+      bytes = refl;
+      first = first;
+    }
+  where
+    front : List ℕ
+    front = 65 ∷ 66 ∷ []
+
+    first : (k : ℕ) → k < 2 → getD front k 0 ≡ 0 → ⊥
+    first zero h q = omega (arith, q)
+    first (suc zero) h q = omega (arith, q)
+    first (suc (suc k)) h q = omega arith
+
+-- the smallest such field; no byte before the 0 byte; the pad 0
+zero-smallest : readText 0 false true 32 (32 ∷ 0 ∷ []) ≡ []
+unfolding cut leftBy rightBy beforeBy fromPage
+zero-smallest = refl
+
+zero-front : readText 0 false true 32 (0 ∷ 32 ∷ []) ≡ []
+unfolding cut leftBy rightBy beforeBy fromPage
+zero-front = refl
+
+zero-pad : readText 0 false true 0 (65 ∷ 32 ∷ 0 ∷ 0 ∷ []) ≡ 65 ∷ 32 ∷ []
+unfolding cut leftBy rightBy beforeBy fromPage
+zero-pad = refl
+
+-- right-justified text keeps its order, and the space before the 0 byte
+zero-right : readText 0 true true 32 (32 ∷ 65 ∷ 32 ∷ 0 ∷ 32 ∷ []) ≡ 65 ∷ 32 ∷ []
+unfolding cut leftBy rightBy beforeBy fromPage
+zero-right = refl
+
+-- on page 1, where the pad is 0x40: `A`, pad, zero byte, `B`
+zero-ebcdic : readText 1 false true 32 (0xC1 ∷ 0x40 ∷ 0 ∷ 0xC2 ∷ []) ≡ 65 ∷ []
+unfolding cut leftBy rightBy beforeBy fromPage toAscii asciiTable
+zero-ebcdic = refl
 
 untrimmed : readText 0 false false 32 (65 ∷ 0 ∷ 32 ∷ []) ≡ 65 ∷ 0 ∷ 32 ∷ []
 unfolding cut fromPage

@@ -15,10 +15,10 @@ use Rattle.text.specs.declared.Put.the-variants.{Length, Full}
 abbrev pub isByte : ℕ → ℕ → Bool
 isByte b x = eqb x b
 
--- "pad cut at the unjustified end, then all from the first 0 byte on; neither without trim"
+-- right-justified: "pad cut at the unjustified end, then all from the first 0 byte on; neither without trim"; left-justified, 02, S-5: "zero byte first, then pad"
 unfoldable pub cut : Bool → Bool → ℕ → List ℕ → List ℕ
 cut right trim pad s =
-    cond trim (beforeBy (isByte 0) (cond right (leftBy (isByte pad) s) (rightBy (isByte pad) s))) s
+    cond trim (cond right (beforeBy (isByte 0) (leftBy (isByte pad) s)) (rightBy (isByte pad) (beforeBy (isByte 0) s))) s
 
 -- the text of a field's bytes, which stand on a page
 abbrev pub readText : ℕ → Bool → Bool → ℕ → List ℕ → List ℕ

@@ -72,6 +72,20 @@ fn zero_at(s: &[u8]) -> usize
     i
 }
 
+// Where a left-justified text ends: before the first 0 byte and the pads in front of it. The pads at the right end are passed first, so that they are not searched for a 0 byte.
+fn text_end(s: &[u8], pad: u8) -> usize
+    ensures { λ r. ⌜ (r ≤ length (now (s .entry))) × (take r (now (s .entry)) ≡ rightBy (isByte pad) (beforeBy (isByte 0) (now (s .entry)))) ⌝ }
+{
+    let e = pad_end(s, pad);
+    let t = &s[0..e];
+    let z = zero_at(t);
+    if z == e {
+        return e;
+    }
+    let u = &s[0..z];
+    pad_end(u, pad)
+}
+
 // The bytes of a field that are its text, as a part of it. The pad is looked for as it stands on the page.
 pub fn trimmed(s: &[u8], page: u32, right: bool, trim: bool, pad: u8) -> &[u8]
     ensures { λ r. ⌜ map (fromPage page) (now r) ≡ readText page right trim pad (now (s .entry)) ⌝ }
@@ -85,10 +99,8 @@ pub fn trimmed(s: &[u8], page: u32, right: bool, trim: bool, pad: u8) -> &[u8]
             let z = zero_at(t);
             return &t[0..z];
         } else {
-            let e = pad_end(s, p);
-            let t = &s[0..e];
-            let z = zero_at(t);
-            return &t[0..z];
+            let e = text_end(s, p);
+            return &s[0..e];
         }
     } else {
         return s;

@@ -64,6 +64,11 @@ zero-byte-kept : fieldText (textAt 1 4 0 0) 0 zeroed [] ≡ 65 ∷ 66 ∷ 0 ∷ 
 unfolding fieldText cut leftBy rightBy beforeBy askedOf textEntry entryOk placeOk optionOk kindOk plainOk upTo entryAt
 zero-byte-kept = refl
 
+-- 02, S-5: `A`, space, zero byte, `X`
+pad-and-zero : fieldText (textAt 0 4 0 1) 0 (65 ∷ 32 ∷ 0 ∷ 88 ∷ []) [] ≡ 65 ∷ []
+unfolding fieldText cut leftBy rightBy beforeBy askedOf textEntry entryOk placeOk optionOk kindOk plainOk upTo entryAt
+pad-and-zero = refl
+
 -- an empty field at the record's end
 no-width : fieldText (textAt 6 0 0 1) 0 left [] ≡ []
 unfolding fieldText cut leftBy rightBy beforeBy askedOf textEntry entryOk placeOk optionOk kindOk plainOk upTo entryAt
@@ -119,6 +124,11 @@ page-right-start = refl
 as-they-are : fieldText (textAt 1 3 0 1) 1 leftPage (65 ∷ 0x40 ∷ 0x40 ∷ []) ≡ 65 ∷ 0x40 ∷ 0x40 ∷ []
 unfolding fieldText cut leftBy rightBy beforeBy askedOf textEntry entryOk placeOk optionOk kindOk plainOk upTo entryAt
 as-they-are = refl
+
+-- 02, S-5, of the translated bytes
+page-zero : fieldText (textAt 0 3 0 1) 1 (0xC1 ∷ 0x40 ∷ 0 ∷ []) (65 ∷ 32 ∷ 0 ∷ []) ≡ 65 ∷ []
+unfolding fieldText cut leftBy rightBy beforeBy askedOf textEntry entryOk placeOk optionOk kindOk plainOk upTo entryAt
+page-zero = refl
 
 -- a refusal hands out the empty part, at the front
 refused-text : fieldText (textAt 1 3 0 1) 1 leftPage (79 ∷ 75 ∷ []) ≡ []

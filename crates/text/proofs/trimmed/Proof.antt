@@ -1,3 +1,4 @@
+-- Each end is found on raw bytes; the part between them, translated, is the cut of the translated field, and where it starts is known.
 use mathlib.Core.Path.{refl, ap, _∙_}
 use mathlib.Core.List.{map}
 use Prim.Native.Nat.{zero, _-_}
@@ -50,20 +51,8 @@ returns c =
           (c .before .before .before .before .before .onto-page .ensures) (c .before .before .before .pad-start .ensures .0)),
     )
 
-pad-end-requires : tie.Need-pad-end-requires
-pad-end-requires c κs = search needs
-
-sub-t-2 : tie.Need-sub-t-2
-sub-t-2 c = search needs
-
-part-t-start-2 : tie.Need-part-t-start-2
-part-t-start-2 c = search needs
-
-part-t-end-2 : tie.Need-part-t-end-2
-part-t-end-2 c = search needs
-
-zero-at-requires-2 : tie.Need-zero-at-requires-2
-zero-at-requires-2 c κs = search needs
+text-end-requires : tie.Need-text-end-requires
+text-end-requires c κs = search needs
 
 sub-result-2 : tie.Need-sub-result-2
 sub-result-2 c = search needs
@@ -76,11 +65,15 @@ part-result-end-2 c = search needs
 
 returns-2 : tie.Need-returns-2
 returns-2 c =
-    let a = c .before .before .before .before .before .before .before .before .args in
-    rw (c .before .before .before .before .before .before .if1 .taken, c .before .before .before .before .if2 .left) (
-      left-part (a .page) (a .pad) (omega arith) (a .s .now) (λ k _. omega (arith, c .before .before .before .before .before .before .before .shared-slice-known .given k)) (c .before .before .before .before .before .onto-page .result) (c .before .before .before .pad-end .result) (c .before .zero-at2 .result)
-          (c .before .before .before .before .before .onto-page .ensures) (c .before .before .before .pad-end .ensures .1) (c .before .zero-at2 .ensures .1),
-      place-front (a .s) 0 _ (from-right (a .pad) (map (fromPage (a .page)) (a .s .now))),
+    let at-shared-slice-known = c .before .before .before .before .before .shared-slice-known in
+    let a = c .before .before .before .before .before .before .args in
+    let at-if1 = c .before .before .before .before .if1 in
+    let at-onto-page = c .before .before .before .onto-page in
+    let at-if2 = c .before .before .if2 in
+    rw (at-if1 .taken, at-if2 .left) (
+      left-part (a .page) (a .pad) (omega arith) (a .s .now) (λ k _. omega (arith, at-shared-slice-known .given k)) (at-onto-page .result) (c .before .text-end .result)
+          (at-onto-page .ensures) (c .before .text-end .ensures .1),
+      ap (placeIn (a .s)) (from-right (a .pad) (map (fromPage (a .page)) (a .s .now))),
     )
 
 returns-3 : tie.Need-returns-3
@@ -103,11 +96,7 @@ trimmed-spec =
     part-result-start
     part-result-end
     returns
-    pad-end-requires
-    sub-t-2
-    part-t-start-2
-    part-t-end-2
-    zero-at-requires-2
+    text-end-requires
     sub-result-2
     part-result-start-2
     part-result-end-2

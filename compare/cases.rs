@@ -275,6 +275,67 @@ pub fn any_item(g: &mut Random, k: &Kind) -> Item {
     }
 }
 
+/// A Decimal field in one of its forms, or an Edited one, that has place for nearly every number.
+fn wide_field(g: &mut Random, scale: u32) -> (Kind, usize) {
+    if g.below(4) == 0 {
+        let k = edited(1, scale, g.pick(&["999999999999999999-", "ZZZ,ZZZ,ZZZ,ZZZ,ZZZ,ZZ9CR", "+ZZZZZZ9.99"]).as_bytes());
+        let w = k.mask.len();
+        return (k, w);
+    }
+    let k = kind(7, g.below(3) as u32, g.below(4) as u32, scale, 0);
+    let w = if g.below(12) == 0 { 1 + g.below(18) } else { 20 };
+    (k, w as usize)
+}
+
+/// A Decimal of more scale than the field has, mostly at an exact half or next to one. Scales above 18 and sizes from 10^18 stand in no lawful list; a field's writer takes them all the same.
+fn more_scale(g: &mut Random, to: u32) -> Item {
+    let from = to + 1 + if g.below(10) == 0 { g.below(30) as u32 } else { g.below(18 - to.min(17) as u64) as u32 };
+    let d = 10i128.pow(from - to);
+    let most = if from > 18 || g.below(8) == 0 { i64::MAX as i128 } else { 999_999_999_999_999_999 };
+    let low = most / d;
+    let low = if g.below(2) == 0 { low } else { low.min(10i128.pow(g.below(6) as u32)) };
+    let q = if g.below(16) == 0 { low } else { g.below(low as u64 + 1) as i128 };
+    let rest = match g.below(8) {
+        0..=3 => d / 2,
+        4 => d / 2 - 1,
+        5 => d / 2 + 1,
+        6 => d - 1,
+        _ => (g.next() as i128) % d,
+    };
+    let size = (q * d + rest).min(most) as i64;
+    scalar(3, (if g.below(2) == 0 { size } else { -size }) as u64, from as u64)
+}
+
+/// A Float whose product by 10^scale is mostly an exact half or next to one: h / 2^(scale + 1) times 10^scale is h * 5^scale / 2, which an f64 holds below 2^53.
+fn near_half(g: &mut Random, scale: u32) -> Item {
+    let h = g.below((1u64 << 53) / 5u64.pow(scale)) | 1;
+    let h = if g.below(2) == 0 { h } else { h % 1000 | 1 };
+    let f = h as f64 / 2f64.powi(scale as i32 + 1);
+    let bits = match g.below(8) {
+        0..=3 => f.to_bits(),
+        4 => f.to_bits() + 1 + g.below(3),
+        5 => f.to_bits() - 1 - g.below(3),
+        6 => ((h as f64 + 0.5) / 10f64.powi(scale as i32)).to_bits(),
+        _ => (g.next() as f64 / 2f64.powi(g.below(90) as i32)).to_bits(),
+    };
+    scalar(4, if g.below(2) == 0 { bits } else { bits | 1 << 63 }, 0)
+}
+
+/// S-6: Decimals that lose scale, and Floats into Decimals, so many of each.
+pub fn rounding(t: &mut Tally, cases: u64, seed: u64) {
+    let mut g = Random(seed.wrapping_mul(0x9E37_79B9_7F4A_7C15) | 1);
+    for _ in 0..cases {
+        let scale = g.below(19) as u32;
+        let page = g.below(2) as u32;
+        let (k, w) = wide_field(&mut g, scale);
+        let v = more_scale(&mut g, scale);
+        write(t, &k, page, w, &v);
+        let (k, w) = wide_field(&mut g, scale);
+        let v = near_half(&mut g, scale);
+        write(t, &k, page, w, &v);
+    }
+}
+
 pub fn random(t: &mut Tally, cases: u64, seed: u64) {
     let mut g = Random(seed.wrapping_mul(0x9E37_79B9_7F4A_7C15) | 1);
     let end = t.cases() + cases;

@@ -337,9 +337,46 @@ pub fn value(v: &Item) -> Option<Value> {
     })
 }
 
+/// The whole number nearest to n / d, an exact half to the even one, and whether it was one.
+fn nearest(n: i128, d: i128) -> (i128, bool) {
+    let low = n.div_euclid(d);
+    let (above, below) = (n - low * d, (low + 1) * d - n);
+    let up = above > below || above == below && low % 2 != 0;
+    (low + i128::from(up), above == below)
+}
+
+/// A finite f64 as a fraction, through its bits. From 2^100 on the denominator stays, since nothing of the number is left there.
+fn fraction(f: f64) -> (i128, i128) {
+    let (x, t) = ((f.to_bits() >> 52) as i32 & 2047, (f.to_bits() & ((1 << 52) - 1)) as i128);
+    let m = if x == 0 { t } else { t + (1 << 52) };
+    let e = x.max(1) - 1075;
+    let n = if f.is_sign_negative() { -m } else { m };
+    if e >= 0 { (n << e.min(70), 1) } else { (n, 1 << (-e).min(100)) }
+}
+
+/// Where digits are dropped on the way into a Decimal or Edited field, the Rust is no reference (S-6): the number that the field is to hold, over exact fractions, and the rule to count it by.
+fn dropped(k: &Kind, v: &Value) -> Option<(i128, &'static str)> {
+    let (n, d, rules) = match v {
+        Value::Decimal { unscaled, scale } if k.kind >= 7 && *scale as u32 > k.r => {
+            (*unscaled, 10i128.pow(*scale as u32 - k.r), ["a Decimal loses digits: to the nearest (S-6)", "a Decimal loses digits: an exact half (S-6)"])
+        }
+        Value::Float(f) if k.kind >= 7 && (f * 10u64.pow(k.r) as f64).is_finite() => {
+            let (n, d) = fraction(f * 10u64.pow(k.r) as f64);
+            (n, d, ["a Float's product: to the nearest (S-6)", "a Float's product: an exact half (S-6)"])
+        }
+        _ => return None,
+    };
+    let (q, half) = nearest(n, d);
+    (n % d != 0).then_some((q, rules[half as usize]))
+}
+
 /// What the port writes for a value: the number that refuses it, the bytes, and how that stands to what the Rust writes.
 pub fn writes(k: &Kind, pg: u32, width: usize, v: &Item) -> Option<(u32, Vec<u8>, Seen)> {
-    let theirs_value = value(v)?;
+    let mut theirs_value = value(v)?;
+    let dropped = dropped(k, &theirs_value);
+    if let Some((unscaled, _)) = dropped {
+        theirs_value = Value::Decimal { unscaled, scale: k.r as u8 };
+    }
     let taken = if k.kind == 5 { 1 } else { width };
     let mut buf = vec![0xAAu8; taken + 8];
     let n = unsafe { leaf_encode(buf[4..].as_mut_ptr(), taken, k.kind, k.p, k.q, k.r, k.s, k.mask.as_ptr(), k.mask.len(), pg, v.tag, v.a, v.b, v.text.as_ptr(), v.text.len()) };
@@ -380,6 +417,10 @@ pub fn writes(k: &Kind, pg: u32, width: usize, v: &Item) -> Option<(u32, Vec<u8>
             (Ok(_), 15) if k.kind == 8 && half_marker(&k.mask) => Seen::Listed("C without R, D without B in a mask (15)"),
             (a, n) => Seen::Other(format!("port {n} {:02x?}, Rust {a:02x?}", &buf[4..4 + taken])),
         }
+    };
+    let seen = match (seen, dropped) {
+        (Seen::Same, Some((_, rule))) => Seen::Listed(rule),
+        (seen, _) => seen,
     };
     Some((n, buf[4..4 + taken].to_vec(), seen))
 }

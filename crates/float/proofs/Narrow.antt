@@ -1,23 +1,24 @@
 -- An f64 at binary32: what `round` keeps and drops, and the bits of what it makes.
 use mathlib.Core.Path.{_≡_, refl, sym, ap, _∙_, subst}
 use mathlib.Core.Logic.{inl, inr}
-use mathlib.Core.Bool.{Bool, true, false, cond, true≢false}
-use Prim.Native.Nat.{ℕ, suc, _+_, _-_, _*_, _/_, _%_, _^_, _≤_, _<_, min, compare, Ordering, Ordering·lt, Ordering·eq, Ordering·gt}
-use native.Mathlib.Nat.{le-antisymm, le-trans, le-of-eq, le-of-lt, lt-of-lt-of-le, lt-of-le-of-lt, lt-of-not-le, lt-irrefl, mul-one, mul-comm, mul-assoc, mul-right-comm, mul-pos, mul-le-mul-right, mul-le-mul-left, div-eq-of-lt, mod-eq-of-lt, mul-lt-mul-of-pos-right, mul-div-cancel, div-one, le-div-iff-mul-le, div-lt-iff-lt-mul, eq-or-lt-of-le, pow-succ', add-assoc, zero-add}
-use native.Mathlib.Numerals.{add-one}
+use mathlib.Core.Bool.{Bool, true, false, cond}
+use Prim.Native.Nat.{ℕ, suc, _+_, _-_, _*_, _/_, _%_, _^_, _≤_, _<_, min, compare}
+use native.Mathlib.Nat.{le-antisymm, le-trans, le-of-eq, lt-of-lt-of-le, lt-of-le-of-lt, lt-of-not-le, lt-irrefl, mul-one, mul-comm, mul-assoc, mul-right-comm, mul-pos, mul-le-mul-right, mul-le-mul-left, mul-lt-mul-of-pos-right, mul-div-cancel, div-one, le-div-iff-mul-le, div-lt-iff-lt-mul, eq-or-lt-of-le, pow-succ', add-assoc, zero-add}
 use native.Mathlib.Omega.{arith}
-use lib.Dec.{isLe, isEq, ltb, leb, eqb, lit≤, lit<}
+use lib.Dec.{ltb, leb, eqb, lit≤, lit<}
 use lib.Pow.{pow-add, pow-pos, pow-mono, shl-lt}
-use lib.Ieee.{Float, nan, inf, fin, binary32, binary64, up, down, size, nearest, odd, units, round, ofBits, toBits}
+use lib.Ieee.{Float, nan, inf, fin, binary32, binary64, up, down, size, odd, units, round, ofBits, toBits}
 use lib.Ieee.Digits.{size-lt, size-le}
 use lib.Ieee.Fits.{down-pos, nearest-le, round-is, round-fits}
 use lib.Ieee.Bits.{toBits-lt}
 use lib.Ieee.Exact.{HasValue, odd-sign}
 use lib.Ieee.Nearest.{closest, closest-same, nearest-ge, div-same}
 use lib.Ieee.Scale.{round-same}
-use borrow.Author.Tests.{ltb-true, ltb-false, lt-ltb, le-leb, lt-leb, ne-eqb, eq-eqb}
+use borrow.Author.Tests.{ltb-true, ltb-false, lt-ltb}
+use Rattle.value.specs.Rounding.{rounded}
 use Rattle.float.specs.Half.{sig}
 use Rattle.float.specs.Single.{narrow, singleWord, singleSize}
+use Rattle.float.proofs.Rule.{rounded-closest}
 use Rattle.float.proofs.Fields.{pattern-value, pattern-top, field-lt}
 use Rattle.float.proofs.Values.{bitsAt, bits-of-value}
 
@@ -201,45 +202,6 @@ single-low s m j i hi e l =
     ap (toBits binary32) (round-low s m j i hi e l)
     ∙ at-zero s (closest m (2 ^ i)) (closest-le m (2 ^ i) (2 ^ 24) (div-lt-iff-lt-mul (pow-pos i) .1 (lt-of-lt-of-le hi (le-trans (lit≤ tt) (mul-le-mul-left (2 ^ 24) (pow-mono l))))))
 
--- ---- what `compare` says
-pub less : (a b : ℕ) → a < b → compare a b ≡ Ordering·lt
-less a b h = go (compare a b) (le-leb a b (le-of-lt h)) (ne-eqb a b (λ e. lt-irrefl b (subst (λ (z : ℕ). z < b) e h)))
-  where
-    go : (o : Ordering) → isLe o ≡ true → isEq o ≡ false → o ≡ Ordering·lt
-    go Ordering·lt p q = refl
-    go Ordering·eq p q = absurd (true≢false q)
-    go Ordering·gt p q = absurd (true≢false (sym p))
-
-pub same : (a b : ℕ) → a ≡ b → compare a b ≡ Ordering·eq
-same a b h = go (compare a b) (eq-eqb a b h)
-  where
-    go : (o : Ordering) → isEq o ≡ true → o ≡ Ordering·eq
-    go Ordering·lt q = absurd (true≢false (sym q))
-    go Ordering·eq q = refl
-    go Ordering·gt q = absurd (true≢false (sym q))
-
-pub more : (a b : ℕ) → b < a → compare a b ≡ Ordering·gt
-more a b h = go (compare a b) (lt-leb a b h)
-  where
-    go : (o : Ordering) → isLe o ≡ false → o ≡ Ordering·gt
-    go Ordering·lt q = absurd (true≢false q)
-    go Ordering·eq q = absurd (true≢false q)
-    go Ordering·gt q = refl
-
--- what is less than half a unit is none
-pub none-kept : (m i : ℕ) → m < 2 ^ 53 → 60 < i → closest m (2 ^ i) ≡ 0
-none-kept m i hi l =
-    let p : 2 ^ 61 ≤ 2 ^ i = pow-mono l in
-    ap (λ (z : ℕ). nearest z (compare (m % 2 ^ i * 2) (2 ^ i))) (div-eq-of-lt (small m (2 ^ i) hi p))
-    ∙ ap (λ (z : ℕ). nearest 0 (compare (z * 2) (2 ^ i))) (mod-eq-of-lt (small m (2 ^ i) hi p))
-    ∙ ap (λ (o : Ordering). nearest 0 o) (less (m * 2) (2 ^ i) (twice m (2 ^ i) hi p))
-  where
-    small : (m p : ℕ) → m < 2 ^ 53 → 2 ^ 61 ≤ p → m < p
-    small m p h l = omega arith
-
-    twice : (m p : ℕ) → m < 2 ^ 53 → 2 ^ 61 ≤ p → m * 2 < p
-    twice m p h l = omega arith
-
 -- ---- a value by its fraction
 pub narrow-value : (x : Float) (s : Bool) (a c : ℕ) → 0 < c → HasValue x s a c → narrow x ≡ round binary32 s a c
 unfolding narrow
@@ -247,33 +209,24 @@ narrow-value nan s a c C v = absurd v
 narrow-value (inf t) s a c C v = absurd v
 narrow-value (fin t m e) s a c C v = ap (λ (z : Bool). round binary32 z (m * up e) (down e)) (v .0) ∙ round-same binary32 s (m * up e) (down e) a c (down-pos e) C (v .1)
 
--- ---- the three ways to round, with the divisor as the code has it
-pub round-down : (m u d : ℕ) → u ≡ d → m % u * 2 < u → m / u ≡ closest m d
-round-down m u d e h = sym (ap (nearest (m / u)) (less (m % u * 2) u h)) ∙ ap (closest m) e
-
-pub round-tie : (m u d : ℕ) → u ≡ d → m % u * 2 ≡ u → m / u + m / u % 2 ≡ closest m d
-round-tie m u d e h = sym (ap (nearest (m / u)) (same (m % u * 2) u h)) ∙ ap (closest m) e
-
-pub round-up : (m u d : ℕ) → u ≡ d → u ≤ m % u * 2 → (m % u * 2 ≡ u → ⊥) → m / u + 1 ≡ closest m d
-round-up m u d e h n = add-one (m / u) ∙ sym (ap (nearest (m / u)) (more (m % u * 2) u (strict u (m % u * 2) h n))) ∙ ap (closest m) e
-  where
-    strict : (a b : ℕ) → a ≤ b → (b ≡ a → ⊥) → a < b
-    strict a b h n = omega arith
-
 -- ---- the pattern of the size alone
 whole : (q : ℕ) → q ≤ 2 ^ 24 → q ≡ 0 + min (0 * 2 ^ 23 + q) (255 * 2 ^ 23)
 whole q h = omega arith
 
-pub low-size : (m j i : ℕ) → m < 2 ^ 53 → j + i ≡ 925 → 30 ≤ i → closest m (2 ^ i) ≡ toBits binary32 (round binary32 false (m * 2 ^ j) (2 ^ 1074))
+pub low-size : (m j i : ℕ) → m < 2 ^ 53 → j + i ≡ 925 → 30 ≤ i → rounded m (2 ^ i) ≡ toBits binary32 (round binary32 false (m * 2 ^ j) (2 ^ 1074))
 low-size m j i hi e l =
-    whole (closest m (2 ^ i)) (closest-le m (2 ^ i) (2 ^ 24) (div-lt-iff-lt-mul (pow-pos i) .1 (lt-of-lt-of-le hi (le-trans (lit≤ tt) (mul-le-mul-left (2 ^ 24) (pow-mono l))))))
+    rounded-closest m (2 ^ i) (pow-pos i)
+    ∙ whole (closest m (2 ^ i)) (closest-le m (2 ^ i) (2 ^ 24) (div-lt-iff-lt-mul (pow-pos i) .1 (lt-of-lt-of-le hi (le-trans (lit≤ tt) (mul-le-mul-left (2 ^ 24) (pow-mono l))))))
     ∙ sym (single-low false m j i hi e l)
 
-pub high-le : (m : ℕ) → m < 2 ^ 53 → closest m (2 ^ 29) ≤ 2 ^ 24
-high-le m h = closest-le m (2 ^ 29) (2 ^ 24) (kept-most m h)
+pub high-le : (m : ℕ) → m < 2 ^ 53 → rounded m (2 ^ 29) ≤ 2 ^ 24
+high-le m h = rw (rounded-closest m (2 ^ 29) (pow-pos 29)) (closest-le m (2 ^ 29) (2 ^ 24) (kept-most m h))
 
-pub high-size : (m j k : ℕ) → 2 ^ 52 ≤ m → m < 2 ^ 53 → j ≡ k + 896 → k ≤ 253 → k * 2 ^ 23 + closest m (2 ^ 29) ≡ toBits binary32 (round binary32 false (m * 2 ^ j) (2 ^ 1074))
-high-size m j k lo hi e l = under (closest m (2 ^ 29)) k (high-le m hi) l ∙ sym (single-high false m j k lo hi e)
+pub high-size : (m j k : ℕ) → 2 ^ 52 ≤ m → m < 2 ^ 53 → j ≡ k + 896 → k ≤ 253 → k * 2 ^ 23 + rounded m (2 ^ 29) ≡ toBits binary32 (round binary32 false (m * 2 ^ j) (2 ^ 1074))
+high-size m j k lo hi e l =
+    under (rounded m (2 ^ 29)) k (high-le m hi) l
+    ∙ ap (λ (q : ℕ). pattern false q k) (rounded-closest m (2 ^ 29) (pow-pos 29))
+    ∙ sym (single-high false m j k lo hi e)
   where
     under : (q k : ℕ) → q ≤ 2 ^ 24 → k ≤ 253 → k * 2 ^ 23 + q ≡ 0 + min (k * 2 ^ 23 + q) (255 * 2 ^ 23)
     under q k h l = omega arith

@@ -12,7 +12,7 @@ use Rattle.value.specs.declared.Scalar.the-variants.{Null, Text, Int, Decimal, 
 use Rattle.value.specs.Answer.{refused, given}
 use Rattle.value.specs.Digits.{limit}
 use Rattle.value.specs.Number.{noNumber}
-use Rattle.value.specs.Rounding.{rounded, floatRule, rescaled}
+use Rattle.value.specs.Rounding.{rounded, rescaled}
 use Rattle.value.specs.Scalar.{floatOf}
 use Rattle.value.proofs.Answers.{Numbered, numbered-cond, numbered-in}
 use Rattle.binary.specs.Bytes.{wordIn}
@@ -38,7 +38,7 @@ decimal-numbered : (x : Float) → Numbered (decimalOf x)
 unfolding decimalOf
 decimal-numbered nan = λ e. omega arith
 decimal-numbered (inf s) = λ e. omega arith
-decimal-numbered (fin s m e) = numbered-in 14 limit s (rounded floatRule (m * up e) (down e)) (λ z. omega arith)
+decimal-numbered (fin s m e) = numbered-in 14 limit s (rounded (m * up e) (down e)) (λ z. omega arith)
 
 pub for-numbered : (v : Scalar) (scale : ℕ) → Numbered (decimalFor v scale)
 unfolding decimalFor toDecimal

@@ -67,27 +67,56 @@ single-least : singleWord 0x3690_0000_0000_0001 ≡ 1
 unfolding narrow ofBits toBits
 single-least = refl
 
--- 2.5 is 3, and -0.125 with two places is -13; -0.25 is 0, which has no sign; 10^18 is too big
-decimal-up : decimalOf (ofBits binary64 0x4004_0000_0000_0000) ≡ some false 3
+-- 12.5, by a product of two places too, is 12; 0.5 is 0, 1.5 is 2; -0.125 with two places is -12
+decimal-even : decimalOf (ofBits binary64 0x4029_0000_0000_0000) ≡ some false 12
 unfolding decimalOf rounded ofBits
-decimal-up = refl
+decimal-even = refl
 
-decimal-down : toDecimal (ofBits binary64 0xbfc0_0000_0000_0000) 2 ≡ some true 13
+decimal-product : toDecimal (ofBits binary64 0x3fc0_0000_0000_0000) 2 ≡ some false 12
 unfolding toDecimal decimalOf rounded ofBits mul ofInt
-decimal-down = refl
+decimal-product = refl
 
-decimal-none : toDecimal (ofBits binary64 0xbfd0_0000_0000_0000) 0 ≡ some false 0
-unfolding toDecimal decimalOf rounded ofBits mul ofInt
+decimal-none : decimalOf (ofBits binary64 0x3fe0_0000_0000_0000) ≡ some false 0
+unfolding decimalOf rounded ofBits
 decimal-none = refl
+
+decimal-odd : decimalOf (ofBits binary64 0x3ff8_0000_0000_0000) ≡ some false 2
+unfolding decimalOf rounded ofBits
+decimal-odd = refl
+
+decimal-minus : toDecimal (ofBits binary64 0xbfc0_0000_0000_0000) 2 ≡ some true 12
+unfolding toDecimal decimalOf rounded ofBits mul ofInt
+decimal-minus = refl
+
+-- the f64 above 0.5 is 1; -0.5 and -0.25 are 0, which has no sign; 10^18 is too big
+decimal-above : decimalOf (ofBits binary64 0x3fe0_0000_0000_0001) ≡ some false 1
+unfolding decimalOf rounded ofBits
+decimal-above = refl
+
+decimal-zero : toDecimal (ofBits binary64 0xbfe0_0000_0000_0000) 0 ≡ some false 0
+unfolding toDecimal decimalOf rounded ofBits mul ofInt
+decimal-zero = refl
+
+decimal-small : toDecimal (ofBits binary64 0xbfd0_0000_0000_0000) 0 ≡ some false 0
+unfolding toDecimal decimalOf rounded ofBits mul ofInt
+decimal-small = refl
 
 decimal-big : toDecimal (ofBits binary64 0x3ff0_0000_0000_0000) 18 ≡ refused 14
 unfolding toDecimal decimalOf rounded ofBits mul ofInt
 decimal-big = refl
 
--- 125 of scale 2 to scale 1 is 12
-scale-cut : decimalFor (decimal false 125 2) 1 ≡ some false 12
+-- 02, S-6: "125 of scale 2 becomes 12 at scale 1, 135 becomes 14, −125 becomes −12"
+scale-even : decimalFor (decimal false 125 2) 1 ≡ some false 12
 unfolding decimalFor rescaled rounded
-scale-cut = refl
+scale-even = refl
+
+scale-odd : decimalFor (decimal false 135 2) 1 ≡ some false 14
+unfolding decimalFor rescaled rounded
+scale-odd = refl
+
+scale-minus : decimalFor (decimal true 125 2) 1 ≡ some true 12
+unfolding decimalFor rescaled rounded
+scale-minus = refl
 
 -- fields: a NaN of 16 bits, a half of the wrong width, 65520 at 16 bits little-endian, and -2 at 32 bits
 field-nan : floatIn 0 16 (0x7c ∷ 0x01 ∷ []) ≡ given (FloatBits 0x7ff8_0000_0000_0000)

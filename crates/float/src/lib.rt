@@ -10,11 +10,10 @@ ghost use lib.Dec.{eqb, ltb};
 ghost use lib.Ieee as Ieee;
 ghost use lib.Ieee.{binary32, binary64};
 ghost use lib.Ieee.Exact.{HasValue};
-ghost use lib.Ieee.Nearest.{closest};
 ghost use Rattle.value.specs.Digits.{capped, signedOf};
 ghost use Rattle.value.specs.Answer.{refused, given};
 ghost use Rattle.value.specs.Number.{amountAs};
-ghost use Rattle.value.specs.Rounding.{rounded, floatRule};
+ghost use Rattle.value.specs.Rounding.{rounded};
 ghost use Rattle.float.specs.Half.{sig, halfWord};
 ghost use Rattle.float.specs.Single.{singleWord, singleSize, wideWord, cutSize, cutWord};
 ghost use Rattle.float.specs.Decimal.{toDecimal, ofDecimal};
@@ -127,24 +126,21 @@ fn wide_word(v: u64) -> u64
 
 // ---- binary32 and binary16, written
 
-// m / 2^k to the nearest whole number, a tie to the even one.
+// m / 2^k to the nearest whole number, an exact half to the even one.
 fn nearest_even(m: u64, k: u64) -> u64
     requires { ⌜ m < 2 ^ 53 ⌝ }
-    ensures { λ r. ⌜ r ≡ closest m (2 ^ k) ⌝ }
+    ensures { λ r. ⌜ r ≡ rounded m (2 ^ k) ⌝ }
 {
     if k > 60 {
         return 0;
     }
     let u = 1 << k;
     let q = m / u;
-    let r = m % u * 2;
-    if r < u {
-        q
-    } else if r == u {
-        q + q % 2
-    } else {
-        q + 1
+    let rest = m % u;
+    if value::goes_up(rest, u - rest, q) {
+        return q + 1;
     }
+    q
 }
 
 // The binary32 pattern of the size of a finite f64, from the exponent's field and the digits.
@@ -252,28 +248,17 @@ fn ten(k: u64) -> f64
     TENS[i]
 }
 
-// m / 2^k to the nearest whole number, a half away from zero.
-fn round_half_away(m: u64, k: u64) -> u64
-    requires { ⌜ m < 2 ^ 53 ⌝ }
-    ensures { λ r. ⌜ r ≡ rounded floatRule m (2 ^ k) ⌝ }
-{
-    if k > 60 {
-        return 0;
-    }
-    (2 * m + (1 << k)) >> (k + 1)
-}
-
 // The size of a finite f64 with the exponent's field x and the digits t, as a whole number that stops counting at 10^18.
 fn whole_size(x: u64, t: u64) -> u64
     requires { ⌜ t < 2 ^ 52 ⌝ }
-    ensures { λ r. ⌜ r ≡ capped (rounded floatRule (sig (2 ^ 52) x t * 2 ^ (x - 1)) (2 ^ 1074)) ⌝ }
+    ensures { λ r. ⌜ r ≡ capped (rounded (sig (2 ^ 52) x t * 2 ^ (x - 1)) (2 ^ 1074)) ⌝ }
 {
     let m = significand(0x10_0000_0000_0000, x, t);
     if x == 0 {
-        return round_half_away(m, 1074);
+        return nearest_even(m, 1074);
     }
     if x < 1075 {
-        return round_half_away(m, 1075 - x);
+        return nearest_even(m, 1075 - x);
     }
     let k = x - 1075;
     if k > 10 {

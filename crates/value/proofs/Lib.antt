@@ -1,6 +1,7 @@
 pub mod Digits
 pub mod Field
 pub mod Answers
+pub mod Nearest
 pub mod Rounding
 pub mod Word
 pub mod Room

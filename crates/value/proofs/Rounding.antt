@@ -1,32 +1,31 @@
 -- How a size is brought to another scale.
 use mathlib.Core.Path.{_≡_, sym, _∙_, ap, subst}
-use Prim.Native.Nat.{ℕ, zero, suc, _+_, _-_, _*_, _/_, _^_, _<_, _≤_}
+use Prim.Native.Nat.{ℕ, zero, suc, _+_, _-_, _*_, _^_, _<_, _≤_}
 use lib.Pow.{pow-add}
-use native.Mathlib.Nat.{div-eq-of-lt, pow-le-pow-right, lt-of-lt-of-le, mul-le-mul-right, mul-lt-mul-of-pos-right, le-trans}
+use native.Mathlib.Nat.{pow-le-pow-right, mul-le-mul-right, mul-lt-mul-of-pos-right, le-trans}
 use native.Mathlib.Omega.{arith}
-use lib.Dec.{ltb, lit<, lit≤}
+use lib.Dec.{ltb, lit<}
 use borrow.Author.Tests.{lt-ltb, le-ltb}
 use Rattle.value.specs.Digits.{limit}
 use Rattle.value.specs.Rounding.{rounded, rescaled}
 use Rattle.value.proofs.Digits.{pow-pos10}
+use Rattle.value.proofs.Nearest.{rounded-whole, rounded-none}
 
 pub scale-same : (k size : ℕ) → rescaled k k size ≡ size
-unfolding rescaled rounded
+unfolding rescaled
 scale-same k size =
     let z : k - k ≡ 0 = omega arith in
-    rw (le-ltb k k (omega arith), z) (div-one′ size)
-  where
-    div-one′ : (n : ℕ) → n / 10 ^ 0 ≡ n
-    div-one′ n = omega arith
+    rw (le-ltb k k (omega arith), z) (rounded-whole size)
 
-pub scale-down : (from to size : ℕ) → to ≤ from → size / 10 ^ (from - to) ≡ rescaled from to size
-unfolding rescaled rounded
+pub scale-down : (from to size : ℕ) → to ≤ from → rounded size (10 ^ (from - to)) ≡ rescaled from to size
+unfolding rescaled
 scale-down from to size h = rw (le-ltb from to h)
 
-pub scale-gone : (from to size : ℕ) → to ≤ from → 19 < from - to → size < 2 ^ 64 → 0 ≡ rescaled from to size
-scale-gone from to size h k f =
-    let b : size < 10 ^ (from - to) = lt-of-lt-of-le (lt-of-lt-of-le f (lit≤ tt)) (pow-le-pow-right {n = 10} (lit< tt) {i = 20} k) in
-    sym (div-eq-of-lt b) ∙ scale-down from to size h
+-- from 10^20 on no size comes to a half
+pub scale-gone : (k size : ℕ) → 19 < k → size < 2 ^ 64 → 0 ≡ rounded size (10 ^ k)
+scale-gone k size h f =
+    let b : 10 ^ 20 ≤ 10 ^ k = pow-le-pow-right {n = 10} (lit< tt) {i = 20} h in
+    rounded-none size (10 ^ k) (omega arith)
 
 pub scale-up : (from to size : ℕ) → from < to → size * 10 ^ (to - from) ≡ rescaled from to size
 unfolding rescaled

@@ -6,3 +6,4 @@ pub mod Number
 pub mod Rounding
 pub mod Word
 pub mod Scalar
+pub mod Examples

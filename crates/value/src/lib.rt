@@ -15,7 +15,7 @@ ghost use lib.Ieee as Ieee;
 ghost use lib.Ieee.{binary64};
 ghost use Rattle.value.specs.Digits.{capped, limit, roomFor};
 ghost use Rattle.value.specs.Number.{some, readIn, amountOf, withSign, numberBy, readAs, amountAs};
-ghost use Rattle.value.specs.Rounding.{rescaled};
+ghost use Rattle.value.specs.Rounding.{goesUp, rounded, rescaled};
 ghost use Rattle.value.specs.Word.{wordOf, minusIn, sizeIn, powerTen};
 ghost use Rattle.value.specs.Scalar.{tagOf, firstOf, secondOf, floatOf, scalarOf};
 
@@ -194,7 +194,17 @@ pub fn ten_to(k: u64) -> u64
     }
 }
 
-// A size of one scale at another, as an amount; the scale that is lost is cut.
+// Whether what lies so far above q and so far below q + 1 goes up: to the nearer of the two, and from an exact half to the even one.
+pub fn goes_up(above: u64, below: u64, q: u64) -> bool
+    ensures { λ r. ⌜ r ≡ goesUp above below q ⌝ }
+{
+    if above == below {
+        return q % 2 == 1;
+    }
+    above > below
+}
+
+// A size of one scale at another, as an amount.
 pub fn rescale(negative: bool, size: u64, from: u64, to: u64) -> Amount
     ensures { λ r. ⌜ amountAs r ≡ amountOf negative (rescaled from to size) ⌝ }
 {
@@ -204,14 +214,26 @@ pub fn rescale(negative: bool, size: u64, from: u64, to: u64) -> Amount
     if from < to {
         return scale_up(negative, size, to - from);
     }
-    let k = from - to;
+    scale_down(negative, size, from - to)
+}
+
+// A size without k digits, to the nearest. From k = 20 on no size comes to a half.
+fn scale_down(negative: bool, size: u64, k: u64) -> Amount
+    ensures { λ r. ⌜ amountAs r ≡ amountOf negative (rounded size (10 ^ k)) ⌝ }
+{
     if k > 19 {
         return amount_of(negative, 0);
     }
     let p = ten_to(k);
-    amount_of(negative, size / p)
+    let q = size / p;
+    let rest = size % p;
+    if goes_up(rest, p - rest, q) {
+        return amount_of(negative, q + 1);
+    }
+    amount_of(negative, q)
 }
 
+// A size with k zeros more.
 fn scale_up(negative: bool, size: u64, k: u64) -> Amount
     ensures { λ r. ⌜ amountAs r ≡ amountOf negative (size * 10 ^ k) ⌝ }
 {

@@ -12,7 +12,7 @@ use lib.Ieee.Compare.{differs-from-itself}
 use Rattle.value.specs.Answer.{Answer}
 use Rattle.value.specs.Number.{Whole, amountOf}
 use Rattle.value.specs.Digits.{capped, limit}
-use Rattle.value.specs.Rounding.{rounded, floatRule}
+use Rattle.value.specs.Rounding.{rounded}
 use Rattle.value.proofs.Answers.{numberIn-capped}
 use Rattle.float.specs.Half.{sig}
 use Rattle.float.specs.Decimal.{decimalOf, toDecimal}
@@ -34,7 +34,7 @@ done c e =
 
 -- a finite product: its sign, and what `whole_size` found
 finite : (c : tie.Else3) (s : Bool) (n : ℕ) → let z = c .before .before in let b = toBits binary64 (mul binary64 (z .before .before .args .x) (z .ten .result)) in
-    s ≡ leb (2 ^ 63) b → n ≡ capped (rounded floatRule (sig (2 ^ 52) (b % 2 ^ 63 / 2 ^ 52) (b % 2 ^ 52) * 2 ^ (b % 2 ^ 63 / 2 ^ 52 - 1)) (2 ^ 1074))
+    s ≡ leb (2 ^ 63) b → n ≡ capped (rounded (sig (2 ^ 52) (b % 2 ^ 63 / 2 ^ 52) (b % 2 ^ 52) * 2 ^ (b % 2 ^ 63 / 2 ^ 52 - 1)) (2 ^ 1074))
     → amountOf s n ≡ toDecimal (z .before .before .args .x) (z .before .before .args .scale)
 finite c s n p q =
     let z = c .before .before in
@@ -44,7 +44,7 @@ finite c s n p q =
     done z
     (ap (λ (t : Bool). amountOf t n) p
     ∙ ap (amountOf (leb (2 ^ 63) b)) q
-    ∙ numberIn-capped 14 limit (leb (2 ^ 63) b) (rounded floatRule m (2 ^ 1074)) limit (omega arith)
+    ∙ numberIn-capped 14 limit (leb (2 ^ 63) b) (rounded m (2 ^ 1074)) limit (omega arith)
     ∙ sym (decimal-value y (leb (2 ^ 63) b) m (2 ^ 1074) (pow-pos 1074) (own-value y (held z) (c .if3 .left))))
 
 returns : tie.Need-returns

@@ -1,4 +1,4 @@
--- `float::whole_size` meets its contract: where there is a fraction it is rounded half away, elsewhere the significand is shifted, and a size past the limit stops counting.
+-- `float::whole_size` meets its contract: where there is a fraction it is rounded, elsewhere the significand is shifted, and a size past the limit stops counting.
 use mathlib.Core.Path.{_≡_, refl, sym, ap, _∙_}
 use Prim.Native.Nat.{ℕ, _+_, _-_, _*_, _≤_, _<_}
 use native.Mathlib.Omega.{arith}
@@ -7,7 +7,7 @@ use native.Mathlib.Nat.{le-trans, mul-le-mul}
 use lib.Dec.{lit≤}
 use lib.Pow.{pow-mono, shl-exact}
 use Rattle.value.specs.Digits.{limit, capped}
-use Rattle.value.specs.Rounding.{rounded, floatRule}
+use Rattle.value.specs.Rounding.{rounded}
 use Rattle.float.specs.Half.{sig}
 use Rattle.float.proofs.Fields.{m-lt, m-ge}
 use Rattle.float.proofs.Rounding.{size-low, size-high, cap-below, cap-above}
@@ -17,21 +17,21 @@ use Rattle.float.proofs.whole_size.Tie as tie
 
 module _ (c : tie.After-significand) where
   -- a size of m is that of the contract
-  done : {r : ℕ} → r ≡ capped (rounded floatRule (c .significand .result * 2 ^ (c .before .args .x - 1)) (2 ^ 1074))
-      → r ≡ capped (rounded floatRule (sig (2 ^ 52) (c .before .args .x) (c .before .args .t) * 2 ^ (c .before .args .x - 1)) (2 ^ 1074))
-  done e = e ∙ ap (λ (n : ℕ). capped (rounded floatRule (n * 2 ^ (c .before .args .x - 1)) (2 ^ 1074))) (c .significand .ensures)
+  done : {r : ℕ} → r ≡ capped (rounded (c .significand .result * 2 ^ (c .before .args .x - 1)) (2 ^ 1074))
+      → r ≡ capped (rounded (sig (2 ^ 52) (c .before .args .x) (c .before .args .t) * 2 ^ (c .before .args .x - 1)) (2 ^ 1074))
+  done e = e ∙ ap (λ (n : ℕ). capped (rounded (n * 2 ^ (c .before .args .x - 1)) (2 ^ 1074))) (c .significand .ensures)
 
-  high : 1075 ≤ c .before .args .x → rounded floatRule (c .significand .result * 2 ^ (c .before .args .x - 1)) (2 ^ 1074) ≡ c .significand .result * 2 ^ (c .before .args .x - 1075)
+  high : 1075 ≤ c .before .args .x → rounded (c .significand .result * 2 ^ (c .before .args .x - 1)) (2 ^ 1074) ≡ c .significand .result * 2 ^ (c .before .args .x - 1075)
   high n = size-high (c .significand .result) (c .before .args .x - 1) (c .before .args .x - 1075) (omega arith)
 
   kept : c .before .args .x - 1075 ≤ 10 → c .significand .result * 2 ^ (c .before .args .x - 1075) % 2 ^ 64 ≡ c .significand .result * 2 ^ (c .before .args .x - 1075)
   kept h = shl-exact 53 (c .before .args .x - 1075) 64 (m-lt (c .before .args .x) (c .before .args .t) (c .significand .ensures) (c .before .pre)) (omega arith)
 
   -- a size that stops counting, from a whole number that is the contract's
-  small : 1075 ≤ c .before .args .x → (n : ℕ) → n ≡ c .significand .result * 2 ^ (c .before .args .x - 1075) → n < limit → n ≡ capped (rounded floatRule (c .significand .result * 2 ^ (c .before .args .x - 1)) (2 ^ 1074))
+  small : 1075 ≤ c .before .args .x → (n : ℕ) → n ≡ c .significand .result * 2 ^ (c .before .args .x - 1075) → n < limit → n ≡ capped (rounded (c .significand .result * 2 ^ (c .before .args .x - 1)) (2 ^ 1074))
   small h n e l = cap-below n l ∙ ap capped (e ∙ sym (high h))
 
-  large : 1075 ≤ c .before .args .x → (n : ℕ) → n ≡ c .significand .result * 2 ^ (c .before .args .x - 1075) → limit ≤ n → limit ≡ capped (rounded floatRule (c .significand .result * 2 ^ (c .before .args .x - 1)) (2 ^ 1074))
+  large : 1075 ≤ c .before .args .x → (n : ℕ) → n ≡ c .significand .result * 2 ^ (c .before .args .x - 1075) → limit ≤ n → limit ≡ capped (rounded (c .significand .result * 2 ^ (c .before .args .x - 1)) (2 ^ 1074))
   large h n e l = cap-above n l ∙ ap capped (e ∙ sym (high h))
 
 low-sum : (x : ℕ) → (x ≡ 0 → ⊥) → x < 1075 → x - 1 + (1075 - x) ≡ 1074
@@ -40,8 +40,8 @@ low-sum x n h = omega arith
 significand-requires : tie.Need-significand-requires
 significand-requires c κs = search needs
 
-round-half-away-requires : tie.Need-round-half-away-requires
-round-half-away-requires c κs = let z = c .before in m-lt (z .before .args .x) (z .before .args .t) (z .significand .ensures) (z .before .pre)
+nearest-even-requires : tie.Need-nearest-even-requires
+nearest-even-requires c κs = let z = c .before in m-lt (z .before .args .x) (z .before .args .t) (z .significand .ensures) (z .before .pre)
 
 returns : tie.Need-returns
 returns c =
@@ -50,13 +50,13 @@ returns c =
     let t = z .before .args .t in
     let m = z .significand .result in
     let lt = m-lt x t (z .significand .ensures) (z .before .pre) in
-    done z (c .round-half-away .ensures ∙ size-low m (x - 1) 1074 lt (omega arith))
+    done z (c .nearest-even .ensures ∙ size-low m (x - 1) 1074 lt (omega arith))
 
-sub-round-half-away : tie.Need-sub-round-half-away
-sub-round-half-away c = search needs
+sub-nearest-even : tie.Need-sub-nearest-even
+sub-nearest-even c = search needs
 
-round-half-away-requires-2 : tie.Need-round-half-away-requires-2
-round-half-away-requires-2 c κs = let z = c .before .before in m-lt (z .before .args .x) (z .before .args .t) (z .significand .ensures) (z .before .pre)
+nearest-even-requires-2 : tie.Need-nearest-even-requires-2
+nearest-even-requires-2 c κs = let z = c .before .before in m-lt (z .before .args .x) (z .before .args .t) (z .significand .ensures) (z .before .pre)
 
 returns-2 : tie.Need-returns-2
 returns-2 c =
@@ -65,7 +65,7 @@ returns-2 c =
     let t = z .before .args .t in
     let m = z .significand .result in
     let lt = m-lt x t (z .significand .ensures) (z .before .pre) in
-    done z (c .round-half-away2 .ensures ∙ size-low m (x - 1) (1075 - x) lt (low-sum x (c .before .before .if1 .left) (c .before .if2 .taken)))
+    done z (c .nearest-even2 .ensures ∙ size-low m (x - 1) (1075 - x) lt (low-sum x (c .before .before .if1 .left) (c .before .if2 .taken)))
 
 returns-3 : tie.Need-returns-3
 returns-3 c =
@@ -92,10 +92,10 @@ whole-size-spec =
     tie.close
     (tie.spec
     significand-requires
-    round-half-away-requires
+    nearest-even-requires
     returns
-    sub-round-half-away
-    round-half-away-requires-2
+    sub-nearest-even
+    nearest-even-requires-2
     returns-2
     returns-3
     shl-n

@@ -10,7 +10,7 @@ ghost use Rattle.value.specs.Number.{readAs};
 ghost use Rattle.binary.specs.Bytes.{wordIn, bytesOf, bigFrom, littleOf, bigBytes, littleBytes};
 ghost use Rattle.binary.specs.Binary.{halfOf, widthOk, signedWord, integerOf, integerBytes, boolOf, isFalse};
 
-fn wide(x: u8) -> u64
+pub fn wide(x: u8) -> u64
     ensures { λ r. ⌜ (r ≡ x) × (r < 256) ⌝ }
 {
     x as u64
@@ -135,7 +135,7 @@ pub fn parse_binary_int(part: &[u8], order: u32, signed: bool) -> Number
         if signed {
             return signed_word(n, v);
         }
-        if v < 0x8000_0000_0000_0000 {
+        if v < value::INT_LIMIT {
             return Number::Of(false, v);
         }
         return Number::Big;

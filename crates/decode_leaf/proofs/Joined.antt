@@ -3,7 +3,7 @@ use mathlib.Core.Path.{_≡_, refl, ap, _∙_}
 use mathlib.Core.Bool.{Bool, true, false, _&&_, _||_, not, cond, false≢true}
 use mathlib.Core.Logic.{inl}
 use mathlib.Core.List.{List, [], _∷_, _++_}
-use Prim.Native.Nat.{ℕ, zero, suc, _+_, _-_, _<_, _≤_}
+use Prim.Native.Nat.{ℕ, zero, suc, _+_, _-_, _<_, _≤_, _^_}
 use native.Mathlib.Omega.{arith}
 use lib.Dec.{eqb, leb, ltb}
 use lib.IntN.{ℤ}
@@ -37,8 +37,8 @@ use Rattle.walks.proofs.Alike.{Alike, Alike-leaf, both-bad, both-leaf, Each, To
 
 abbrev pub Ranged : Says → Type 0
 Ranged (refused n) = Unit {0}
-Ranged (value (Int negative size)) = (negative && ltb 0 size) ≡ false → size < 9223372036854775808
-Ranged (value (Decimal negative size scale)) = (negative && ltb 0 size) ≡ false → size < 9223372036854775808
+Ranged (value (Int negative size)) = (negative && ltb 0 size) ≡ false → size < 2 ^ 63
+Ranged (value (Decimal negative size scale)) = (negative && ltb 0 size) ≡ false → size < 2 ^ 63
 Ranged (value Null) = Unit {0}
 Ranged (value (Text a b)) = Unit {0}
 Ranged (value (FloatV x)) = Unit {0}
@@ -81,7 +81,7 @@ module _ (l masks : List ℕ) (page room : ℕ) (deps : Bool) where
         go false true s = s
         go false false s = s
 
-    set-stands : (b : Bool) (negative : Bool) (size : ℕ) (cs : List Count) (run : List ℤ) → (b ≡ true → (negative && ltb 0 size) ≡ false → size < 9223372036854775808) → Stands l cs run
+    set-stands : (b : Bool) (negative : Bool) (size : ℕ) (cs : List Count) (run : List ℤ) → (b ≡ true → (negative && ltb 0 size) ≡ false → size < 2 ^ 63) → Stands l cs run
         → Stands l (cond b (record { name = e .name; negative = negative; size = size } ∷ []) [] ++ cs) (setAll l (cond b (record { name = e .name; negative = negative; size = size } ∷ []) []) run)
     set-stands true negative size cs run h s = stands-set l cs run (e .name) negative size found (h refl) s
     set-stands false negative size cs run h s = s

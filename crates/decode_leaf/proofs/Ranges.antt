@@ -28,27 +28,27 @@ use Rattle.decode_scalar.proofs.Embedded.{embedded-all}
 
 -- a number that is not negative is below 2^63
 abbrev pub Small : Answer Whole → Type 0
-Small (given (number negative size)) = (negative && ltb 0 size) ≡ false → size < 9223372036854775808
+Small (given (number negative size)) = (negative && ltb 0 size) ≡ false → size < 2 ^ 63
 Small (refused question) = Unit {0}
 
 by : (b : Bool) (x y : Answer Whole) → (b ≡ true → Small x) → (b ≡ false → Small y) → Small (cond b x y)
 by true x y f g = f refl
 by false x y f g = g refl
 
-number-small : (bound : ℕ) (negative : Bool) (v : ℕ) → bound ≤ 9223372036854775808 → Small (readIn bound negative v)
+number-small : (bound : ℕ) (negative : Bool) (v : ℕ) → bound ≤ 2 ^ 63 → Small (readIn bound negative v)
 number-small bound negative v h = by (ltb v bound) (some negative v) (refused 9) (λ e _. omega (arith, ltb-true v bound e, h)) (λ _. tt)
 
 minus-some : (v : ℕ) → Small (some true v)
 minus-some v = go (ltb 0 v) refl
   where
-    go : (b : Bool) → ltb 0 v ≡ b → ((b && true) && b) ≡ false → v < 9223372036854775808
+    go : (b : Bool) → ltb 0 v ≡ b → ((b && true) && b) ≡ false → v < 2 ^ 63
     go true e f = absurd (true≢false f)
     go false e f = omega (arith, ltb-false 0 v e)
 
 minus-small : (bound v : ℕ) → Small (readIn bound true v)
 minus-small bound v = by (ltb v bound) (some true v) (refused 9) (λ e. minus-some v) (λ _. tt)
 
-digits-small : (bound : ℕ) (negative : Bool) (t : List ℕ) → bound ≤ 9223372036854775808 → Small (digitsIn bound negative t)
+digits-small : (bound : ℕ) (negative : Bool) (t : List ℕ) → bound ≤ 2 ^ 63 → Small (digitsIn bound negative t)
 unfolding digitsIn
 digits-small bound negative t h = by (ltb 0 (length t) && everyBy isDigit t) (readIn bound negative (valueOf (map digitIn t))) unlawful (λ _. number-small bound negative (valueOf (map digitIn t)) h) (λ _. tt)
 
@@ -74,7 +74,7 @@ int-small p q page part =
     let s = map (fromPage page) part in
     by (isEmbedded p q) (embeddedOf s) (intOf q s) (λ _. embedded-all Small s (λ negative v. number-small (2 ^ 63) negative v (omega arith)) tt (text-small 1 s)) (λ _. text-small q s)
 
-half-small : (n : ℕ) → n ≤ 8 → 256 ^ n / 2 ≤ 9223372036854775808
+half-small : (n : ℕ) → n ≤ 8 → 256 ^ n / 2 ≤ 2 ^ 63
 half-small zero h = omega arith
 half-small (suc zero) h = omega arith
 half-small (suc (suc zero)) h = omega arith

@@ -3,7 +3,7 @@ use mathlib.Core.Path.{_≡_, refl, sym, ap, _∙_, subst⁻¹}
 use mathlib.Core.Bool.{Bool, true, false, _&&_, not, cond, true≢false}
 use mathlib.Core.List.{List, [], _∷_}
 use mathlib.Core.Logic.{⊎-elim}
-use Prim.Native.Nat.{ℕ, zero, suc, _+_, _-_, _*_, _≤_, _<_, min}
+use Prim.Native.Nat.{ℕ, zero, suc, _+_, _-_, _*_, _≤_, _<_, min, _^_}
 use native.Mathlib.Omega.{arith}
 use native.Mathlib.Numerals.{add-one}
 use lib.Dec.{T, eqb, ltb, leb}
@@ -31,7 +31,7 @@ use Rattle.decode_leaf.specs.Machine.{Counted}
 
 -- ---- casts
 
-pub round : (z : ℤ) → mag z < 9223372036854775808 → natOf (toZ w64 (ofZ w64 z)) ≡ natOf z
+pub round : (z : ℤ) → mag z < 2 ^ 63 → natOf (toZ w64 (ofZ w64 z)) ≡ natOf z
 round z s = ap natOf (toZ-ofZ {w = w64} {z = z} (sfits-of s))
 
 cast-cases : (z : ℤ) → SFits w64 z → ltZ z (pos 0) ≡ false → T (nonNeg z) × Fits w64 (natAbs z)
@@ -62,7 +62,7 @@ set-past [] i v h = refl
 set-past (x ∷ s) zero v h = absurd (omega arith)
 set-past (x ∷ s) (suc i) v h = ap (λ l. x ∷ l) (set-past s i v (omega arith))
 
-pub put-is : (cs : List ℤ) (at x : ℕ) (a : ℤ) → mag a < 9223372036854775808 → a ≡ pos x → set cs at (toZ w64 (ofZ w64 a)) ≡ set cs at (pos x)
+pub put-is : (cs : List ℤ) (at x : ℕ) (a : ℤ) → mag a < 2 ^ 63 → a ≡ pos x → set cs at (toZ w64 (ofZ w64 a)) ≡ set cs at (pos x)
 put-is cs at x a h p = ap (set cs at) (toZ-ofZ {w = w64} {z = a} (sfits-of h) ∙ p)
 
 -- ---- the first entry of a name
@@ -86,7 +86,7 @@ module _ (l : List ℕ) (name : ℕ) where
 
 -- ---- setting and holding counts
 
-pub set-is : (l : List ℕ) (name : ℕ) (negative : Bool) (size j st v : ℕ) (run mid end : List ℤ) → j ≡ first l name → st ≡ statusOf negative size → v ≡ min 9223372036854775807 size
+pub set-is : (l : List ℕ) (name : ℕ) (negative : Bool) (size j st v : ℕ) (run mid end : List ℤ) → j ≡ first l name → st ≡ statusOf negative size → v ≡ min (2 ^ 63 - 1) size
     → mid ≡ set run (j * 2) (pos st) → end ≡ set mid (j * 2 + 1) (pos v) → end ≡ setIn l name negative size run
 unfolding setIn
 set-is l name negative size j st v run mid end a b c p q = q ∙ rw (p, b, c, a) refl

@@ -1,7 +1,7 @@
 -- The counts of a walk in a lent run: "work space of two 64-bit words an entry". A name's two words stand at its first entry.
 use mathlib.Core.Bool.{Bool, _&&_, cond}
 use mathlib.Core.List.{List, [], _∷_}
-use Prim.Native.Nat.{ℕ, zero, suc, _+_, _*_, min}
+use Prim.Native.Nat.{ℕ, zero, suc, _+_, _*_, min, _^_, _-_}
 use lib.Dec.{eqb, ltb}
 use lib.IntN.{ℤ, pos, negsuc}
 use lib.ListN.{getD, set}
@@ -28,7 +28,7 @@ abbrev pub statusOf : Bool → ℕ → ℕ
 statusOf negative size = cond (negative && ltb 0 size) 2 1
 
 unfoldable pub setIn : List ℕ → ℕ → Bool → ℕ → List ℤ → List ℤ
-setIn l name negative size run = set (set run (first l name * 2) (pos (statusOf negative size))) (first l name * 2 + 1) (pos (min 9223372036854775807 size))
+setIn l name negative size run = set (set run (first l name * 2) (pos (statusOf negative size))) (first l name * 2 + 1) (pos (min (2 ^ 63 - 1) size))
 
 abbrev pub setAll : List ℕ → List Count → List ℤ → List ℤ
 setAll l [] run = run

@@ -18,7 +18,7 @@ use zeros::clear_counts;
 ghost use mathlib.Core.Path.{_≡_};
 ghost use mathlib.Core.Bool.{Bool, true, false, _||_, _&&_, not, cond};
 ghost use mathlib.Core.List.{List, [], _∷_, _++_};
-ghost use Prim.Native.Nat.{ℕ, _+_, _-_, _*_, _/_, _≤_, _<_, min, max};
+ghost use Prim.Native.Nat.{ℕ, _+_, _-_, _*_, _/_, _≤_, _<_, min, max, _^_};
 ghost use lib.IntN.{ℤ, pos};
 ghost use lib.Dec.{eqb, leb, ltb};
 ghost use lib.ListN.{length, take, drop, getD, set, replicate};
@@ -69,7 +69,7 @@ fn natural(x: i64) -> u64
 }
 
 fn signed(x: u64) -> i64
-    requires { ⌜ x < 9223372036854775808 ⌝ }
+    requires { ⌜ x < 2 ^ 63 ⌝ }
     ensures { λ r. ⌜ r ≡ pos x ⌝ }
 {
     x as i64
@@ -100,7 +100,7 @@ fn word_in(counts: &[i64], at: usize) -> u64
 }
 
 fn put_word(counts: &mut [i64], at: usize, x: u64)
-    requires { ⌜ x < 9223372036854775808 ⌝ }
+    requires { ⌜ x < 2 ^ 63 ⌝ }
     ensures { λ _. ⌜ now (counts .exit) ≡ set (now (counts .entry)) at (pos x) ⌝ }
 {
     if at < counts.len() {
@@ -121,12 +121,12 @@ fn status(negative: bool, size: u64) -> u64
 }
 
 fn stored(size: u64) -> u64
-    ensures { λ r. ⌜ r ≡ min 9223372036854775807 size ⌝ }
+    ensures { λ r. ⌜ r ≡ min (2 ^ 63 - 1) size ⌝ }
 {
-    if size < 9223372036854775807 {
+    if size < value::INT_LIMIT {
         size
     } else {
-        9223372036854775807
+        value::INT_LIMIT - 1
     }
 }
 
@@ -295,7 +295,7 @@ fn one_item(width: u32, told: usize) -> Out
 
 // The item of a scalar at the front; a text starts behind the texts so far.
 fn place(items: &mut [u64], name: u64, width: u32, told: usize, v: Scalar) -> Out
-    requires { ⌜ toldIn told v < 9223372036854775808 ⌝ }
+    requires { ⌜ toldIn told v < 2 ^ 63 ⌝ }
     ensures { λ r. ⌜ Placed (λ st. placed name true width (length (now (items .entry))) (leaf (movedIn told v) st)) (toldIn told v) width (now (items .entry)) r (now (items .exit)) ⌝ }
 {
     if items.len() < ITEM_WORDS {
@@ -323,7 +323,7 @@ fn place_lone(
     told: usize,
     v: Scalar,
 ) -> Out
-    requires { ⌜ toldIn told v < 9223372036854775808 ⌝ }
+    requires { ⌜ toldIn told v < 2 ^ 63 ⌝ }
     ensures { λ r. ⌜ Placed (λ st. placed (e .name) true (e .width) (length (now (items .entry))) (leaf (movedIn told v) st))
         (toldIn told v) (e .width) (now (items .entry)) r (now (items .exit)) ⌝ }
     ensures { λ r. ⌜ now (counts .exit) ≡ cond (eqb (r .refused) 0) (noteIn (now (layout .entry)) deps e v (now (counts .entry))) (now (counts .entry)) ⌝ }
@@ -338,7 +338,7 @@ fn place_lone(
 
 // The item of a table's element at the front.
 fn place_element(items: &mut [u64], e: Entry, told: usize, v: Scalar) -> Out
-    requires { ⌜ toldIn told v < 9223372036854775808 ⌝ }
+    requires { ⌜ toldIn told v < 2 ^ 63 ⌝ }
     ensures { λ r. ⌜ Placed (λ st. placed element false (e .width) (length (now (items .entry))) (leaf (movedIn told v) st)) (toldIn told v) (e .width) (now (items .entry)) r (now (items .exit)) ⌝ }
 {
     if e.width == 0 {

@@ -117,7 +117,7 @@ fn parse_embedded(part: &[u8], page: u32) -> Number
 {
     let t = numerals::trim(part, page);
     if ends_overpunched(t, page) {
-        return zoned::decode_within(t, page, 9223372036854775808);
+        return zoned::decode_within(t, page, value::INT_LIMIT);
     }
     display::parse_display_int(part, page, 1)
 }

@@ -73,8 +73,8 @@ fn digits_in(part: &[u8], page: u32, bound: u64, negative: bool) -> Number
     while i < n {
         let b = part[i];
         let x = ebcdic::from_page(page, b);
-        if numerals::is_digit(x) {
-            size = value::push_digit(size, numerals::digit_in(x), bound);
+        if value::is_digit(x) {
+            size = value::push_digit(size, value::digit_in(x), bound);
             i += 1;
         } else {
             return Number::Bad;
@@ -95,13 +95,13 @@ fn whole_of(part: &[u8], page: u32) -> Number
     let x = ebcdic::from_page(page, b);
     if x == 45 {
         let t = &part[1..n];
-        return digits_in(t, page, 9223372036854775809, true);
+        return digits_in(t, page, value::INT_LIMIT + 1, true);
     }
     if x == 43 {
         let t = &part[1..n];
-        return digits_in(t, page, 9223372036854775808, false);
+        return digits_in(t, page, value::INT_LIMIT, false);
     }
-    digits_in(part, page, 9223372036854775808, false)
+    digits_in(part, page, value::INT_LIMIT, false)
 }
 
 // The number of an Int field.
@@ -117,7 +117,7 @@ pub fn parse_display_int(part: &[u8], page: u32, sign: u32) -> Number
         return Number::Of(false, 0);
     }
     if numerals::is_sign(b) {
-        return digits_in(u, page, 9223372036854775808, b == 45);
+        return digits_in(u, page, value::INT_LIMIT, b == 45);
     }
     whole_of(u, page)
 }

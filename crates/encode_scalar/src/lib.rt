@@ -50,7 +50,7 @@ fn fitting(fits: bool) -> u32
 fn fits_embedded(width: usize, size: u64) -> bool
     ensures { λ r. ⌜ r ≡ embeddedFit width size ⌝ }
 {
-    if size >= 0x8000_0000_0000_0000 {
+    if size >= value::INT_LIMIT {
         return false;
     }
     zoned::fits(width, size)
@@ -211,7 +211,7 @@ fn encode_embedded(part: &mut [u8], page: u32, negative: bool, size: u64) -> boo
     ensures { λ _. ⌜ now (part .exit) ≡ cond (embeddedFit (length (now (part .entry))) size)
         (map (ontoPage page) (encodedOf (length (now (part .entry))) negative size true)) (now (part .entry)) ⌝ }
 {
-    if size >= 0x8000_0000_0000_0000 {
+    if size >= value::INT_LIMIT {
         return false;
     }
     zoned::encode(part, page, negative, size, true)

@@ -159,7 +159,7 @@ fn fits_digits(width: usize, sign: u32, negative: bool, size: u64) -> bool
 fn fits_int(p: u32, q: u32, width: usize, negative: bool, size: u64) -> bool
     ensures { λ r. ⌜ r ≡ intFits p q width negative size ⌝ }
 {
-    if size >= 0x8000_0000_0000_0000 {
+    if size >= value::INT_LIMIT {
         return false;
     }
     if decode_scalar::is_embedded(p, q) {
@@ -185,7 +185,7 @@ fn in_range(width: usize, signed: bool, negative: bool, size: u64) -> bool
     if negative {
         return false;
     }
-    if size < 0x8000_0000_0000_0000 {
+    if size < value::INT_LIMIT {
         return size / 2 < half;
     }
     false
@@ -241,7 +241,7 @@ fn nan_fits(kind: u32, bits: u32, width: usize, x: u64) -> bool
     if kind != KIND_FLOAT {
         return false;
     }
-    if x % 0x8000_0000_0000_0000 > 0x7FF0_0000_0000_0000 {
+    if value::is_nan(x) {
         return fits_word(bits, width, x);
     }
     false

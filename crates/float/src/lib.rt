@@ -262,13 +262,13 @@ fn whole_size(x: u64, t: u64) -> u64
     }
     let k = x - 1075;
     if k > 10 {
-        return 1000000000000000000;
+        return value::LIMIT;
     }
     let n = m << k;
-    if n < 1000000000000000000 {
+    if n < value::LIMIT {
         return n;
     }
-    1000000000000000000
+    value::LIMIT
 }
 
 // x * 10^scale as a whole number.

@@ -2,14 +2,13 @@
 use mathlib.Core.Path.{_≡_, refl, sym, ap, _∙_}
 use mathlib.Core.Bool.{Bool, true, false}
 use mathlib.Core.List.{List}
-use Prim.Native.Nat.{ℕ, suc, _+_, _-_, _*_, _≤_}
+use Prim.Native.Nat.{ℕ, _+_, _-_, _*_, _≤_}
 use native.Mathlib.Omega.{arith}
 use lib.Dec.{eqb, leb}
 use lib.ListN.{length, getD, List·getD-eq-default}
 use borrow.Author.Tests.{le-leb, eq-eqb, ne-eqb, eqb-true, eqb-false}
 use Rattle.layout.specs.declared.Entry.{Entry}
-use Rattle.spans.specs.Tree.{spanOk}
-use Rattle.layout.specs.Layout.{absent, entryAt, spanOf, isGroup, upTo, plainOk, floatOk, kindOk, reservedWidth}
+use Rattle.layout.specs.Layout.{absent, entryAt, upTo, plainOk, floatOk, kindOk, reservedWidth}
 
 pub past-end : (l : List ℕ) (i : ℕ) → length l ≤ i → 0 ≡ getD l i 0
 past-end l i h = sym (List·getD-eq-default l 0 {n = i} h)
@@ -69,23 +68,6 @@ module _ (e : Entry) where
     pub float-other : (e .q ≡ 16 → ⊥) → (e .q ≡ 32 → ⊥) → (e .q ≡ 64 → ⊥) → false ≡ floatOk e
     unfolding floatOk
     float-other a b c = rw (h, ne-eqb (e .q) 16 a, ne-eqb (e .q) 32 b, ne-eqb (e .q) 64 c) refl
-
-  module _ (n : ℕ) where
-    pub span-none : e .span ≡ 0 → false ≡ spanOk spanOf isGroup e n
-    span-none z = rw (ne-eqb (e .span) (suc n) (λ x. omega (arith, x, z))) refl
-
-    pub span-other : (e .span ≡ 0 → ⊥) → (e .span - 1 ≡ n → ⊥) → false ≡ spanOk spanOf isGroup e n
-    span-other z f = rw (ne-eqb (e .span) (suc n) (λ x. f (omega (arith, x)))) refl
-
-    module _ (z : e .span ≡ 0 → ⊥) (f : e .span - 1 ≡ n) where
-      counted : e .span ≡ suc n
-      counted = omega arith
-
-      pub span-group : e .kind ≡ 9 → true ≡ spanOk spanOf isGroup e n
-      span-group k = rw (eq-eqb (e .span) (suc n) counted, eq-eqb (e .kind) 9 k) refl
-
-      pub span-single : (e .kind ≡ 9 → ⊥) → eqb n 0 ≡ spanOk spanOf isGroup e n
-      span-single k = rw (eq-eqb (e .span) (suc n) counted, ne-eqb (e .kind) 9 k) refl
 
   pub reserved-depends : (e .depending ≡ absent → ⊥) → 0 ≡ reservedWidth e
   unfolding reservedWidth

@@ -12,10 +12,11 @@ use codes::KIND_PAD;
 use codes::KIND_TEXT;
 use positions::larger;
 use spans::end_of;
+use spans::span_ok;
 ghost use mathlib.Core.Path.{_≡_};
 ghost use Prim.Native.Nat.{_+_, _*_, _≤_};
 ghost use lib.ListN.{length, getD};
-ghost use Rattle.spans.specs.Tree.{spanOk, nested};
+ghost use Rattle.spans.specs.Tree.{nested};
 ghost use Rattle.layout.specs.Layout.{entryAt, spanOf, isGroup, unrepeated, unrepeatedLeaf, controls, part, wordsOk, upTo, plainOk, floatOk, boolOk, editedOk, kindOk, optionOk, placeOk, entryOk, entriesOk, checkedOf, layoutAsks, reservedWidth, recordLength, dependsIn};
 
 // The twelve words of an entry.
@@ -265,23 +266,6 @@ pub fn entry_ok(e: Entry, masks: usize) -> bool
     entries_ok(&words, masks)
 }
 
-// Whether an entry's span counts it and the n entries below it, which only a group may have.
-fn span_ok(e: Entry, n: usize) -> bool
-    ensures { λ r. ⌜ r ≡ spanOk spanOf isGroup e n ⌝ }
-{
-    let below = n as u64;
-    if e.span == 0 {
-        return false;
-    }
-    if e.span as u64 - 1 != below {
-        return false;
-    }
-    if e.kind == KIND_GROUP {
-        return true;
-    }
-    n == 0
-}
-
 // Whether the entries lo up to hi are well nested, in at most so many levels.
 fn nested(layout: &[u32], lo: usize, hi: usize, levels: usize) -> bool
     requires { ⌜ hi * 12 ≤ length (now layout) ⌝ }
@@ -298,7 +282,7 @@ fn nested(layout: &[u32], lo: usize, hi: usize, levels: usize) -> bool
             continue;
         }
         let end = end_of(e.span as u64, i, hi);
-        if !span_ok(e, end - (i + 1)) {
+        if !span_ok(e.span, e.kind == KIND_GROUP, end - (i + 1)) {
             return false;
         }
         if !nested(layout, i + 1, end, levels - 1) {

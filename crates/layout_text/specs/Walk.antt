@@ -162,10 +162,6 @@ spanIn spans i = getD spans i 0
 abbrev pub groupIn : List ℕ → ℕ → Bool
 groupIn groups i = eqb (getD groups i 0) 1
 
--- a span counts its entry and the n entries below it, which only a group may have
-abbrev pub spanFits : ℕ → ℕ → ℕ → Bool
-spanFits span group n = eqb span (suc n) && (eqb group 1 || eqb n 0)
-
 unfoldable pub nestedIn : List ℕ → List ℕ → ℕ → ℕ → ℕ → Bool
 nestedIn spans groups levels lo hi = nested (spanIn spans) (groupIn groups) levels (tree (λ i. i) (spanIn spans) lo hi)
 

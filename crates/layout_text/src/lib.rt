@@ -13,13 +13,15 @@ use lines::name_ok;
 use lines::number_of;
 use lines::see_name;
 use lines::value_at;
+use lines::wide;
 use spans::end_of;
+use spans::span_ok;
 ghost use mathlib.Core.Path.{_≡_};
 ghost use mathlib.Core.Bool.{true, _&&_, cond};
 ghost use mathlib.Core.List.{[], _++_};
-ghost use Prim.Native.Nat.{ℕ, _+_, _*_, _≤_, _<_, min};
+ghost use Prim.Native.Nat.{ℕ, _+_, _*_, _≤_, _<_};
 ghost use lib.Dec.{eqb};
-ghost use lib.ListN.{length, getD, take, drop, set, replicate};
+ghost use lib.ListN.{length, getD, take, drop, set};
 ghost use Rattle.layout.specs.Layout.{absent};
 ghost use denote.Ref.{ptr};
 ghost use Rattle.lists.specs.Part.{placeIn};
@@ -30,7 +32,7 @@ ghost use Rattle.layout_text.specs.Reading.{namesOf, masksOf, scaleOf, p
 ghost use Rattle.layout_text.specs.Reading.{readOf, layoutInto, LayoutRead, spelling, firstStart, spellingAt, nameCount, Spells};
 ghost use Rattle.layout_text.specs.Firsts.{seeBoth, firstsOf, Firsts};
 ghost use Rattle.layout_text.specs.Walk.{partOf, lineAt, Within, numberWith, numberIn, optionIn, nameIn, dependingIn, maskIn, PageTold, Tells};
-ghost use Rattle.layout_text.specs.Walk.{entryWith, fineAlone, notLawful, Finds, spanFits, nestedIn, refusedBy, answerGiven, answerOf, Lasts};
+ghost use Rattle.layout_text.specs.Walk.{entryWith, fineAlone, notLawful, Finds, nestedIn, refusedBy, answerGiven, answerOf, Lasts};
 
 // ---- one line. A part or a number whose `next` is 0 stands for an unlawful line.
 
@@ -382,23 +384,6 @@ fn unlawful() -> Judged
     }
 }
 
-// Whether an entry's span counts it and the n entries below it, which only a group may have.
-fn span_ok(span: u32, group: u8, n: usize) -> bool
-    ensures { λ r. ⌜ r ≡ spanFits span group n ⌝ }
-{
-    let below = n as u64;
-    if span == 0 {
-        return false;
-    }
-    if span as u64 - 1 != below {
-        return false;
-    }
-    if group == 1 {
-        return true;
-    }
-    n == 0
-}
-
 // Whether the entries lo up to hi are well nested, in at most so many levels.
 fn nested(spans: &[u32], groups: &[u8], lo: usize, hi: usize, levels: usize) -> bool
     requires { ⌜ hi ≤ length (now spans) ⌝ }
@@ -412,7 +397,7 @@ fn nested(spans: &[u32], groups: &[u8], lo: usize, hi: usize, levels: usize) -> 
         }
         let span = spans[i];
         let end = end_of(span as u64, i, hi);
-        if !span_ok(span, groups[i], end - (i + 1)) {
+        if !span_ok(span, groups[i] == 1, end - (i + 1)) {
             return false;
         }
         if !nested(spans, groups, i + 1, end, levels - 1) {
@@ -475,12 +460,6 @@ fn answer(j: Judged, nests: bool, words: usize, masks: usize) -> LayoutReading
     }
 }
 
-fn at_most(n: usize, most: usize) -> usize
-    ensures { λ r. ⌜ r ≡ min n most ⌝ }
-{
-    if n < most { n } else { most }
-}
-
 // All questions of a text, with place for 512 spans and flags of groups.
 fn ask(
     text: &[u8],
@@ -495,7 +474,7 @@ fn ask(
     ensures { λ r. ⌜ (r .number ≡ 0 → length (now (text .entry)) < 4294967296) ⌝ }
 {
     let j = judge(text, spans, groups);
-    let nests = nested(spans, groups, 0, at_most(j.count, 512), 8);
+    let nests = nested(spans, groups, 0, lists::least(j.count, 512), 8);
     answer(j, nests, words, masks)
 }
 
@@ -529,17 +508,6 @@ fn put_words(e: Entry, out: &mut [u32])
     out[11] = e.mask;
 }
 
-fn copy(part: &[u8], out: &mut [u8])
-    requires { ⌜ length (now part) ≤ length (now out) ⌝ }
-    ensures { λ _. ⌜ now (out .exit) ≡ now (part .entry) ++ drop (length (now (part .entry))) (now (out .entry)) ⌝ }
-{
-    let mut i = 0;
-    while i < part.len() {
-        out[i] = part[i];
-        i += 1;
-    }
-}
-
 // The twelve words of the k-th entry.
 fn put_entry(words: &mut [u32], k: usize, e: Entry)
     requires { ⌜ k * 12 + 12 ≤ length (now words) ⌝ }
@@ -556,7 +524,7 @@ fn put_mask(masks: &mut [u8], m: usize, part: &[u8])
     ensures { λ _. ⌜ now (masks .exit) ≡ take m (now (masks .entry)) ++ (now (part .entry) ++ drop (m + length (now (part .entry))) (now (masks .entry))) ⌝ }
 {
     let b = m + part.len();
-    copy(part, &mut masks[m..b]);
+    lists::copy(part, &mut masks[m..b]);
 }
 
 // The numbers of an entry's names, and how many different names the table then holds.
@@ -641,23 +609,13 @@ fn store_all(text: &[u8], count: usize, words: &mut [u32], masks: &mut [u8])
     store(text, count, &mut starts, words, masks);
 }
 
-fn zero_words(s: &mut [u32])
-    ensures { λ _. ⌜ now (s .exit) ≡ replicate (length (now (s .entry))) 0 ⌝ }
-{
-    let mut i = 0;
-    while i < s.len() {
-        s[i] = 0;
-        i += 1;
-    }
-}
-
 // The words and masks that a layout's text says. Refusals, in order: 17, 1, 2, 3, 16.
 pub fn read_layout(text: &[u8], words: &mut [u32], masks: &mut [u8]) -> LayoutReading
     ensures { λ r. ⌜
         LayoutRead (layoutInto (now (text .entry)) (now (words .entry)) (now (masks .entry)))
         (r .number) (r .page) (r .words) (r .masks) (now (words .entry)) (now (words .exit)) (now (masks .entry)) (now (masks .exit)) ⌝ }
 {
-    zero_words(words);
+    zeros::clear_words(words);
     lists::fill(masks, 0);
     let r = questions(text, words.len(), masks.len());
     if r.number != 0 {
@@ -689,12 +647,6 @@ fn see_all(text: &[u8], count: usize, starts: &mut [u32]) -> usize
         k += 1;
     }
     seen
-}
-
-fn wide(p: u32) -> usize
-    ensures { λ r. ⌜ r ≡ p ⌝ }
-{
-    p as usize
 }
 
 // The name with a number, by a table of where `count` different names start, as a part of the text; the empty part at its front where the table has no such number.
@@ -742,7 +694,7 @@ pub fn name_starts(text: &[u8], starts: &mut [u32; 1024]) -> usize
     ensures { λ _. ⌜ ((number : ℕ) → getD (now (starts .exit)) number 0 ≡ spellingAt (now (text .entry)) number) ⌝ }
     ensures { λ r. ⌜ Spells (now (text .entry)) (now (starts .exit)) r ⌝ }
 {
-    zero_words(starts);
+    zeros::clear_words(starts);
     let r = questions(text, 18446744073709551615, 18446744073709551615);
     if r.number != 0 {
         return 0;

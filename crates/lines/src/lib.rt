@@ -1,5 +1,5 @@
 // The lines of a layout's text form, each judged on its own, and the numbers of names by first sight.
-
+use codes::ABSENT;
 ghost use mathlib.Core.Path.{_≡_};
 ghost use Prim.Native.Nat.{_≤_, _<_};
 ghost use lib.ListN.{length, take};
@@ -8,7 +8,6 @@ ghost use Rattle.lists.specs.Part.{placeIn};
 ghost use Rattle.lists.specs.Scan.{beforeBy};
 ghost use Rattle.lines.specs.Lines.{isEnd, lineFrom, startIn, startsWith, valueAt, foundAs, leads, numberOf, parsedAs, isLetter, inName, nameOk, maskOk};
 ghost use Rattle.lines.specs.Names.{foldOf, sameName, indexIn, namesAt, numberAt, countAfter, startsAfter};
-ghost use Rattle.value.specs.Digits.{isDigit};
 
 // Where a value starts and ends in a text, and where the next line starts.
 pub enum Found {
@@ -87,15 +86,6 @@ pub fn name_at(text: &[u8], at: usize) -> &[u8]
 
 // ---- values
 
-fn is_digit(x: u8) -> bool
-    ensures { λ r. ⌜ r ≡ isDigit x ⌝ }
-{
-    if x < 0x30 {
-        return false;
-    }
-    x <= 0x39
-}
-
 fn has_lead(s: &[u8]) -> bool
     ensures { λ r. ⌜ r ≡ leads (now (s .entry)) ⌝ }
 {
@@ -119,11 +109,11 @@ pub fn number_of(part: &[u8]) -> Parsed
     let mut i = 0;
     while i < part.len() {
         let x = part[i];
-        if !is_digit(x) {
+        if !value::is_digit(x) {
             return Parsed::Bad;
         }
         v = v * 10 + (x as u64 - 0x30);
-        if v >= 4294967295 {
+        if v >= ABSENT as u64 {
             return Parsed::Bad;
         }
         i += 1;
@@ -152,7 +142,7 @@ fn in_name(x: u8) -> bool
     if is_letter(x) {
         return true;
     }
-    if is_digit(x) {
+    if value::is_digit(x) {
         return true;
     }
     x == 0x2D
@@ -226,7 +216,8 @@ fn same_name(a: &[u8], b: &[u8]) -> bool
     true
 }
 
-fn wide(p: u32) -> usize
+// A start that a table holds, as a position.
+pub fn wide(p: u32) -> usize
     ensures { λ r. ⌜ r ≡ p ⌝ }
 {
     p as usize

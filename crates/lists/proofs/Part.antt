@@ -1,11 +1,11 @@
 -- A part of a list that was lent: what the whole is after the part has changed; and the place of a part of a slice.
 use mathlib.Core.Path.{_≡_, sym, ap, _∙_}
 use mathlib.Core.Bool.{Bool, true, false, cond}
-use mathlib.Core.List.{List, [], _∷_, _++_}
+use mathlib.Core.List.{List, [], _∷_, _++_, append-nil}
 use Prim.Native.Nat.{ℕ, zero, suc, _+_, _-_, _≤_}
 use native.Mathlib.Omega.{arith}
 use native.Mathlib.Nat.{zero-add, suc-add}
-use lib.ListN.{length, take, drop, length-drop}
+use lib.ListN.{length, take, drop, length-drop, drop-of-length-le}
 use lib.Seq.{take-nil, drop-drop, length-take-le}
 use denote.Ref.{RefT, ptr}
 use borrow.Rule.Slice.PartMut.{put-same}
@@ -20,6 +20,15 @@ pub mid-length : (at w : ℕ) (xs : List ℕ) → at + w ≤ length xs → lengt
 mid-length at w xs h =
     let d : length (drop at xs) ≡ length xs - at = length-drop at xs in
     length-take-le (at + w - at) (drop at xs) (omega arith) ∙ omega arith
+
+-- the part filled by bytes that are copied to its front
+pub copy-part : (at w : ℕ) (xs src last : List ℕ) → at + w ≤ length xs → w ≤ length src
+    → last ≡ take (length (take (at + w - at) (drop at xs))) src ++ drop (length src) (take (at + w - at) (drop at xs))
+    → take at xs ++ (last ++ drop (at + w - at) (drop at xs)) ≡ take at xs ++ (take w src ++ drop (at + w) xs)
+copy-part at w xs src last h k e =
+    let long : length (take (at + w - at) (drop at xs)) ≡ w = mid-length at w xs h in
+    let none : drop (length src) (take (at + w - at) (drop at xs)) ≡ [] = drop-of-length-le (take (at + w - at) (drop at xs)) {i = length src} (omega (arith, long)) in
+    rw (e, none, append-nil, long) (in-whole at w xs (take w src))
 
 -- a callee's choice between new bytes for the part and the part as it was, in the whole
 pub lift : (b : Bool) (at w : ℕ) (xs new last : List ℕ) → last ≡ cond b new (take (at + w - at) (drop at xs))

@@ -9,7 +9,7 @@ ghost use lib.ListN.{length, take, drop};
 ghost use denote.Ref.{ptr};
 ghost use Rattle.lists.specs.Part.{placeIn};
 ghost use Rattle.lists.specs.Scan.{leftBy, leftCount, rightBy};
-ghost use Rattle.value.specs.Digits.{digitText, isDigit, digitIn, limit};
+ghost use Rattle.value.specs.Digits.{digitText, limit};
 ghost use Rattle.value.specs.Number.{readAs, readIn, unlawful};
 ghost use Rattle.ebcdic.specs.Ebcdic.{fromPage, ontoPage};
 ghost use Rattle.numerals.specs.Numerals.{isBlank, trimmed, keptBy, isSign, signByte};
@@ -75,24 +75,6 @@ pub fn trim(part: &[u8], page: u32) -> &[u8]
     &t[0..e]
 }
 
-pub fn is_digit(x: u8) -> bool
-    ensures { λ r. ⌜ r ≡ isDigit x ⌝ }
-{
-    if x < 48 {
-        return false;
-    }
-    x <= 57
-}
-
-pub fn digit_in(x: u8) -> u8
-    ensures { λ r. ⌜ r ≡ digitIn x ⌝ }
-{
-    if x < 48 {
-        return 0;
-    }
-    x - 48
-}
-
 // The size that the digits of a text spell, other bytes skipped.
 pub fn kept_digits(part: &[u8], page: u32) -> Number
     ensures { λ r. ⌜ readAs r ≡ keptBy (readIn limit false) unlawful (map (fromPage page) (now (part .entry))) ⌝ }
@@ -105,8 +87,8 @@ pub fn kept_digits(part: &[u8], page: u32) -> Number
         if x >= 128 {
             return Number::Bad;
         }
-        if is_digit(x) {
-            size = value::push_digit(size, digit_in(x), value::LIMIT);
+        if value::is_digit(x) {
+            size = value::push_digit(size, value::digit_in(x), value::LIMIT);
             i += 1;
         } else {
             i += 1;

@@ -1,12 +1,12 @@
 -- A record in a buffer of zeros, and bytes put behind it.
 use mathlib.Core.Path.{_≡_, sym, ap, ap₂, _∙_}
-use mathlib.Core.List.{List, [], _∷_, _++_, map, append-nil, append-assoc}
+use mathlib.Core.List.{List, [], _∷_, _++_, append-assoc}
 use Prim.Native.Nat.{ℕ, zero, suc, _+_, _-_, _≤_, min}
 use native.Mathlib.Omega.{arith}
-use lib.ListN.{length, take, drop, replicate, length-append, length-take, length-drop}
-use lib.Seq.{take-at, drop-append-add, drop-length}
-use Rattle.lists.proofs.Part.{in-whole}
-use Rattle.lists.proofs.Lists.{drop-replicate, map-same}
+use lib.ListN.{length, take, drop, replicate, length-append, length-take}
+use lib.Seq.{take-at, drop-append-add}
+use Rattle.lists.proofs.Part.{copy-part}
+use Rattle.lists.proofs.Lists.{drop-replicate}
 use Rattle.walks.specs.Records.{filled}
 
 pub take-min : (k : ℕ) (xs : List ℕ) → take (min k (length xs)) xs ≡ take k xs
@@ -15,11 +15,6 @@ take-min (suc k) [] = let z : min (suc k) zero ≡ zero = omega arith in ap (λ 
 take-min (suc k) (x ∷ xs) =
     let z : min (suc k) (suc (length xs)) ≡ suc (min k (length xs)) = omega arith in
     ap (λ n. take n (x ∷ xs)) z ∙ ap (λ l. x ∷ l) (take-min k xs)
-
--- the end of a copy that fills the whole of out
-pub copied : (bytes out : List ℕ) (i : ℕ) → i ≡ length out → take i (map (λ x. x) bytes) ++ drop i out ≡ take (length out) bytes
-copied bytes out i e =
-    ap₂ (λ n k. take i n ++ drop k out) (map-same bytes) e ∙ ap (λ l. take i bytes ++ l) (drop-length out) ∙ append-nil (take i bytes) ∙ ap (λ n. take n bytes) e
 
 -- a buffer that holds a list and zeros behind it is as long as the list at least
 pub fits-room : (n : ℕ) (r bs : List ℕ) → r ≡ filled n bs → length r ≡ n → length bs ≤ n
@@ -31,21 +26,15 @@ fits-room n r bs p q =
 -- ---- bytes put from a place on, as far as the buffer goes
 
 module _ (r bytes : List ℕ) (at n : ℕ) (p : n ≡ min (length r - at) (length bytes)) where
-  part-long : length (take (at + n - at) (drop at r)) ≡ min (length r - at) (length bytes)
-  part-long =
-      let k : length (drop at r) ≡ length r - at = length-drop at r in
-      let m : length (take (at + n - at) (drop at r)) ≡ min (at + n - at) (length (drop at r)) = length-take (at + n - at) (drop at r) in
-      omega arith
-
-  pub part-short : length (take (at + n - at) (drop at r)) ≤ length bytes
-  part-short = omega (arith, part-long)
-
   pub end-is : at + n ≡ at + length (take (length r - at) bytes)
   end-is = ap (λ m. at + m) (p ∙ sym (length-take (length r - at) bytes))
 
-  pub put-front : (part : List ℕ) → part ≡ take (length (take (at + n - at) (drop at r))) bytes
+  pub put-front : (part : List ℕ) → at ≤ length r
+      → part ≡ take (length (take (at + n - at) (drop at r))) bytes ++ drop (length bytes) (take (at + n - at) (drop at r))
       → take at r ++ (part ++ drop (at + n - at) (drop at r)) ≡ take at r ++ (take (length r - at) bytes ++ drop (at + n) r)
-  put-front part s = in-whole at n r part ∙ ap (λ x. take at r ++ (x ++ drop (at + n) r)) (s ∙ ap (λ i. take i bytes) part-long ∙ take-min (length r - at) bytes)
+  put-front part h s =
+      copy-part at n r bytes part (omega arith) (omega arith) s
+      ∙ ap (λ l. take at r ++ (l ++ drop (at + n) r)) (ap (λ i. take i bytes) p ∙ take-min (length r - at) bytes)
 
 -- ---- a record, zeros, and the bytes put behind the record
 

@@ -4,8 +4,8 @@ use encode::encode_record;
 use zeros::clear_items;
 use zeros::clear_text;
 ghost use mathlib.Core.Path.{_≡_};
-ghost use mathlib.Core.List.{List, [], _++_};
-ghost use Prim.Native.Nat.{ℕ, _+_, _-_, _≤_, min};
+ghost use mathlib.Core.List.{_++_};
+ghost use Prim.Native.Nat.{_+_, _-_, _≤_};
 ghost use lib.ListN.{length, take, drop};
 ghost use Rattle.roundtrip.specs.Same.{RoundTrip, Returns};
 
@@ -19,36 +19,15 @@ pub struct Trip {
     pub text: usize,
 }
 
-fn smaller(a: usize, b: usize) -> usize
-    ensures { λ r. ⌜ r ≡ min a b ⌝ }
-{
-    if a < b {
-        return a;
-    }
-    b
-}
-
-// The front of the bytes, as many as out has.
-fn copy_front(bytes: &[u8], out: &mut [u8])
-    requires { ⌜ length (now out) ≤ length (now bytes) ⌝ }
-    ensures { λ _. ⌜ now (out .exit) ≡ take (length (now (out .entry))) (now (bytes .entry)) ⌝ }
-{
-    let mut i = 0;
-    while i < out.len() {
-        out[i] = bytes[i];
-        i += 1;
-    }
-}
-
 // The bytes from a place of the record buffer on, as far as it goes, and where they end.
 fn put_behind(record: &mut [u8], at: usize, bytes: &[u8]) -> usize
     requires { ⌜ at ≤ length (now «record») ⌝ }
     ensures { λ r. ⌜ r ≡ at + length (take (length (now («record» .entry)) - at) (now (bytes .entry))) ⌝ }
     ensures { λ r. ⌜ now («record» .exit) ≡ take at (now («record» .entry)) ++ (take (length (now («record» .entry)) - at) (now (bytes .entry)) ++ drop r (now («record» .entry))) ⌝ }
 {
-    let n = smaller(record.len() - at, bytes.len());
+    let n = lists::least(record.len() - at, bytes.len());
     let end = at + n;
-    copy_front(bytes, &mut record[at..end]);
+    lists::copy(bytes, &mut record[at..end]);
     end
 }
 

@@ -171,7 +171,7 @@ fn number_in(it: Item) -> Scalar
     if it.tag < TAG_BOOL {
         return scalar_in(it);
     }
-    if it.tag > 7 {
+    if it.tag > TAG_STRUCT {
         return scalar_in(it);
     }
     Scalar::Int(false, it.a)

@@ -83,7 +83,7 @@ module _ {A : Type 0} (at : ℕ → A) (span : A → ℕ) (may : A → Bool) whe
 
   module _ (lo hi : ℕ) (x : A) (en : ℕ) (h : lo < hi) (p : x ≡ at lo) (q : en ≡ endOf (span x) lo hi) where
     nested-suc : (levels : ℕ) → nested span may (suc levels) (tree at span lo hi)
-        ≡ (spanOk span may x (en - (lo + 1)) && nested span may levels (tree at span (lo + 1) en) && nested span may (suc levels) (tree at span en hi))
+        ≡ (spanOk (span x) (may x) (en - (lo + 1)) && nested span may levels (tree at span (lo + 1) en) && nested span may (suc levels) (tree at span en hi))
     unfolding nested
     nested-suc levels = rw (tree-at at span lo hi x en h p q, size-tree at span (lo + 1) en)
 
@@ -93,38 +93,38 @@ module _ {A : Type 0} (at : ℕ → A) (span : A → ℕ) (may : A → Bool) whe
 
       -- one turn: the entry's own span, its members, the entries behind it
       pub nested-turn : nested span may levels (tree at span lo hi)
-          ≡ (spanOk span may x (en - (lo + 1)) && nested span may (levels - 1) (tree at span (lo + 1) en) && nested span may levels (tree at span en hi))
+          ≡ (spanOk (span x) (may x) (en - (lo + 1)) && nested span may (levels - 1) (tree at span (lo + 1) en) && nested span may levels (tree at span en hi))
       nested-turn = ap (λ n. nested span may n (tree at span lo hi)) one-more ∙ nested-suc (levels - 1)
-          ∙ ap (λ n. spanOk span may x (en - (lo + 1)) && nested span may (levels - 1) (tree at span (lo + 1) en) && nested span may n (tree at span en hi)) (sym one-more)
+          ∙ ap (λ n. spanOk (span x) (may x) (en - (lo + 1)) && nested span may (levels - 1) (tree at span (lo + 1) en) && nested span may n (tree at span en hi)) (sym one-more)
 
-      pub nested-span : spanOk span may x (en - (lo + 1)) ≡ false → nested span may levels (tree at span lo hi) ≡ false
+      pub nested-span : spanOk (span x) (may x) (en - (lo + 1)) ≡ false → nested span may levels (tree at span lo hi) ≡ false
       nested-span f = nested-turn ∙ rw f refl
 
-      pub nested-inner : spanOk span may x (en - (lo + 1)) ≡ true → nested span may (levels - 1) (tree at span (lo + 1) en) ≡ false → nested span may levels (tree at span lo hi) ≡ false
+      pub nested-inner : spanOk (span x) (may x) (en - (lo + 1)) ≡ true → nested span may (levels - 1) (tree at span (lo + 1) en) ≡ false → nested span may levels (tree at span lo hi) ≡ false
       nested-inner f g = nested-turn ∙ rw (f, g) refl
 
-      pub nested-next : spanOk span may x (en - (lo + 1)) ≡ true → nested span may (levels - 1) (tree at span (lo + 1) en) ≡ true → nested span may levels (tree at span lo hi) ≡ nested span may levels (tree at span en hi)
+      pub nested-next : spanOk (span x) (may x) (en - (lo + 1)) ≡ true → nested span may (levels - 1) (tree at span (lo + 1) en) ≡ true → nested span may levels (tree at span lo hi) ≡ nested span may levels (tree at span en hi)
       nested-next f g = nested-turn ∙ rw (f, g) refl
 
     module _ (levels : ℕ) (n : nested span may levels (tree at span lo hi) ≡ true) where
       some-level : levels ≡ 0 → ⊥
       some-level z = false≢true (sym (nested-deep lo hi levels h z) ∙ n)
 
-      all : (spanOk span may x (en - (lo + 1)) && nested span may (levels - 1) (tree at span (lo + 1) en) && nested span may levels (tree at span en hi)) ≡ true
+      all : (spanOk (span x) (may x) (en - (lo + 1)) && nested span may (levels - 1) (tree at span (lo + 1) en) && nested span may levels (tree at span en hi)) ≡ true
       all = sym (nested-turn levels some-level) ∙ n
 
       -- of well nested spans: what stands behind the entry, its members, its own span
       pub nested-rest : nested span may levels (tree at span en hi) ≡ true
-      nested-rest = and-right (spanOk span may x (en - (lo + 1)) && nested span may (levels - 1) (tree at span (lo + 1) en)) (nested span may levels (tree at span en hi)) all
+      nested-rest = and-right (spanOk (span x) (may x) (en - (lo + 1)) && nested span may (levels - 1) (tree at span (lo + 1) en)) (nested span may levels (tree at span en hi)) all
 
-      own : (spanOk span may x (en - (lo + 1)) && nested span may (levels - 1) (tree at span (lo + 1) en)) ≡ true
-      own = and-left (spanOk span may x (en - (lo + 1)) && nested span may (levels - 1) (tree at span (lo + 1) en)) (nested span may levels (tree at span en hi)) all
+      own : (spanOk (span x) (may x) (en - (lo + 1)) && nested span may (levels - 1) (tree at span (lo + 1) en)) ≡ true
+      own = and-left (spanOk (span x) (may x) (en - (lo + 1)) && nested span may (levels - 1) (tree at span (lo + 1) en)) (nested span may levels (tree at span en hi)) all
 
       pub nested-members : nested span may (levels - 1) (tree at span (lo + 1) en) ≡ true
-      nested-members = and-right (spanOk span may x (en - (lo + 1))) (nested span may (levels - 1) (tree at span (lo + 1) en)) own
+      nested-members = and-right (spanOk (span x) (may x) (en - (lo + 1))) (nested span may (levels - 1) (tree at span (lo + 1) en)) own
 
-      pub nested-own : spanOk span may x (en - (lo + 1)) ≡ true
-      nested-own = and-left (spanOk span may x (en - (lo + 1))) (nested span may (levels - 1) (tree at span (lo + 1) en)) own
+      pub nested-own : spanOk (span x) (may x) (en - (lo + 1)) ≡ true
+      nested-own = and-left (spanOk (span x) (may x) (en - (lo + 1))) (nested span may (levels - 1) (tree at span (lo + 1) en)) own
 
       -- the clamped end is the span's own
       pub nested-exact : en ≡ lo + span x
@@ -136,7 +136,7 @@ module _ {A : Type 0} (at : ℕ → A) (span : A → ℕ) (may : A → Bool) whe
   nested-single lo hi x h p s levels z =
       nested-next lo hi x (lo + 1) h p (end-single (span x) lo hi h (omega arith)) levels z own-span (nested-end (lo + 1) (lo + 1) (levels - 1) (omega arith))
     where
-      own-span : spanOk span may x (lo + 1 - (lo + 1)) ≡ true
+      own-span : spanOk (span x) (may x) (lo + 1 - (lo + 1)) ≡ true
       own-span = let n : lo + 1 - (lo + 1) ≡ 0 = omega arith in rw (n, s) (or-true (may x))
 
 -- entries with the same spans, of which the same ones may have members, are nested alike

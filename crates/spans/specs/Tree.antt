@@ -28,13 +28,13 @@ unfoldable pub size : {A : Type 0} → Tree A → ℕ
 size none = 0
 size (node x members rest) = suc (size members + size rest)
 
--- Whether an entry's span counts it and the n entries below it, and it has none of them unless it may have members.
-abbrev pub spanOk : {A : Type 0} → (A → ℕ) → (A → Bool) → A → ℕ → Bool
-spanOk span may x n = eqb (span x) (suc n) && (may x || eqb n 0)
+-- Whether a span counts its entry and the n entries below it, and there are none of them unless the entry may have members.
+abbrev pub spanOk : ℕ → Bool → ℕ → Bool
+spanOk span may n = eqb span (suc n) && (may || eqb n 0)
 
 -- Whether spans are well nested, in at most so many levels.
 unfoldable pub nested : {A : Type 0} → (A → ℕ) → (A → Bool) → ℕ → Tree A → Bool
 nested span may levels none = true
 nested span may zero (node x members rest) = false
 nested span may (suc levels) (node x members rest) =
-    spanOk span may x (size members) && nested span may levels members && nested span may (suc levels) rest
+    spanOk (span x) (may x) (size members) && nested span may levels members && nested span may (suc levels) rest

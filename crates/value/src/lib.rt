@@ -13,7 +13,7 @@ ghost use lib.Dec.{leb, eqb};
 ghost use lib.ListN.{length};
 ghost use lib.Ieee as Ieee;
 ghost use lib.Ieee.{binary64};
-ghost use Rattle.value.specs.Digits.{capped, limit, roomFor};
+ghost use Rattle.value.specs.Digits.{capped, limit, roomFor, isDigit, digitIn};
 ghost use Rattle.value.specs.Number.{some, readIn, amountOf, withSign, numberBy, readAs, amountAs};
 ghost use Rattle.value.specs.Rounding.{goesUp, rounded, rescaled};
 ghost use Rattle.value.specs.Word.{wordOf, minusIn, sizeIn, powerTen};
@@ -50,6 +50,28 @@ pub enum Scalar {
 
 // A Decimal's size is below 10^18.
 pub const LIMIT: u64 = 1000000000000000000;
+
+// An Int's size is below 2^63, but for -2^63: so a word is negative from 2^63 on.
+pub const INT_LIMIT: u64 = 0x8000_0000_0000_0000;
+
+pub fn is_digit(x: u8) -> bool
+    ensures { λ r. ⌜ r ≡ isDigit x ⌝ }
+{
+    if x < 48 {
+        return false;
+    }
+    x <= 57
+}
+
+// What a digit's byte is worth; 0 for a byte below the digits.
+pub fn digit_in(x: u8) -> u8
+    ensures { λ r. ⌜ r ≡ digitIn x ⌝ }
+{
+    if x < 48 {
+        return 0;
+    }
+    x - 48
+}
 
 // One digit more of a size that stops counting at a cap.
 pub fn push_digit(size: u64, digit: u8, cap: u64) -> u64
@@ -268,13 +290,13 @@ pub fn word_of(negative: bool, size: u64) -> u64
 pub fn is_minus(w: u64) -> bool
     ensures { λ r. ⌜ r ≡ minusIn w ⌝ }
 {
-    w >= 9223372036854775808
+    w >= INT_LIMIT
 }
 
 pub fn size_of(w: u64) -> u64
     ensures { λ r. ⌜ r ≡ sizeIn w ⌝ }
 {
-    if w >= 9223372036854775808 {
+    if w >= INT_LIMIT {
         return 18446744073709551615 - w + 1;
     }
     w
@@ -352,11 +374,18 @@ pub fn words_of(s: Scalar) -> Words
     }
 }
 
+// Whether a float's bits are those of a NaN.
+pub fn is_nan(w: u64) -> bool
+    ensures { λ r. ⌜ r ≡ Ieee.nanBits binary64 w ⌝ }
+{
+    w % 0x8000_0000_0000_0000 > 0x7FF0_0000_0000_0000
+}
+
 // The scalar of a float's bits.
 pub fn float_scalar(w: u64) -> Scalar
     ensures { λ r. ⌜ r ≡ floatOf w ⌝ }
 {
-    if w % 0x8000_0000_0000_0000 > 0x7FF0_0000_0000_0000 {
+    if is_nan(w) {
         Scalar::FloatBits(w)
     } else {
         Scalar::Float(f64::from_bits(w))

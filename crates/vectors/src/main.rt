@@ -334,18 +334,12 @@ fn hex_value(c: u8) -> u8
     0
 }
 
-fn wide(x: u8) -> u64
-    ensures { λ r. ⌜ r < 256 ⌝ }
-{
-    x as u64
-}
-
 // The 18 digits from column 5 on.
 fn size_in(r: &[u8]) -> u64 {
     let mut v: u64 = 0;
     let mut i = 5;
     while i < 23 {
-        v = v % 100000000000000000 * 10 + wide(hex_value(at(r, i)) % 10);
+        v = v % 100000000000000000 * 10 + binary::wide(hex_value(at(r, i)) % 10);
         i += 1;
     }
     v

@@ -197,7 +197,7 @@ module _ {T S : Type 0} (Rel : T → S → Type 0) where
     seq-alike none n h ok each = λ base base′ shift shift′ room s s′ b f r. both-read [] 0 0 0 s s′ (inl refl) r
     seq-alike (node e members rest) zero h ok each = absurd (false≢true ok)
     seq-alike (node e members rest) (suc n) h ok each =
-        let both : (spanOk spanOf isGroup e (size members) && nested spanOf isGroup n members) ≡ true = and-left (spanOk spanOf isGroup e (size members) && nested spanOf isGroup n members) (nested spanOf isGroup (suc n) rest) ok in
+        let both : (spanOk (spanOf e) (isGroup e) (size members) && nested spanOf isGroup n members) ≡ true = and-left (spanOk (spanOf e) (isGroup e) (size members) && nested spanOf isGroup n members) (nested spanOf isGroup (suc n) rest) ok in
         entry-alike n h e members rest (each .0)
-        (λ at at′ room s s′ q r. seq-alike members n (omega (arith, h)) (and-right (spanOk spanOf isGroup e (size members)) (nested spanOf isGroup n members) both) (each .1 .0) at at′ 0 0 room s s′ q (inl refl) r)
-        (seq-alike rest (suc n) h (and-right (spanOk spanOf isGroup e (size members) && nested spanOf isGroup n members) (nested spanOf isGroup (suc n) rest) ok) (each .1 .1))
+        (λ at at′ room s s′ q r. seq-alike members n (omega (arith, h)) (and-right (spanOk (spanOf e) (isGroup e) (size members)) (nested spanOf isGroup n members) both) (each .1 .0) at at′ 0 0 room s s′ q (inl refl) r)
+        (seq-alike rest (suc n) h (and-right (spanOk (spanOf e) (isGroup e) (size members) && nested spanOf isGroup n members) (nested spanOf isGroup (suc n) rest) ok) (each .1 .1))

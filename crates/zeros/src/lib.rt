@@ -1,4 +1,4 @@
-// Zeros in a lent buffer: item words, text bytes, counts.
+// Zeros in a lent buffer: item words, text bytes, counts, layout words.
 ghost use mathlib.Core.Path.{_≡_};
 ghost use mathlib.Core.List.{_++_};
 ghost use Prim.Native.Nat.{_-_};
@@ -32,6 +32,16 @@ pub fn clear_counts(counts: &mut [i64])
     let mut i = 0;
     while i < counts.len() {
         counts[i] = 0;
+        i += 1;
+    }
+}
+
+pub fn clear_words(words: &mut [u32])
+    ensures { λ _. ⌜ now (words .exit) ≡ replicate (length (now (words .entry))) 0 ⌝ }
+{
+    let mut i = 0;
+    while i < words.len() {
+        words[i] = 0;
         i += 1;
     }
 }

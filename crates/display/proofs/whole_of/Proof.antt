@@ -26,6 +26,9 @@ part-t-start c = search needs
 part-t-end : tie.Need-part-t-end
 part-t-end c = search needs
 
+add-digits-in : tie.Need-add-digits-in
+add-digits-in c = search needs
+
 digits-in-requires : tie.Need-digits-in-requires
 digits-in-requires c κs = search needs
 
@@ -63,6 +66,7 @@ whole-of-spec =
     sub-t
     part-t-start
     part-t-end
+    add-digits-in
     digits-in-requires
     returns-2
     sub-t-2

@@ -12,7 +12,7 @@ use Rattle.layout.proofs.nested.Reads as nested
 use Rattle.layout.proofs.nested.Kinds as nested-kinds
 use Rattle.layout.proofs.+nested.Lts-nested as nested-lts
 use Rattle.layout.proofs.load_inside.Reads as load-inside-reads
-use Rattle.layout.proofs.span_ok.Reads as span-ok-reads
+use Rattle.spans.proofs.span_ok.Reads as span-ok-reads
 use Rattle.spans.proofs.end_of.Reads as end-of-reads
 use Rattle.layout.proofs.+nested.{statement}
 use Rattle.layout.proofs.+nested.Tie.{close}
@@ -69,7 +69,15 @@ nested-span-ok-requires : (t : ℕ) → nested-lts.Need-span-ok-requires (nested
 nested-span-ok-requires t c κs = search needs
 
 nested-returns-2 : (t : ℕ) → nested-lts.Need-returns-2 (nested-claims t) (nested-at t) nested.Post nested-Inv-loop nested-μ-loop
-nested-returns-2 t c = sym (c .before .before .before .before .before .before .before .before .before .loop .inv .1 ∙ nested-span (entryAt (c .before .before .before .before .before .before .before .before .before .before .before .args .layout .now)) spanOf isGroup _ _ _ _ (c .before .before .before .before .before .before .before .before .loop-test .taken) (c .before .before .before .before .before .before .load-inside .ensures) (c .before .before .end-of .ensures) _ (c .before .before .before .before .before .before .before .if1 .left) (sym (c .before .span-ok .ensures) ∙ not-true _ (c .if3 .taken)))
+nested-returns-2 t c =
+    let at-args = c .before .before .before .before .before .before .before .before .before .before .before .before .args in
+    let at-loop = c .before .before .before .before .before .before .before .before .before .before .loop in
+    let at-loop-test = c .before .before .before .before .before .before .before .before .before .loop-test in
+    let at-if1 = c .before .before .before .before .before .before .before .before .if1 in
+    let at-load-inside = c .before .before .before .before .before .before .before .load-inside in
+    let at-end-of = c .before .before .before .end-of in
+    let at-span-ok = c .before .span-ok in
+    sym (at-loop .inv .1 ∙ nested-span (entryAt (at-args .layout .now)) spanOf isGroup _ _ _ _ (at-loop-test .taken) (at-load-inside .ensures) (at-end-of .ensures) _ (at-if1 .left) (sym (at-span-ok .ensures) ∙ not-true _ (c .if3 .taken)))
 
 nested-add-nested : (t : ℕ) → nested-lts.Need-add-nested (nested-claims t) (nested-at t) nested.Post nested-Inv-loop nested-μ-loop
 nested-add-nested t c = omega arith
@@ -81,13 +89,29 @@ nested-nested-requires : (t : ℕ) → nested-lts.Need-nested-requires (nested-c
 nested-nested-requires t c κs = omega arith
 
 nested-returns-3 : (t : ℕ) → nested-lts.Need-returns-3 (nested-claims t) (nested-at t) nested.Post nested-Inv-loop nested-μ-loop
-nested-returns-3 t c = sym (c .before .before .before .before .before .before .before .before .before .before .before .loop .inv .1 ∙ nested-inner (entryAt (c .before .before .before .before .before .before .before .before .before .before .before .before .before .args .layout .now)) spanOf isGroup _ _ _ _ (c .before .before .before .before .before .before .before .before .before .before .loop-test .taken) (c .before .before .before .before .before .before .before .before .load-inside .ensures) (c .before .before .before .before .end-of .ensures) _ (c .before .before .before .before .before .before .before .before .before .if1 .left) (sym (c .before .before .before .span-ok .ensures) ∙ not-false _ (c .before .before .if3 .left)) (sym (c .before .nested .ensures) ∙ not-true _ (c .if4 .taken)))
+nested-returns-3 t c =
+    let at-args = c .before .before .before .before .before .before .before .before .before .before .before .before .before .before .args in
+    let at-loop = c .before .before .before .before .before .before .before .before .before .before .before .before .loop in
+    let at-loop-test = c .before .before .before .before .before .before .before .before .before .before .before .loop-test in
+    let at-if1 = c .before .before .before .before .before .before .before .before .before .before .if1 in
+    let at-load-inside = c .before .before .before .before .before .before .before .before .before .load-inside in
+    let at-end-of = c .before .before .before .before .before .end-of in
+    let at-span-ok = c .before .before .before .span-ok in
+    sym (at-loop .inv .1 ∙ nested-inner (entryAt (at-args .layout .now)) spanOf isGroup _ _ _ _ (at-loop-test .taken) (at-load-inside .ensures) (at-end-of .ensures) _ (at-if1 .left) (sym (at-span-ok .ensures) ∙ not-false _ (c .before .before .if3 .left)) (sym (c .before .nested .ensures) ∙ not-true _ (c .if4 .taken)))
 
 nested-loop-less-2 : (t : ℕ) → nested-lts.Need-loop-less-2 (nested-claims t) (nested-at t) nested.Post nested-Inv-loop nested-μ-loop
 nested-loop-less-2 t c = omega arith
 
 nested-loop-again-2 : (t : ℕ) → nested-lts.Need-loop-again-2 (nested-claims t) (nested-at t) nested.Post nested-Inv-loop nested-μ-loop
-nested-loop-again-2 t c = (omega arith, c .before .before .before .before .before .before .before .before .before .before .before .loop .inv .1 ∙ nested-next (entryAt (c .before .before .before .before .before .before .before .before .before .before .before .before .before .args .layout .now)) spanOf isGroup _ _ _ _ (c .before .before .before .before .before .before .before .before .before .before .loop-test .taken) (c .before .before .before .before .before .before .before .before .load-inside .ensures) (c .before .before .before .before .end-of .ensures) _ (c .before .before .before .before .before .before .before .before .before .if1 .left) (sym (c .before .before .before .span-ok .ensures) ∙ not-false _ (c .before .before .if3 .left)) (sym (c .before .nested .ensures) ∙ not-false _ (c .if4 .left)))
+nested-loop-again-2 t c =
+    let at-args = c .before .before .before .before .before .before .before .before .before .before .before .before .before .before .args in
+    let at-loop = c .before .before .before .before .before .before .before .before .before .before .before .before .loop in
+    let at-loop-test = c .before .before .before .before .before .before .before .before .before .before .before .loop-test in
+    let at-if1 = c .before .before .before .before .before .before .before .before .before .before .if1 in
+    let at-load-inside = c .before .before .before .before .before .before .before .before .before .load-inside in
+    let at-end-of = c .before .before .before .before .before .end-of in
+    let at-span-ok = c .before .before .before .span-ok in
+    (omega arith, at-loop .inv .1 ∙ nested-next (entryAt (at-args .layout .now)) spanOf isGroup _ _ _ _ (at-loop-test .taken) (at-load-inside .ensures) (at-end-of .ensures) _ (at-if1 .left) (sym (at-span-ok .ensures) ∙ not-false _ (c .before .before .if3 .left)) (sym (c .before .nested .ensures) ∙ not-false _ (c .if4 .left)))
 
 nested-returns-4 : (t : ℕ) → nested-lts.Need-returns-4 (nested-claims t) (nested-at t) nested.Post nested-Inv-loop nested-μ-loop
 nested-returns-4 t c = sym (c .before .loop .inv .1 ∙ nested-end (entryAt (c .before .before .before .args .layout .now)) spanOf isGroup _ _ _ (c .loop-test .left))

@@ -10,7 +10,7 @@ use borrow.Fn.PlainCycle.{Measures, is, falls, and}
 use Rattle.layout_text.proofs.nested.Reads as nested
 use Rattle.layout_text.proofs.nested.Kinds as nested-kinds
 use Rattle.layout_text.proofs.+nested.Lts-nested as nested-lts
-use Rattle.layout_text.proofs.span_ok.Reads as span-ok-reads
+use Rattle.spans.proofs.span_ok.Reads as span-ok-reads
 use Rattle.spans.proofs.end_of.Reads as end-of-reads
 use Rattle.layout_text.proofs.+nested.{statement}
 use Rattle.layout_text.proofs.+nested.Tie.{close}

@@ -9,8 +9,8 @@ use Rattle.layout_text.proofs.ask.Tie as tie
 judge-requires : tie.Need-judge-requires
 judge-requires c κs = search needs
 
-at-most-requires : tie.Need-at-most-requires
-at-most-requires c κs = search needs
+least-requires : tie.Need-least-requires
+least-requires c κs = search needs
 
 nested-requires : tie.Need-nested-requires
 nested-requires c κs = search needs
@@ -28,9 +28,9 @@ returns : tie.Need-returns
 returns c =
     let at-args = c .before .before .before .before .before .before .before .before .before .before .before .before .before .before .before .args in
     let at-judge = c .before .before .before .before .before .before .before .before .before .judge in
-    let at-at-most = c .before .before .at-most in (
-      c .answer .ensures ∙ answer-is (at-args .text .now) (at-judge .result) _ _ (at-judge .ensures) (at-at-most .result) (at-at-most .ensures) (c .before .nested .result) (c .before .nested .ensures) (at-args .words) (at-args .masks),
-      λ z. text-small (at-args .text .now) (at-judge .result) _ _ (at-judge .ensures) (at-at-most .result) (at-at-most .ensures) (c .before .nested .result) (c .before .nested .ensures) (at-args .words) (at-args .masks) (number-given (at-judge .result) (c .before .nested .result) (at-args .words) (at-args .masks) (c .answer .result) (c .answer .ensures) z),
+    let at-least = c .before .before .least in (
+      c .answer .ensures ∙ answer-is (at-args .text .now) (at-judge .result) _ _ (at-judge .ensures) (at-least .result) (at-least .ensures .2) (c .before .nested .result) (c .before .nested .ensures) (at-args .words) (at-args .masks),
+      λ z. text-small (at-args .text .now) (at-judge .result) _ _ (at-judge .ensures) (at-least .result) (at-least .ensures .2) (c .before .nested .result) (c .before .nested .ensures) (at-args .words) (at-args .masks) (number-given (at-judge .result) (c .before .nested .result) (at-args .words) (at-args .masks) (c .answer .result) (c .answer .ensures) z),
     )
 
 pub ask-spec : {M : Type 1} → statement M
@@ -38,7 +38,7 @@ ask-spec =
     tie.close
     (tie.spec
     judge-requires
-    at-most-requires
+    least-requires
     nested-requires
     answer-requires
     same-length

@@ -1,13 +1,13 @@
 -- `layout_text::read_layout` meets its contract: a refusal leaves the zeros that were put first, and else `store_all` puts the words and masks over their front.
-use Prim.Native.Nat.{zero, _-_}
+use Prim.Native.Nat.{_-_}
 use lib.ListN.{length, take}
 use Rattle.layout_text.proofs.Answers.{refused-all, can-store, stored-all}
 use borrow.Author.Needs.{needs}
 use Rattle.layout_text.proofs.read_layout.Statement.{statement}
 use Rattle.layout_text.proofs.read_layout.Tie as tie
 
-zero-words-requires : tie.Need-zero-words-requires
-zero-words-requires c κs = search needs
+clear-words-requires : tie.Need-clear-words-requires
+clear-words-requires c κs = search needs
 
 fill-requires : tie.Need-fill-requires
 fill-requires c κs = search needs
@@ -24,19 +24,19 @@ same-length-2 c = search needs
 returns : tie.Need-returns
 returns c =
     let at-args = c .before .before .before .before .before .before .before .before .before .before .before .before .before .before .args in
-    let at-zero-words = c .before .before .before .before .before .before .before .before .before .zero-words in
+    let at-clear-words = c .before .before .before .before .before .before .before .before .before .clear-words in
     let at-fill = c .before .before .before .before .before .fill in
     let at-questions = c .before .before .questions in
-    refused-all (at-args .text .now) (at-args .words .now) (at-args .masks .now) _ _ (at-zero-words .ensures) (at-fill .ensures) (at-questions .result) (at-questions .ensures .0) (c .if1 .taken)
+    refused-all (at-args .text .now) (at-args .words .now) (at-args .masks .now) _ _ (at-clear-words .ensures) (at-fill .ensures) (at-questions .result) (at-questions .ensures .0) (c .if1 .taken)
 
 store-all-requires : tie.Need-store-all-requires
 store-all-requires c κs =
     let at-args = c .before .before .before .before .before .before .before .before .before .before .before .before .before .before .before .before .before .args in
-    let at-zero-words = c .before .before .before .before .before .before .before .before .before .before .before .before .zero-words in
+    let at-clear-words = c .before .before .before .before .before .before .before .before .before .before .before .before .clear-words in
     let at-fill = c .before .before .before .before .before .before .before .before .fill in
     let at-questions = c .before .before .before .before .before .questions in
     let at-if1 = c .before .before .before .if1 in
-    can-store (at-args .text .now) (at-args .words .now) (at-args .masks .now) _ _ (at-zero-words .ensures) (at-fill .ensures) (at-questions .result) (at-questions .ensures .0) (at-if1 .left) (at-questions .ensures .1 (at-if1 .left))
+    can-store (at-args .text .now) (at-args .words .now) (at-args .masks .now) _ _ (at-clear-words .ensures) (at-fill .ensures) (at-questions .result) (at-questions .ensures .0) (at-if1 .left) (at-questions .ensures .1 (at-if1 .left))
 
 same-length-3 : tie.Need-same-length-3
 same-length-3 c = search needs
@@ -47,18 +47,18 @@ same-length-4 c = search needs
 returns-2 : tie.Need-returns-2
 returns-2 c =
     let at-args = c .before .before .before .before .before .before .before .before .before .before .before .before .before .before .before .before .before .before .before .before .before .before .args in
-    let at-zero-words = c .before .before .before .before .before .before .before .before .before .before .before .before .before .before .before .before .before .zero-words in
+    let at-clear-words = c .before .before .before .before .before .before .before .before .before .before .before .before .before .before .before .before .before .clear-words in
     let at-fill = c .before .before .before .before .before .before .before .before .before .before .before .before .before .fill in
     let at-questions = c .before .before .before .before .before .before .before .before .before .before .questions in
     let at-if1 = c .before .before .before .before .before .before .before .before .if1 in
     let at-store-all = c .before .before .before .before .store-all in
-    stored-all (at-args .text .now) (at-args .words .now) (at-args .masks .now) _ _ (at-zero-words .ensures) (at-fill .ensures) (at-questions .result) (at-questions .ensures .0) (at-if1 .left) _ _ (at-store-all .ensures .0) (at-store-all .ensures .1)
+    stored-all (at-args .text .now) (at-args .words .now) (at-args .masks .now) _ _ (at-clear-words .ensures) (at-fill .ensures) (at-questions .result) (at-questions .ensures .0) (at-if1 .left) _ _ (at-store-all .ensures .0) (at-store-all .ensures .1)
 
 pub read-layout-spec : {M : Type 1} → statement M
 read-layout-spec =
     tie.close
     (tie.spec
-    zero-words-requires
+    clear-words-requires
     fill-requires
     questions-requires
     same-length

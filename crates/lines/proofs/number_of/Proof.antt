@@ -51,6 +51,9 @@ add-v c =
     let h = digit-most (getD (c .before .before .before .before .before .before .before .before .args .part .now) (c .before .before .before .before .loop .i) 0) (sym (c .before .is-digit .ensures) ∙ not-false _ (c .if2 .left)) in
     omega arith
 
+cast-if3 : tie.Need-cast-if3 Inv-loop μ-loop
+cast-if3 c = search needs
+
 returns-3 : tie.Need-returns-3 Inv-loop μ-loop
 returns-3 c = sym (c .before .before .before .before .before .loop .inv .1 .1 ∙ number-over (c .before .before .before .before .before .before .before .before .before .args .part .now) (c .before .before .before .before .before .loop .i) (c .before .before .before .before .before .loop .v) (c .before .before .before .before .loop-test .taken) (sym (c .before .before .is-digit .ensures) ∙ not-false _ (c .before .if2 .left)) (c .if3 .taken))
 
@@ -85,6 +88,7 @@ number-of-spec =
     cast-v
     sub-v
     add-v
+    cast-if3
     returns-3
     add-i
     loop-less

@@ -26,7 +26,7 @@ wide-requires : tie.Need-wide-requires Inv-loop μ-loop
 wide-requires c κs = search needs
 
 add-v : tie.Need-add-v Inv-loop μ-loop
-add-v c = omega (arith, c .wide .ensures)
+add-v c = omega (arith, c .wide .ensures .1)
 
 add-i : tie.Need-add-i Inv-loop μ-loop
 add-i c = search needs

@@ -2,8 +2,8 @@ use Prim.Native.Nat.{_-_}
 use native.Mathlib.Omega.{arith}
 use borrow.Author.Tests.{le-leb, lt-leb}
 use lib.Dec.{leb}
-use Rattle.numerals.proofs.is_digit.Statement.{statement}
-use Rattle.numerals.proofs.is_digit.Tie as tie
+use Rattle.value.proofs.is_digit.Statement.{statement}
+use Rattle.value.proofs.is_digit.Tie as tie
 
 returns : tie.Need-returns
 returns c = let x = c .before .args .x in rw (lt-leb 48 x (omega arith))

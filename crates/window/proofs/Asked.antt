@@ -12,8 +12,7 @@ use Rattle.walks.specs.Records.{asking, firstOf, decodeRecord}
 use Rattle.walks.proofs.Asked.{both-passed}
 use Rattle.window.specs.Window.{Pair, windowWords, smallPair, lawfulIn}
 use Rattle.window.specs.Pair.{pairOk, pairAsks}
-use Rattle.window.specs.Calls.{roomAsks, lawfulAsks, windowAsks, Added, refused, added}
-use Rattle.window.specs.Parts.{judged}
+use Rattle.window.specs.Calls.{roomAsks, lawfulAsks, windowAsks, Added, refused, added, judged}
 use Rattle.window.specs.Runs.{ReaderOwn}
 
 passed : (b : Bool) (n : ℕ) → (n ≡ 0 → ⊥) → cond b 0 n ≡ 0 → b ≡ true

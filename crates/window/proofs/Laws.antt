@@ -11,7 +11,7 @@ use lib.Seq.{take-at, drop-at, drop-drop}
 use borrow.Author.Tests.{lt-ltb, le-ltb, leb-true, eqb-true}
 use Rattle.lists.proofs.Logic.{and-left, and-right}
 use Rattle.window.specs.Window.{Pair, pair, firsts, seconds, flat, pairsOf, lastOf, total, sumIn, windowWords, heldIn, laid, allSmall, wordsOk, sumsOk, lawfulIn, accepted}
-use Rattle.window.specs.Steps.{putAt, downed, plus, less, headed, grown, rolled, pushed}
+use Rattle.window.specs.Steps.{putAt, movedDown, wordPlus, wordMinus, withHead, grown, rolled, pushed}
 
 -- ---- pairs and their words
 
@@ -53,10 +53,10 @@ module _ (a b : ℕ) where
 
 -- ---- sums
 
-pub sum-more : (t a s : ℕ) → s ≡ t + a → plus (t % 2 ^ 64) a ≡ s % 2 ^ 64
+pub sum-more : (t a s : ℕ) → s ≡ t + a → wordPlus (t % 2 ^ 64) a ≡ s % 2 ^ 64
 sum-more t a s h = omega arith
 
-pub sum-rolled : (x t a s : ℕ) → s ≡ t + a → plus (less ((x + t) % 2 ^ 64) x) a ≡ s % 2 ^ 64
+pub sum-rolled : (x t a s : ℕ) → s ≡ t + a → wordPlus (wordMinus ((x + t) % 2 ^ 64) x) a ≡ s % 2 ^ 64
 sum-rolled x t a s h = omega arith
 
 -- ---- what is laid
@@ -111,15 +111,15 @@ module _ (a b : ℕ) (l : List ℕ) (ps : List Pair) where
   pub grown-laid : grown a b (laid ps l) ≡ laid (ps ++ (pair a b ∷ [])) l
   unfolding laid
   grown-laid =
-      ap (headed (1 + length ps) (plus (sumIn (firsts ps)) a) (plus (sumIn (seconds ps)) b))
+      ap (withHead (1 + length ps) (wordPlus (sumIn (firsts ps)) a) (wordPlus (sumIn (seconds ps)) b))
       (put-five _ _ _ _ _ (length ps * 2) (flat ps ++ drop (5 + length ps * 2) l) a b)
       ∙ rw (pairs-before ps (drop (5 + length ps * 2) l), pairs-behind ps (drop (5 + length ps * 2) l), behind-more)
-      (laid-snoc (1 + length ps) (plus (sumIn (firsts ps)) a) (plus (sumIn (seconds ps)) b) refl (sum-more _ _ _ refl) (sum-more _ _ _ refl))
+      (laid-snoc (1 + length ps) (wordPlus (sumIn (firsts ps)) a) (wordPlus (sumIn (seconds ps)) b) refl (sum-more _ _ _ refl) (sum-more _ _ _ refl))
 
 -- the oldest goes, where there are W
-pub downed-five : (w x0 x1 x2 x3 x4 y z : ℕ) (m : List ℕ) → downed w (x0 ∷ x1 ∷ x2 ∷ x3 ∷ x4 ∷ y ∷ z ∷ m) ≡ x0 ∷ x1 ∷ x2 ∷ x3 ∷ x4 ∷ (take (w * 2 - 2) m ++ drop (w * 2 - 2) (y ∷ z ∷ m))
-unfolding downed
-downed-five w x0 x1 x2 x3 x4 y z m = rw (drop-five x0 x1 x2 x3 x4 (w * 2 - 2) (y ∷ z ∷ m))
+pub moved-five : (w x0 x1 x2 x3 x4 y z : ℕ) (m : List ℕ) → movedDown w (x0 ∷ x1 ∷ x2 ∷ x3 ∷ x4 ∷ y ∷ z ∷ m) ≡ x0 ∷ x1 ∷ x2 ∷ x3 ∷ x4 ∷ (take (w * 2 - 2) m ++ drop (w * 2 - 2) (y ∷ z ∷ m))
+unfolding movedDown
+moved-five w x0 x1 x2 x3 x4 y z m = rw (drop-five x0 x1 x2 x3 x4 (w * 2 - 2) (y ∷ z ∷ m))
 
 module _ (a b : ℕ) (l : List ℕ) (q : Pair) (qs : List Pair) where
   moved : List ℕ → List ℕ
@@ -139,9 +139,9 @@ module _ (a b : ℕ) (l : List ℕ) (q : Pair) (qs : List Pair) where
       let d : List ℕ = drop (5 + length (q ∷ qs) * 2) l in
       let e : 5 + length (q ∷ qs) * 2 ≡ 5 + (1 + length qs) * 2 = omega arith in
       let n : w ≡ 1 + length qs = omega arith in
-      ap (λ m. headed w (plus (less (sumIn (firsts (q ∷ qs))) (q .first)) a) (plus (less (sumIn (seconds (q ∷ qs))) (q .second)) b) (putAt (5 + (w * 2 - 2)) a b m))
-      (downed-five w _ _ _ _ _ _ _ (flat qs ++ d))
-      ∙ ap (headed w (plus (less (sumIn (firsts (q ∷ qs))) (q .first)) a) (plus (less (sumIn (seconds (q ∷ qs))) (q .second)) b))
+      ap (λ m. withHead w (wordPlus (wordMinus (sumIn (firsts (q ∷ qs))) (q .first)) a) (wordPlus (wordMinus (sumIn (seconds (q ∷ qs))) (q .second)) b) (putAt (5 + (w * 2 - 2)) a b m))
+      (moved-five w _ _ _ _ _ _ _ (flat qs ++ d))
+      ∙ ap (withHead w (wordPlus (wordMinus (sumIn (firsts (q ∷ qs))) (q .first)) a) (wordPlus (wordMinus (sumIn (seconds (q ∷ qs))) (q .second)) b))
       (put-five _ _ _ _ _ (w * 2 - 2) (take (w * 2 - 2) (flat qs ++ d) ++ drop (w * 2 - 2) (flat (q ∷ qs) ++ d)) a b)
       ∙ rw (k, moved-is d, e) (laid-snoc a b l qs w _ _ n (sum-rolled _ _ _ _ refl) (sum-rolled _ _ _ _ refl))
 

@@ -27,7 +27,7 @@ use Rattle.walks.specs.Kinds.{State, kinds, start}
 use Rattle.walks.specs.Records.{Decoded, decoded, asking, outcome, readerAsks, decodeRecord}
 use Rattle.walks.specs.Records as Records
 use Rattle.layout.specs.Layout.{dependsIn}
-use Rattle.window.specs.Pair.{isTop, itemsFor, itemsBefore, isDecimal, summed, valuesFrom}
+use Rattle.window.specs.Pair.{isTop, itemsFor, itemsBefore, isSummable, summed, valuesFrom}
 use Rattle.window.specs.Own.{Own, OwnItem}
 
 -- ---- whole items
@@ -376,9 +376,9 @@ read-so n d ws t e = go (eqb n 0) refl
         let z : _≡_ {A = ℕ} 0 1 = cc in
         absurd (omega arith)
 
-decimal-alone : (e : Entry) → isDecimal e ≡ true → (unrepeated e ≡ true) × ((isGroup e ≡ false) × (isPad e ≡ false))
-unfolding isDecimal isPad
-decimal-alone e h =
+summable-alone : (e : Entry) → isSummable e ≡ true → (unrepeated e ≡ true) × ((isGroup e ≡ false) × (isPad e ≡ false))
+unfolding isSummable isPad
+summable-alone e h =
     let k : e .kind ≡ 7 = eqb-true (e .kind) 7 (and-right (unrepeated e) (eqb (e .kind) 7) h) in
     (and-left (unrepeated e) (eqb (e .kind) 7) h, (ap (λ n. eqb n 9) k, ap (λ n. eqb n 6) k))
 
@@ -387,9 +387,9 @@ unfolding decodeRecord summed
 own-item l masks page r items text work ws t i e h =
     let o : outcome (seq _+_ (kinds masks page [] text) r (entries l) 0 0 items start) ≡ decoded ws t =
     read-so (readerAsks l masks page (length r) work (dependsIn l)) (outcome (seq _+_ (kinds masks page [] text) r (entries l) 0 0 items start)) ws t e in
-    let a : isTop (entries l) i ≡ true = and-left (isTop (entries l) i) (isDecimal (entryAt l i)) h in
-    let d : (unrepeated (entryAt l i) ≡ true) × ((isGroup (entryAt l i) ≡ false) × (isPad (entryAt l i) ≡ false)) = decimal-alone (entryAt l i)
-    (and-right (isTop (entries l) i) (isDecimal (entryAt l i)) h) in
+    let a : isTop (entries l) i ≡ true = and-left (isTop (entries l) i) (isSummable (entryAt l i)) h in
+    let d : (unrepeated (entryAt l i) ≡ true) × ((isGroup (entryAt l i) ≡ false) × (isPad (entryAt l i) ≡ false)) = summable-alone (entryAt l i)
+    (and-right (isTop (entries l) i) (isSummable (entryAt l i)) h) in
     let z : 0 + i ≡ i = omega arith in
     let at : At (entries l) i (entryAt l i) = subst (λ n. At (entries l) i (entryAt l n)) z (top-at l (entryCount l) (entryCount l) 0 i (omega arith) a) in
     use-yields (seq-places (kinds masks page [] text) r (entries l) 0 0 items start) ws t o .1 i (entryAt l i) at (record { single = d .0; noGroup = d .1 .0; noPad = d .1 .1 })

@@ -10,13 +10,13 @@ use lib.ListN.{length, getD, take, drop, replicate, length-take}
 use borrow.Author.Tests.{eq-eqb, ne-eqb}
 use Rattle.layout.specs.Layout.{entries}
 use Rattle.items.specs.Items.{itemWords, values, headOf}
-use Rattle.walks.specs.Records.{asking, firstOf, Decoded, itemsOf, readInto, RecordRead}
+use Rattle.walks.specs.Records.{firstOf, Decoded, itemsOf, readInto, RecordRead}
 use Rattle.walks.specs.Records as Records
 use Rattle.window.specs.Window.{Pair, pair, firsts, seconds, wholeOf, sumOf, heldIn, windowWords, small, smallPair, lawfulIn, accepted}
 use Rattle.window.specs.Pair.{itemsBefore, valuesFrom, pairIn}
 use Rattle.window.specs.Steps.{pushed}
-use Rattle.window.specs.Calls.{lawfulAsks, windowAsks, Added, refused, added, addRecord, addedTo, numberOf, windowAfter, sumAfter, WindowStarted, WindowAdded}
-use Rattle.window.specs.Parts.{PairRead, judged, PairTaken}
+use Rattle.window.specs.Calls.{lawfulAsks, windowAsks, Added, refused, added, judged, pairGiven, addRecord, addedTo, numberOf, windowAfter, sumAfter, WindowStarted, WindowAdded}
+use Rattle.window.specs.Parts.{PairRead, PairTaken}
 use Rattle.window.proofs.Laws.{pushed-accepted}
 use Rattle.window.proofs.Steps.{start-put}
 use Rattle.window.proofs.Totals.{first-true, second-true}
@@ -95,14 +95,14 @@ module _ (l masks : List ℕ) (page : ℕ) (r : List ℕ) (w first second : ℕ)
   unfolding addRecord
   outcome-before n e h =
       asking-first (windowAsks l masks page w first second (length window) (length counts)) (lawfulAsks w window)
-      (asking refused (Records.numberOf list) (judged (pairIn l first second (itemsOf list)))) n e h
+      (pairGiven l first second list) n e h
 
   module _ (z : before ≡ 0) where
-    outcome-read : outcome ≡ asking refused (Records.numberOf list) (judged (pairIn l first second (itemsOf list)))
+    outcome-read : outcome ≡ pairGiven l first second list
     unfolding addRecord
     outcome-read =
         asking-both (windowAsks l masks page w first second (length window) (length counts)) (lawfulAsks w window)
-        (asking refused (Records.numberOf list) (judged (pairIn l first second (itemsOf list)))) z
+        (pairGiven l first second list) z
 
     outcome-reader : (n : ℕ) → n ≡ Records.numberOf list → (n ≡ 0 → ⊥) → outcome ≡ refused n
     outcome-reader n e h = outcome-read ∙ rw (ne-eqb (Records.numberOf list) 0 (λ k. h (e ∙ k))) (ap refused (sym e))

@@ -17,7 +17,7 @@ use Rattle.items.specs.declared.Item.{Item}
 use Rattle.items.specs.Items.{itemWords, itemCount, itemAt, spanOf as itemSpan, values, headOf}
 use Rattle.items.proofs.Items.{rest-is}
 use Rattle.window.specs.Window.{pair}
-use Rattle.window.specs.Pair.{isTop, itemsFor, itemsBefore, isDecimal, summed, scaleOf, pairOk, pairAsks, valuesFrom, wordAt, pairIn}
+use Rattle.window.specs.Pair.{isTop, itemsFor, itemsBefore, isSummable, summed, scaleOf, pairOk, pairAsks, valuesFrom, wordAt, pairIn}
 
 -- ---- an entry by its number
 
@@ -106,20 +106,20 @@ module _ (l : List ℕ) (number : ℕ) where
 -- ---- question 18
 
 module _ (e : Entry) where
-  pub decimal-not : unrepeated e ≡ false → false ≡ isDecimal e
-  unfolding isDecimal
-  decimal-not h = rw h
+  pub summable-not : unrepeated e ≡ false → false ≡ isSummable e
+  unfolding isSummable
+  summable-not h = rw h
 
-  pub decimal-by : unrepeated e ≡ true → eqb (e .kind) 7 ≡ isDecimal e
-  unfolding isDecimal
-  decimal-by h = rw h
+  pub summable-by : unrepeated e ≡ true → eqb (e .kind) 7 ≡ isSummable e
+  unfolding isSummable
+  summable-by h = rw h
 
 module _ (l : List ℕ) (i : ℕ) where
   pub summed-not : isTop (entries l) i ≡ false → false ≡ summed l i
   unfolding summed
   summed-not h = rw h
 
-  pub summed-by : isTop (entries l) i ≡ true → isDecimal (entryAt l i) ≡ summed l i
+  pub summed-by : isTop (entries l) i ≡ true → isSummable (entryAt l i) ≡ summed l i
   unfolding summed
   summed-by h = rw h
 

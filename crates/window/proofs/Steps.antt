@@ -10,11 +10,11 @@ use lib.ListN.{length, getD, take, drop, set, replicate, length-drop}
 use lib.Seq.{drop-drop, getD-drop, getD-append-add, paste, paste-suc, length-paste-head}
 use borrow.Author.Tests.{lt-ltb, le-ltb, le-leb, lt-leb, eq-eqb, ne-eqb}
 use Rattle.window.specs.Window.{pair, firsts, seconds, pairsOf, total, sumIn, windowWords, heldIn, small, allSmall, lawfulIn, started}
-use Rattle.window.specs.Steps.{putAt, downed, plus, less, headed, pushed}
+use Rattle.window.specs.Steps.{putAt, movedDown, wordPlus, wordMinus, withHead, pushed}
 
 -- ---- stores
 
-pub head-put : (l : List ℕ) (n x y : ℕ) → 3 ≤ length l → set (set (set l 0 n) 1 x) 2 y ≡ headed n x y l
+pub head-put : (l : List ℕ) (n x y : ℕ) → 3 ≤ length l → set (set (set l 0 n) 1 x) 2 y ≡ withHead n x y l
 head-put [] n x y h = absurd (omega arith)
 head-put (a ∷ []) n x y h = absurd (omega arith)
 head-put (a ∷ b ∷ []) n x y h = absurd (omega arith)
@@ -52,8 +52,8 @@ module _ (l : List ℕ) (i : ℕ) (h : 7 + i < length l) where
   pub down-go : set (paste l 5 (drop 7 l) i) (5 + i) (getD (paste l 5 (drop 7 l) i) (7 + i) 0) ≡ paste l 5 (drop 7 l) (i + 1)
   down-go = ap (set (paste l 5 (drop 7 l) i) (5 + i)) next-down ∙ paste-suc l 5 (drop 7 l) i 0 (omega arith) (omega (arith, length-drop 7 l)) ∙ ap (paste l 5 (drop 7 l)) (sym (add-one i))
 
-pub down-all : (l : List ℕ) (w i : ℕ) → i ≡ w * 2 - 2 → paste l 5 (drop 7 l) i ≡ downed w l
-unfolding downed
+pub down-all : (l : List ℕ) (w i : ℕ) → i ≡ w * 2 - 2 → paste l 5 (drop 7 l) i ≡ movedDown w l
+unfolding movedDown
 down-all l w i h = ap (paste l 5 (drop 7 l)) h
 
 -- ---- question 24
@@ -151,14 +151,14 @@ module _ (l : List ℕ) (i first second : ℕ) (j : Judging l i first second) (h
 -- ---- a pair more
 
 module _ (w a b : ℕ) (l : List ℕ) where
-  pub push-grows : getD l 0 0 < w → (m e : List ℕ) (x y : ℕ) → m ≡ putAt (5 + getD l 0 0 * 2) a b l → x ≡ plus (getD l 1 0) a → y ≡ plus (getD l 2 0) b
-      → e ≡ headed (1 + getD l 0 0) x y m → e ≡ pushed w a b l
+  pub push-grows : getD l 0 0 < w → (m e : List ℕ) (x y : ℕ) → m ≡ putAt (5 + getD l 0 0 * 2) a b l → x ≡ wordPlus (getD l 1 0) a → y ≡ wordPlus (getD l 2 0) b
+      → e ≡ withHead (1 + getD l 0 0) x y m → e ≡ pushed w a b l
   unfolding pushed
-  push-grows h m e x y p q r s = rw (lt-ltb (getD l 0 0) w h) (s ∙ λ i. headed (1 + getD l 0 0) (q i) (r i) (p i))
+  push-grows h m e x y p q r s = rw (lt-ltb (getD l 0 0) w h) (s ∙ λ i. withHead (1 + getD l 0 0) (q i) (r i) (p i))
 
-  pub push-rolls : w ≤ getD l 0 0 → (d m e : List ℕ) (x y u v : ℕ) → d ≡ downed w l → m ≡ putAt (5 + (w * 2 - 2)) a b d
-      → x ≡ less (getD l 1 0) (getD l 5 0) → y ≡ less (getD l 2 0) (getD l 6 0) → u ≡ plus x a → v ≡ plus y b
-      → e ≡ headed w u v m → e ≡ pushed w a b l
+  pub push-rolls : w ≤ getD l 0 0 → (d m e : List ℕ) (x y u v : ℕ) → d ≡ movedDown w l → m ≡ putAt (5 + (w * 2 - 2)) a b d
+      → x ≡ wordMinus (getD l 1 0) (getD l 5 0) → y ≡ wordMinus (getD l 2 0) (getD l 6 0) → u ≡ wordPlus x a → v ≡ wordPlus y b
+      → e ≡ withHead w u v m → e ≡ pushed w a b l
   unfolding pushed
   push-rolls h d m e x y u v p q r s t k z = rw (le-ltb (getD l 0 0) w h)
-      (z ∙ λ i. headed w ((t ∙ ap (λ n. plus n a) r) i) ((k ∙ ap (λ n. plus n b) s) i) ((q ∙ ap (putAt (5 + (w * 2 - 2)) a b) p) i))
+      (z ∙ λ i. withHead w ((t ∙ ap (λ n. wordPlus n a) r) i) ((k ∙ ap (λ n. wordPlus n b) s) i) ((q ∙ ap (putAt (5 + (w * 2 - 2)) a b) p) i))

@@ -7,7 +7,7 @@ use lib.Dec.{eqb, leb}
 use lib.IntN.{ℤ, pos}
 use lib.ListN.{length, replicate}
 use Rattle.layout.specs.Layout.{layoutAsks}
-use Rattle.walks.specs.Records.{asking, firstOf, decodeRecord, itemsOf}
+use Rattle.walks.specs.Records.{asking, firstOf, Decoded, decodeRecord, itemsOf}
 use Rattle.walks.specs.Records as Records
 use Rattle.window.specs.Window.{Pair, firsts, seconds, windowWords, heldIn, sumOf, smallPair, lawfulIn, started, accepted}
 use Rattle.window.specs.Pair.{pairAsks, pairIn}
@@ -46,15 +46,20 @@ pub data Added : Type 0 where
   refused : ℕ → Added
   added : Pair → Added
 
+-- question 19 of a pair
+abbrev pub judged : Pair → Added
+judged p = asking refused (sizesAsk p) (added p)
+
+-- what the reader's outcome gives: 19 is "asked after the reader's own questions"
+abbrev pub pairGiven : List ℕ → ℕ → ℕ → Decoded → Added
+pairGiven l first second d = asking refused (Records.numberOf d) (judged (pairIn l first second (itemsOf d)))
+
 -- the layout, its masks and its page, the record, W and the two entries, the window; the words of the item buffer, the bytes of the text buffer, the words of
--- the work space. 19 is "asked after the reader's own questions".
+-- the work space
 unfoldable pub addRecord : List ℕ → List ℕ → ℕ → List ℕ → ℕ → ℕ → ℕ → List ℕ → ℕ → ℕ → ℕ → Added
 addRecord l masks page r w first second window items text work =
     asking refused (windowAsks l masks page w first second (length window) work)
-    (asking refused (lawfulAsks w window)
-    (asking refused (Records.numberOf (decodeRecord l masks page r items text work))
-    (asking refused (sizesAsk (pairIn l first second (itemsOf (decodeRecord l masks page r items text work))))
-    (added (pairIn l first second (itemsOf (decodeRecord l masks page r items text work)))))))
+    (asking refused (lawfulAsks w window) (pairGiven l first second (decodeRecord l masks page r items text work)))
 
 -- the outcome by the lent buffers themselves
 abbrev pub addedTo : List ℕ → List ℕ → ℕ → List ℕ → ℕ → ℕ → ℕ → List ℕ → List ℕ → List ℕ → List ℤ → Added

@@ -15,7 +15,7 @@ use Rattle.walks.specs.Reading as R
 use Rattle.walks.specs.Records.{decodeRecord}
 use Rattle.walks.specs.Worked.{entry, once}
 use Rattle.window.specs.Window.{pair, laid, lawfulIn, started, accepted}
-use Rattle.window.specs.Pair.{isTop, itemsBefore, isDecimal, summed, pairOk, pairAsks, valuesFrom, wordAt, pairIn}
+use Rattle.window.specs.Pair.{isTop, itemsBefore, isSummable, summed, pairOk, pairAsks, valuesFrom, wordAt, pairIn}
 use Rattle.window.specs.Calls.{windowAsks, added, addRecord, numberOf}
 
 -- ---- a window of W = 2 in eleven words, the last two behind it
@@ -69,7 +69,7 @@ befores = refl
 -- question 18: 3 and 5 are such a pair; a member, a Pad, one entry twice and a number past the end are not
 pairs : pairAsks scrap 2 3 5 ∷ pairAsks scrap 2 2 5 ∷ pairAsks scrap 2 3 4 ∷ pairAsks scrap 2 3 3 ∷ pairAsks scrap 2 3 6 ∷ pairAsks scrap 0 3 5 ∷ pairAsks scrap 4097 3 5 ∷ []
     ≡ 0 ∷ 18 ∷ 18 ∷ 18 ∷ 18 ∷ 18 ∷ 18 ∷ []
-unfolding pairAsks pairOk summed isDecimal isTop tree treeIn size entryAt unrepeated
+unfolding pairAsks pairOk summed isSummable isTop tree treeIn size entryAt unrepeated
 pairs = refl
 
 -- packed fields of scales 1 and 2, one with occurs, one under depending, an Int, and a zoned field of scale 1
@@ -78,12 +78,12 @@ others = once 0 0 1 7 1 1 1 ++ once 1 1 1 7 1 1 2 ++ entry 2 2 1 7 2 absent 1 1 
 
 -- W of 1 and of 4,096; another scale, either table, and an Int
 more-pairs : pairAsks others 1 0 5 ∷ pairAsks others 4096 5 0 ∷ map (pairAsks others 2 0) (1 ∷ 2 ∷ 3 ∷ 4 ∷ []) ≡ 0 ∷ 0 ∷ 18 ∷ 18 ∷ 18 ∷ 18 ∷ []
-unfolding pairAsks pairOk summed isDecimal isTop tree treeIn size entryAt unrepeated
+unfolding pairAsks pairOk summed isSummable isTop tree treeIn size entryAt unrepeated
 more-pairs = refl
 
 -- 9 in the group, then 2, then -3: the pair is each entry's own item, though both have one name
 takes : addRecord scrap [] 0 (0x20 ∷ 0x9C ∷ 0x2C ∷ 0x20 ∷ 0x3D ∷ []) 2 3 5 full 16 0 12 ≡ added (pair 2 18446744073709551613)
-unfolding addRecord windowAsks pairAsks pairOk summed isDecimal isTop itemsBefore lawfulIn pairIn wordAt valuesFrom values layoutAsks checkedOf wordsOk entriesOk allBelow entryOk placeOk optionOk kindOk plainOk upTo spansOk nested size tree treeIn entryAt recordLength furthest reservedWidth dependsIn someBelow decodeRecord R.seq R.field R.one R.pad R.scalar R.container unrepeated isPad controls dec says fieldOf Packed.decodeOf
+unfolding addRecord windowAsks pairAsks pairOk summed isSummable isTop itemsBefore lawfulIn pairIn wordAt valuesFrom values layoutAsks checkedOf wordsOk entriesOk allBelow entryOk placeOk optionOk kindOk plainOk upTo spansOk nested size tree treeIn entryAt recordLength furthest reservedWidth dependsIn someBelow decodeRecord R.seq R.field R.one R.pad R.scalar R.container unrepeated isPad controls dec says fieldOf Packed.decodeOf
 takes = refl
 
 -- ---- the order of the questions: each with its neighbour, both failing
@@ -118,5 +118,5 @@ orders :
     ∷ number two 0 (large ++ large) 2 empty 8 4
     ∷ []
     ≡ 1 ∷ 2 ∷ 3 ∷ 16 ∷ 18 ∷ 16 ∷ 24 ∷ 4 ∷ 8 ∷ 16 ∷ 19 ∷ []
-unfolding addRecord windowAsks pairAsks pairOk summed isDecimal isTop itemsBefore lawfulIn pairIn wordAt valuesFrom values layoutAsks checkedOf wordsOk entriesOk allBelow entryOk placeOk optionOk kindOk plainOk upTo spansOk nested size tree treeIn entryAt recordLength furthest reservedWidth dependsIn someBelow decodeRecord R.seq R.field R.one R.pad R.scalar R.container unrepeated isPad controls dec says fieldOf Packed.decodeOf
+unfolding addRecord windowAsks pairAsks pairOk summed isSummable isTop itemsBefore lawfulIn pairIn wordAt valuesFrom values layoutAsks checkedOf wordsOk entriesOk allBelow entryOk placeOk optionOk kindOk plainOk upTo spansOk nested size tree treeIn entryAt recordLength furthest reservedWidth dependsIn someBelow decodeRecord R.seq R.field R.one R.pad R.scalar R.container unrepeated isPad controls dec says fieldOf Packed.decodeOf
 orders = refl

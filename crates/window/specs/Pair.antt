@@ -26,12 +26,12 @@ itemsBefore none i = 0
 itemsBefore (node e members rest) zero = 0
 itemsBefore (node e members rest) (suc i) = itemsFor e + itemsBefore rest (i - size members)
 
-unfoldable pub isDecimal : Entry → Bool
-isDecimal e = unrepeated e && eqb (e .kind) kindDecimal
+unfoldable pub isSummable : Entry → Bool
+isSummable e = unrepeated e && eqb (e .kind) kindDecimal
 
 -- one of the two entries
 unfoldable pub summed : List ℕ → ℕ → Bool
-summed l i = isTop (entries l) i && isDecimal (entryAt l i)
+summed l i = isTop (entries l) i && isSummable (entryAt l i)
 
 -- the scale of a Decimal entry
 abbrev pub scaleOf : Entry → ℕ

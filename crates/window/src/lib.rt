@@ -25,8 +25,8 @@ ghost use Rattle.layout.specs.Layout.{entries};
 ghost use Rattle.items.specs.Items.{itemWords, values, headOf};
 ghost use Rattle.walks.specs.Records.{firstOf, readInto};
 ghost use Rattle.window.specs.Window.{pair, windowWords, wholeOf, small, lawfulIn};
-ghost use Rattle.window.specs.Pair.{isTop, itemsFor, itemsBefore, isDecimal, summed, pairOk, pairAsks, valuesFrom};
-ghost use Rattle.window.specs.Steps.{putAt, downed, headed, less, pushed, flipped};
+ghost use Rattle.window.specs.Pair.{isTop, itemsFor, itemsBefore, isSummable, summed, pairOk, pairAsks, valuesFrom};
+ghost use Rattle.window.specs.Steps.{putAt, movedDown, withHead, wordMinus, pushed, complemented};
 ghost use Rattle.window.specs.Calls.{lawfulAsks, windowAsks, WindowStarted, addedTo, WindowAdded};
 ghost use Rattle.window.specs.Parts.{PairRead, PairTaken};
 
@@ -68,8 +68,8 @@ fn place_of(layout: &[u32], number: u64) -> Place
     Place { top: false, before }
 }
 
-fn is_decimal(e: Entry) -> bool
-    ensures { λ r. ⌜ r ≡ isDecimal e ⌝ }
+fn is_summable(e: Entry) -> bool
+    ensures { λ r. ⌜ r ≡ isSummable e ⌝ }
 {
     if !unrepeated(e) {
         return false;
@@ -85,7 +85,7 @@ fn is_summed(layout: &[u32], number: u64) -> bool
     if !p.top {
         return false;
     }
-    is_decimal(load(layout, number as usize))
+    is_summable(load(layout, number as usize))
 }
 
 fn pair_ok(layout: &[u32], first: u64, second: u64) -> bool
@@ -196,8 +196,8 @@ fn lawful(window: &[u64], w: usize) -> bool
 // ---- a pair more
 
 // x without y, as a word.
-fn less(x: u64, y: u64) -> u64
-    ensures { λ r. ⌜ r ≡ less x y ⌝ }
+fn word_minus(x: u64, y: u64) -> u64
+    ensures { λ r. ⌜ r ≡ wordMinus x y ⌝ }
 {
     std::num::wrapping_sub_u64(x, y)
 }
@@ -205,7 +205,7 @@ fn less(x: u64, y: u64) -> u64
 // The front three words.
 fn put_head(window: &mut [u64], n: u64, x: u64, y: u64)
     requires { ⌜ 3 ≤ length (now window) ⌝ }
-    ensures { λ _. ⌜ now (window .exit) ≡ headed n x y (now (window .entry)) ⌝ }
+    ensures { λ _. ⌜ now (window .exit) ≡ withHead n x y (now (window .entry)) ⌝ }
 {
     window[0] = n;
     window[1] = x;
@@ -224,7 +224,7 @@ fn put_pair(window: &mut [u64], at: usize, a: u64, b: u64)
 // The pairs but the oldest, one place down.
 fn move_down(window: &mut [u64], w: usize)
     requires { ⌜ (0 < w) × (windowWords w ≤ length (now window)) ⌝ }
-    ensures { λ _. ⌜ now (window .exit) ≡ downed w (now (window .entry)) ⌝ }
+    ensures { λ _. ⌜ now (window .exit) ≡ movedDown w (now (window .entry)) ⌝ }
 {
     let n = w * 2 - 2;
     let mut i = 0;
@@ -252,8 +252,8 @@ fn push(window: &mut [u64], w: usize, a: u64, b: u64)
         );
         return;
     }
-    let x = less(first, window[5]);
-    let y = less(second, window[6]);
+    let x = word_minus(first, window[5]);
+    let y = word_minus(second, window[6]);
     move_down(window, w);
     put_pair(window, 5 + (w * 2 - 2), a, b);
     put_head(
@@ -266,8 +266,8 @@ fn push(window: &mut [u64], w: usize, a: u64, b: u64)
 
 // ---- sums as signed numbers
 
-fn flip(n: i64) -> i64
-    ensures { λ r. ⌜ r ≡ flipped n ⌝ }
+fn complement(n: i64) -> i64
+    ensures { λ r. ⌜ r ≡ complemented n ⌝ }
 {
     -1 - n
 }
@@ -286,7 +286,7 @@ fn int_of(x: u64) -> i64
     if x < 9223372036854775808 {
         return whole(x);
     }
-    flip(whole(18446744073709551615 - x))
+    complement(whole(18446744073709551615 - x))
 }
 
 // The number of the question answered no, or 0 and both sums.

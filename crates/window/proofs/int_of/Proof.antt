@@ -2,7 +2,7 @@
 use mathlib.Core.Path.{ap, _∙_}
 use Prim.Native.Nat.{_-_}
 use native.Mathlib.Omega.{arith}
-use Rattle.window.specs.Steps.{flipped}
+use Rattle.window.specs.Steps.{complemented}
 use Rattle.window.proofs.Signs.{back}
 use Rattle.window.proofs.Totals.{int-plain, int-negative}
 use borrow.Author.Needs.{needs}
@@ -21,13 +21,13 @@ sub-whole c = search needs
 whole-requires-2 : tie.Need-whole-requires-2
 whole-requires-2 c κs = search needs
 
-flip-requires : tie.Need-flip-requires
-flip-requires c κs = search needs
+complement-requires : tie.Need-complement-requires
+complement-requires c κs = search needs
 
 returns-2 : tie.Need-returns-2
-returns-2 c = back (c .flip .result) (c .flip .ok) ∙ c .flip .ensures ∙ ap flipped (back (c .before .whole2 .result) (c .before .whole2 .ok) ∙ c .before .whole2 .ensures) ∙ int-negative _
+returns-2 c = back (c .complement .result) (c .complement .ok) ∙ c .complement .ensures ∙ ap complemented (back (c .before .whole2 .result) (c .before .whole2 .ok) ∙ c .before .whole2 .ensures) ∙ int-negative _
     (omega arith) (search needs)
 
 pub int-of-spec : {M : Type 1} → statement M
 int-of-spec =
-    tie.close (tie.spec whole-requires returns sub-whole whole-requires-2 flip-requires returns-2)
+    tie.close (tie.spec whole-requires returns sub-whole whole-requires-2 complement-requires returns-2)

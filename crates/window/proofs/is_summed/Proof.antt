@@ -5,7 +5,7 @@ use Prim.Native.Nat.{_-_}
 use lib.ListN.{take}
 use borrow.Author.Needs.{needs}
 use borrow.Author.Tests.{not-true, not-false}
-use Rattle.window.specs.Pair.{isDecimal}
+use Rattle.window.specs.Pair.{isSummable}
 use Rattle.window.proofs.Places.{summed-not, summed-by}
 use Rattle.window.proofs.is_summed.Statement.{statement}
 use Rattle.window.proofs.is_summed.Tie as tie
@@ -21,15 +21,15 @@ returns c =
 load-requires : tie.Need-load-requires
 load-requires c κs = search needs
 
-is-decimal-requires : tie.Need-is-decimal-requires
-is-decimal-requires c κs = search needs
+is-summable-requires : tie.Need-is-summable-requires
+is-summable-requires c κs = search needs
 
 returns-2 : tie.Need-returns-2
 returns-2 c =
     let at-place-of = c .before .before .before .before .place-of in
     let at-if1 = c .before .before .if1 in
-    c .is-decimal .ensures ∙ ap isDecimal (c .before .load .ensures) ∙ summed-by _ _ (sym (at-place-of .ensures .0) ∙ not-false _ (at-if1 .left))
+    c .is-summable .ensures ∙ ap isSummable (c .before .load .ensures) ∙ summed-by _ _ (sym (at-place-of .ensures .0) ∙ not-false _ (at-if1 .left))
 
 pub is-summed-spec : {M : Type 1} → statement M
 is-summed-spec =
-    tie.close (tie.spec place-of-requires returns load-requires is-decimal-requires returns-2)
+    tie.close (tie.spec place-of-requires returns load-requires is-summable-requires returns-2)

@@ -49,17 +49,17 @@ returns c =
     let at-put-head = c .before .before .put-head in
     push-grows _ _ _ _ (at-if1 .taken) _ _ _ _ (at-put-pair .ensures) (at-wrapping-add-u64 .ensures) (at-wrapping-add-u642 .ensures) (at-put-head .ensures)
 
-slice-read-less : tie.Need-slice-read-less
-slice-read-less c = search needs
+slice-read-word-minus : tie.Need-slice-read-word-minus
+slice-read-word-minus c = search needs
 
-less-requires : tie.Need-less-requires
-less-requires c κs = search needs
+word-minus-requires : tie.Need-word-minus-requires
+word-minus-requires c κs = search needs
 
-slice-read-less-2 : tie.Need-slice-read-less-2
-slice-read-less-2 c = search needs
+slice-read-word-minus-2 : tie.Need-slice-read-word-minus-2
+slice-read-word-minus-2 c = search needs
 
-less-requires-2 : tie.Need-less-requires-2
-less-requires-2 c κs = search needs
+word-minus-requires-2 : tie.Need-word-minus-requires-2
+word-minus-requires-2 c κs = search needs
 
 move-down-requires : tie.Need-move-down-requires
 move-down-requires c κs = search needs
@@ -91,14 +91,14 @@ same-length-2 c = search needs
 returns-2 : tie.Need-returns-2
 returns-2 c =
     let at-if1 = c .before .before .before .before .before .before .before .before .before .before .before .before .before .before .before .before .before .before .if1 in
-    let at-less = c .before .before .before .before .before .before .before .before .before .before .before .before .before .before .before .before .less in
-    let at-less2 = c .before .before .before .before .before .before .before .before .before .before .before .before .before .before .less2 in
+    let at-word-minus = c .before .before .before .before .before .before .before .before .before .before .before .before .before .before .before .before .word-minus in
+    let at-word-minus2 = c .before .before .before .before .before .before .before .before .before .before .before .before .before .before .word-minus2 in
     let at-move-down = c .before .before .before .before .before .before .before .before .before .before .before .before .move-down in
     let at-put-pair2 = c .before .before .before .before .before .before .before .before .put-pair2 in
     let at-wrapping-add-u643 = c .before .before .before .before .wrapping-add-u643 in
     let at-wrapping-add-u644 = c .before .before .before .wrapping-add-u644 in
     let at-put-head2 = c .before .before .put-head2 in
-    push-rolls _ _ _ _ (at-if1 .left) _ _ _ _ _ _ _ (at-move-down .ensures) (at-put-pair2 .ensures) (at-less .ensures) (at-less2 .ensures) (at-wrapping-add-u643 .ensures)
+    push-rolls _ _ _ _ (at-if1 .left) _ _ _ _ _ _ _ (at-move-down .ensures) (at-put-pair2 .ensures) (at-word-minus .ensures) (at-word-minus2 .ensures) (at-wrapping-add-u643 .ensures)
     (at-wrapping-add-u644 .ensures) (at-put-head2 .ensures)
 
 pub push-spec : {M : Type 1} → statement M
@@ -117,10 +117,10 @@ push-spec =
     put-head-requires
     same-length
     returns
-    slice-read-less
-    less-requires
-    slice-read-less-2
-    less-requires-2
+    slice-read-word-minus
+    word-minus-requires
+    slice-read-word-minus-2
+    word-minus-requires-2
     move-down-requires
     mul-put-pair-2
     sub-put-pair

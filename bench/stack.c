@@ -54,7 +54,8 @@ static int refused;
 
 static __attribute__((noinline)) void decode(void) { number = ff_decode_record(words, used, masks, 64, page, record, 4096, items, 8192, text, 4096, counts, 1024, &a, &b); }
 static __attribute__((noinline)) void encode(void) { number = ff_encode_record(words, used, masks, 64, page, items, a, text, b, record, 4096, counts, 1024, &b); }
-static __attribute__((noinline)) void window_start(void) { number = ff_window_start(words, used, masks, 64, page, 4, used / 12 - 2, used / 12 - 1, window, 13, counts, 1024); }
+static __attribute__((noinline)) void window_start(void) { number = ff_window_start(words, used, masks, 64, page, 4, used / 12 - 2, used / 12 - 1, 1, window, 13, counts, 1024); }
+static __attribute__((noinline)) void window_change(void) { number = ff_window_change(words, used, masks, 64, page, 4, used / 12 - 2, used / 12 - 1, window, 13, counts, 1024); }
 static __attribute__((noinline)) void window_add(void) { number = ff_window_add(words, used, masks, 64, page, record, 4096, 4, used / 12 - 2, used / 12 - 1, window, 13, items, 8192, text, 4096, counts, 1024, &one, &two); }
 static __attribute__((noinline)) void read_layout(void) { number = ff_read_layout((const uint8_t *)form, formed, words, 512 * 12, masks, 4096, &page, &a, &b); }
 
@@ -127,6 +128,7 @@ int main(void)
         memset(record, page ? 0xF0 : '0', sizeof record);
         memcpy(record + 8, "\x12\x34\x56\x78\x9C", 5);
         measure("window_start", window_start);
+        measure("window_change", window_change);
         measure("window_add", window_add);
     }
     formed = (size_t)sprintf(form, "page=0\n");

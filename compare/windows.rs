@@ -1,7 +1,7 @@
-//! The window of the last pairs, against a model that is written from the request alone: pairs in a queue, sums over 128 bits. The Rust has no such call.
+//! The window of the last pairs, against a model that is written from the requests alone: pairs in a queue, sums over 128 bits. The Rust has no such call.
 //!
-//! Runs of records from a start, accepted and refused mixed; windows that a stranger wrote, lawful or with one fault; cases in which two neighbours in the
-//! order of questions both fail. Every buffer is dirty at entry and stands between guards; every cell of it is compared.
+//! Runs of records and changeovers from a start, accepted and refused mixed; windows that a stranger wrote, lawful or with one fault; cases in which two
+//! neighbours in the order of questions both fail. Every buffer is dirty at entry and stands between guards; every cell of it is compared.
 
 use crate::cases::{bytes, Random};
 use crate::check::{writes, Item, Kind, Seen, Tally};
@@ -11,6 +11,10 @@ use std::collections::VecDeque;
 
 extern "C" {
     fn ff_window_start(
+        layout: *const u32, layout_len: usize, masks: *const u8, masks_len: usize, page: u32, w: u64, first: u64, second: u64, display: u64, window: *mut u64, window_len: usize, counts: *mut i64,
+        counts_len: usize,
+    ) -> u32;
+    fn ff_window_change(
         layout: *const u32, layout_len: usize, masks: *const u8, masks_len: usize, page: u32, w: u64, first: u64, second: u64, window: *mut u64, window_len: usize, counts: *mut i64, counts_len: usize,
     ) -> u32;
     fn ff_window_add(
@@ -32,6 +36,7 @@ struct Call {
     w: u64,
     first: u64,
     second: u64,
+    display: u64,
     counts: usize,
     items: usize,
     text: usize,
@@ -45,7 +50,7 @@ impl Call {
             e.words(&mut words, &mut masks);
         }
         let counts = words.len() / 6;
-        Call { entries, words, masks, page, fails: 0, w: 3, first: 0, second: 1, counts, items: 1600, text: 3000, record: vec![] }
+        Call { entries, words, masks, page, fails: 0, w: 3, first: 0, second: 1, display: 0, counts, items: 1600, text: 3000, record: vec![] }
     }
     /// Makes question 1, 2 or 3 fail; `fails` is the first of those that were made to.
     fn spoil(&mut self, question: u32) {
@@ -79,13 +84,21 @@ fn summed(entries: &[Entry], number: u64) -> Option<(&Entry, usize)> {
     top(entries, number).filter(|(e, _)| e.kind.kind == 7 && !e.repeated())
 }
 
-fn places(c: &Call) -> Option<(usize, usize)> {
-    let (a, b) = (summed(&c.entries, c.first)?, summed(&c.entries, c.second)?);
-    (c.first != c.second && a.0.kind.r == b.0.kind.r).then_some((a.1, b.1))
+/// Where the two values stand in a list that is read, and their scale.
+#[derive(Clone, Copy)]
+struct Places {
+    first: usize,
+    second: usize,
+    scale: u32,
 }
 
-/// The questions that a start asks.
-fn asked(c: &Call, window: usize) -> Result<(usize, usize), u32> {
+fn places(c: &Call) -> Option<Places> {
+    let (a, b) = (summed(&c.entries, c.first)?, summed(&c.entries, c.second)?);
+    (c.first != c.second && a.0.kind.r == b.0.kind.r).then_some(Places { first: a.1, second: b.1, scale: a.0.kind.r })
+}
+
+/// The questions that a start asks; the other calls give no display scale.
+fn asked(c: &Call, display: u64, window: usize) -> Result<Places, u32> {
     if c.fails != 0 {
         return Err(c.fails);
     }
@@ -93,6 +106,9 @@ fn asked(c: &Call, window: usize) -> Result<(usize, usize), u32> {
         return Err(16);
     }
     let at = if (1..=4096).contains(&c.w) { places(c).ok_or(18u32)? } else { return Err(18) };
+    if display != 0 && display - 1 >= at.scale as u64 {
+        return Err(18);
+    }
     if (window as u64) < 2 * c.w + 5 {
         return Err(16);
     }
@@ -101,16 +117,24 @@ fn asked(c: &Call, window: usize) -> Result<(usize, usize), u32> {
 
 type Pairs = VecDeque<(i128, i128)>;
 
+/// What a window is known to hold, its display word, and whether it has passed to half-even rounding.
+#[derive(Clone, Default)]
+struct Known {
+    pairs: Pairs,
+    display: u64,
+    passed: bool,
+}
+
 /// What a window holds, or None where question 24 is answered no.
-fn held(w: u64, window: &[u64]) -> Option<Pairs> {
-    if window[0] > w || window[3] != 0 || window[4] != 0 {
+fn held(w: u64, scale: u32, window: &[u64]) -> Option<Known> {
+    if window[0] > w || (window[3] != 0 && window[3] - 1 >= scale as u64) || window[4] > 1 {
         return None;
     }
     let number = |x: u64| x as i64 as i128;
     let pairs: Pairs = (0..window[0] as usize).map(|i| (number(window[5 + 2 * i]), number(window[6 + 2 * i]))).collect();
     let (one, two) = sums(&pairs);
     let small = pairs.iter().all(|p| p.0.abs() < LIMIT && p.1.abs() < LIMIT);
-    (small && number(window[1]) == one && number(window[2]) == two).then_some(pairs)
+    (small && number(window[1]) == one && number(window[2]) == two).then_some(Known { pairs, display: window[3], passed: window[4] == 1 })
 }
 
 fn sums(pairs: &Pairs) -> (i128, i128) {
@@ -118,25 +142,52 @@ fn sums(pairs: &Pairs) -> (i128, i128) {
 }
 
 /// The window's words with these pairs in it.
-fn laid(pairs: &Pairs, window: &[u64]) -> Vec<u64> {
+fn laid(known: &Known, window: &[u64]) -> Vec<u64> {
     let mut out = window.to_vec();
-    let (one, two) = sums(pairs);
-    out[..5].copy_from_slice(&[pairs.len() as u64, one as u64, two as u64, 0, 0]);
-    for (i, p) in pairs.iter().enumerate() {
+    let (one, two) = sums(&known.pairs);
+    out[..5].copy_from_slice(&[known.pairs.len() as u64, one as u64, two as u64, known.display, known.passed as u64]);
+    for (i, p) in known.pairs.iter().enumerate() {
         out[5 + 2 * i] = p.0 as u64;
         out[6 + 2 * i] = p.1 as u64;
     }
     out
 }
 
+/// What a value contributes: at a display scale cut toward zero, or the nearest of the two whole numbers around it, of two that are as near the even one.
+fn contributes(v: i128, scale: u32, display: u64, passed: bool) -> i128 {
+    if display == 0 {
+        return v;
+    }
+    let d = 10i128.pow(scale - (display as u32 - 1));
+    if !passed {
+        return v / d;
+    }
+    let (low, above) = (v.div_euclid(d), v.rem_euclid(d));
+    match (2 * above).cmp(&d) {
+        std::cmp::Ordering::Less => low,
+        std::cmp::Ordering::Greater => low + 1,
+        std::cmp::Ordering::Equal => low + low.rem_euclid(2),
+    }
+}
+
+/// The values of accepted records that lie in the middle of two of their window's scale: before and after the changeover, not negative and negative.
+type Halves = [[u64; 2]; 2];
+
+fn is_half(v: i128, scale: u32, display: u64) -> bool {
+    display != 0 && {
+        let d = 10i128.pow(scale - (display as u32 - 1));
+        2 * v.abs() % (2 * d) == d
+    }
+}
+
 /// The pair that a record gives, or the number that refuses it.
-fn given(c: &Call, at: (usize, usize)) -> Result<(i128, i128), u32> {
+fn given(c: &Call, at: Places) -> Result<(i128, i128), u32> {
     let list = whole(&c.entries, &c.record, c.page, c.items, c.text).0?;
     let number = |i: usize| match &list[i].1 {
         Value::Decimal { unscaled, .. } => *unscaled,
         other => panic!("{other:?} is no Decimal"),
     };
-    let pair = (number(at.0), number(at.1));
+    let pair = (number(at.first), number(at.second));
     if pair.0.abs() >= LIMIT || pair.1.abs() >= LIMIT {
         return Err(19);
     }
@@ -188,6 +239,17 @@ fn start(c: &Call, window: &[u64]) -> Left {
     let (mut w, mut counts) = (lend(window), Lent::new(c.counts, -3i64, 9));
     let number = unsafe {
         ff_window_start(
+            c.words.as_ptr(), c.words.len(), c.masks.as_ptr(), c.masks.len(), c.page, c.w, c.first, c.second, c.display, w.at(), window.len(), counts.at(), c.counts,
+        )
+    };
+    let clean = w.guarded() && counts.guarded() && counts.inner().iter().all(|&x| x == 0);
+    Left { number, window: w.inner().to_vec(), sums: (0, 0), clean }
+}
+
+fn change(c: &Call, window: &[u64]) -> Left {
+    let (mut w, mut counts) = (lend(window), Lent::new(c.counts, -3i64, 9));
+    let number = unsafe {
+        ff_window_change(
             c.words.as_ptr(), c.words.len(), c.masks.as_ptr(), c.masks.len(), c.page, c.w, c.first, c.second, w.at(), window.len(), counts.at(), c.counts,
         )
     };
@@ -225,44 +287,71 @@ fn compare(t: &mut Tally, group: &'static str, c: &Call, window: &[u64], left: &
     t.note(group, left.number, seen, c.words.len() + window.len() + c.record.len(), || format!("{c:?} window {window:?}"));
 }
 
-/// Starts a window both ways; the window that is left.
+/// Starts a window both ways; the window that the port left.
 fn start_both(t: &mut Tally, c: &Call, window: &[u64]) -> Result<Vec<u64>, u32> {
     let left = start(c, window);
-    let (number, words) = match asked(c, window.len()) {
+    let (number, words) = match asked(c, c.display, window.len()) {
         Err(n) => (n, window.to_vec()),
         Ok(_) => {
             let mut words = window.to_vec();
             words[..2 * c.w as usize + 5].fill(0);
+            words[3] = c.display;
             (0, words)
         }
     };
     compare(t, "window start", c, window, &left, number, &words, (0, 0));
-    if number == 0 { Ok(words) } else { Err(number) }
+    if number == 0 { Ok(left.window) } else { Err(number) }
 }
 
-/// Adds a record both ways, where `pairs` is what the window is known to hold; the number.
-fn add_both(t: &mut Tally, c: &Call, window: &mut Vec<u64>, pairs: Option<&mut Pairs>) -> u32 {
-    let left = add(c, window);
-    let mut own = None;
-    let outcome = asked(c, window.len()).and_then(|at| {
-        let pairs = match pairs {
-            Some(known) => known,
-            None => own.insert(held(c.w, window).ok_or(24u32)?),
-        };
-        let pair = given(c, at)?;
-        pairs.push_back(pair);
-        if pairs.len() as u64 > c.w {
-            pairs.pop_front();
+/// The questions before a record; what the window is known to hold, or what its words say.
+fn before<'a>(c: &Call, window: &[u64], known: Option<&'a mut Known>, own: &'a mut Known) -> Result<(Places, &'a mut Known), u32> {
+    let at = asked(c, 0, window.len())?;
+    match known {
+        Some(known) => Ok((at, known)),
+        None => {
+            *own = held(c.w, at.scale, window).ok_or(24u32)?;
+            Ok((at, own))
         }
-        Ok((laid(pairs, window), sums(pairs)))
+    }
+}
+
+/// Passes a window to half-even rounding both ways; the number, and in `window` what the port left.
+fn change_both(t: &mut Tally, c: &Call, window: &mut Vec<u64>, known: Option<&mut Known>) -> u32 {
+    let left = change(c, window);
+    let mut own = Known::default();
+    let (number, words) = match before(c, window, known, &mut own) {
+        Err(n) => (n, window.clone()),
+        Ok((_, known)) => {
+            known.passed = true;
+            (0, laid(known, window))
+        }
+    };
+    compare(t, "window change", c, window, &left, number, &words, (0, 0));
+    *window = left.window;
+    number
+}
+
+/// Adds a record both ways, where `known` is what the window is known to hold; the pair that it gave, or the number, and in `window` what the port left.
+fn add_both(t: &mut Tally, c: &Call, window: &mut Vec<u64>, known: Option<&mut Known>) -> Result<(i128, i128), u32> {
+    let left = add(c, window);
+    let mut own = Known::default();
+    let outcome = before(c, window, known, &mut own).and_then(|(at, known)| {
+        let pair = given(c, at)?;
+        let came = |v| contributes(v, at.scale, known.display, known.passed);
+        let came = (came(pair.0), came(pair.1));
+        known.pairs.push_back(came);
+        if known.pairs.len() as u64 > c.w {
+            known.pairs.pop_front();
+        }
+        Ok((pair, laid(known, window), sums(&known.pairs)))
     });
-    let (number, words, sums) = match outcome {
-        Err(n) => (n, window.clone(), (0, 0)),
-        Ok((words, (one, two))) => (0, words, (one as i64, two as i64)),
+    let (number, words, sums) = match &outcome {
+        Err(n) => (*n, window.clone(), (0, 0)),
+        Ok((_, words, (one, two))) => (0, words.clone(), (*one as i64, *two as i64)),
     };
     compare(t, "window add", c, window, &left, number, &words, sums);
-    *window = words;
-    number
+    *window = left.window;
+    outcome.map(|o| o.0)
 }
 
 // ---- the cases
@@ -423,6 +512,14 @@ fn new_call(g: &mut Random) -> Call {
         _ => 1 + g.below(6),
     };
     choose(g, &mut c);
+    let scale = places(&c).map_or(0, |at| at.scale as u64);
+    c.display = match g.below(10) {
+        0..=2 => 0,
+        3 => g.pick(&[scale, scale + 1, scale + 2, u64::MAX, 1 << 32]),
+        4..=6 => scale.min(1 + g.below(2)),
+        7 | 8 => scale - scale.min(g.below(3)),
+        _ => g.below(scale + 1),
+    };
     if g.below(40) == 0 {
         let question = g.pick(&[1, 2, 3]);
         c.spoil(question);
@@ -465,22 +562,41 @@ fn words(g: &mut Random, w: u64) -> Vec<u64> {
     (0..n).map(|_| g.next()).collect()
 }
 
-/// A run of records from a start.
-fn run(t: &mut Tally, g: &mut Random) {
+/// A run of records and changeovers from a start. Its end is also compared with a fresh window that is told, value by value, which rule applied.
+fn run(t: &mut Tally, g: &mut Random, halves: &mut Halves) {
     let mut c = new_call(g);
     let lent = words(g, c.w);
     let Ok(mut window) = start_both(t, &c, &lent) else {
         // a refused start leaves a stranger's window
         new_record(g, &mut c);
         let mut window = lent;
-        add_both(t, &c, &mut window, None);
+        let _ = if g.below(2) == 0 { add_both(t, &c, &mut window, None).err() } else { Some(change_both(t, &c, &mut window, None)) };
         return;
     };
-    let mut pairs = Pairs::new();
-    for _ in 0..4 + g.below(14) {
+    let mut known = Known { display: c.display, ..Known::default() };
+    let (mut passed, mut told) = (false, vec![]);
+    for _ in 0..3 + g.below(10) {
         new_record(g, &mut c);
-        add_both(t, &c, &mut window, Some(&mut pairs));
+        if g.below(5) == 0 {
+            passed |= change_both(t, &c, &mut window, Some(&mut known)) == 0;
+        } else if let Ok(pair) = add_both(t, &c, &mut window, Some(&mut known)) {
+            told.push((pair, passed));
+        }
     }
+    let scale = places(&c).unwrap().scale;
+    let came = |v, rule| contributes(v, scale, c.display, rule);
+    for &((a, b), rule) in &told {
+        for v in [a, b] {
+            halves[rule as usize][(v < 0) as usize] += is_half(v, scale, c.display) as u64;
+        }
+    }
+    let last = told.len().saturating_sub(c.w as usize);
+    let fresh = Known { pairs: told[last..].iter().map(|&((a, b), rule)| (came(a, rule), came(b, rule))).collect(), display: c.display, passed };
+    let mut words = lent;
+    words[..2 * c.w as usize + 5].fill(0);
+    let same = window[..5 + 2 * fresh.pairs.len()] == laid(&fresh, &words)[..5 + 2 * fresh.pairs.len()];
+    let seen = if same { Seen::Same } else { Seen::Other(format!("after {told:?}")) };
+    t.note("window run", 0, seen, c.words.len() + told.len(), || format!("{c:?} window {window:?}"));
 }
 
 /// A window that a stranger wrote: lawful, or with one fault of question 24.
@@ -490,11 +606,13 @@ fn stranger(t: &mut Tally, g: &mut Random) {
     if (1..=4096).contains(&c.w) && window.len() as u64 >= 2 * c.w + 5 {
         let n = g.below(c.w.min(40) + 1);
         let pairs: Pairs = (0..n).map(|_| (near(g) % LIMIT, near(g) % LIMIT)).collect();
-        window = laid(&pairs, &window);
+        let scale = places(&c).map_or(0, |at| at.scale as u64);
+        window = laid(&Known { pairs, display: g.below(scale + 1), passed: g.below(2) == 0 }, &window);
         let i = if n == 0 { 5 } else { 5 + g.below(2 * n) as usize };
-        match g.below(9) {
+        match g.below(10) {
             0 => window[0] = c.w + 1 + g.pick(&[0, 1, 1 << 40, u64::MAX - 5000]),
-            1 => window[3 + g.below(2) as usize] = g.pick(&[1, 2, u64::MAX]),
+            1 => window[4] = g.pick(&[1, 2, u64::MAX]),
+            6 => window[3] = g.pick(&[scale, scale + 1, u64::MAX]),
             2 | 3 if n > 0 => {
                 // a large number, and the sum that goes with it
                 let old = window[i];
@@ -512,11 +630,15 @@ fn stranger(t: &mut Tally, g: &mut Random) {
     }
     for _ in 0..3 {
         new_record(g, &mut c);
-        add_both(t, &c, &mut window, None);
+        if g.below(3) == 0 {
+            change_both(t, &c, &mut window, None);
+        } else {
+            let _ = add_both(t, &c, &mut window, None);
+        }
     }
 }
 
-/// Each two neighbours in the order of questions, both of which fail: the earlier one's number.
+/// Each two neighbours in the order of questions, both of which fail: the earlier one's number. And the limits of a value's size and of a display word, on either side.
 fn neighbours(t: &mut Tally) {
     let packed = |name, offset| Entry { name, offset, width: 7, kind: Kind { kind: 7, p: 1, q: 1, r: 2, s: 0, mask: vec![] }, occurs: None, depending: None, members: vec![] };
     let lawful = || Call { record: [[0, 0, 0, 0, 0, 0, 0x1C]; 2].concat(), ..Call::under(vec![packed(0, 0), packed(1, 7)], 0) };
@@ -534,6 +656,7 @@ fn neighbours(t: &mut Tally) {
         (3, with(&|c| { c.spoil(3); c.counts = 1 }), fine.clone()),
         (16, with(&|c| { c.counts = 1; c.second = 0 }), fine.clone()),
         (18, with(&|c| c.second = 0), fine[..10].to_vec()),
+        (0, with(&|c| c.display = 2), fine.clone()),
         (16, with(&|_| ()), full[..10].to_vec()),
         (24, with(&|c| c.record.truncate(13)), full.clone()),
         (4, with(&|c| { c.record[6] = 0x11; c.record.truncate(13) }), fine.clone()),
@@ -548,8 +671,16 @@ fn neighbours(t: &mut Tally) {
             let told = start_both(t, &c, &window).err().unwrap_or(0);
             assert_eq!(told, number, "start: {c:?}");
         }
-        let told = add_both(t, &c, &mut window.clone(), None);
+        if before_a_record || number == 24 {
+            assert_eq!(change_both(t, &c, &mut window.clone(), None), number, "change: {c:?} {window:?}");
+        }
+        let told = add_both(t, &c, &mut window.clone(), None).err().unwrap_or(0);
         assert_eq!(told, number, "add: {c:?} {window:?}");
+    }
+    // entries of scale 2: display scales 0 and 1, and then those that are not below it, before the window's length
+    for (display, number, words) in [(1, 0, 11), (2, 0, 11), (3, 18, 11), (4, 18, 10), (u64::MAX, 18, 0), (2, 16, 10)] {
+        let told = start_both(t, &with(&|c| c.display = display), &fine[..words]).err().unwrap_or(0);
+        assert_eq!(told, number, "display {display}");
     }
 }
 
@@ -558,31 +689,33 @@ fn widest(t: &mut Tally) {
     let packed = |name, offset| Entry { name, offset, width: 7, kind: Kind { kind: 7, p: 1, q: 1, r: 2, s: 0, mask: vec![] }, occurs: None, depending: None, members: vec![] };
     let record = [[0x09, 0x99, 0x99, 0x99, 0x99, 0x99, 0x9C], [0x09, 0x99, 0x99, 0x99, 0x99, 0x99, 0x9D]].concat();
     let c = Call { record, w: 4096, ..Call::under(vec![packed(0, 0), packed(1, 7)], 0) };
-    let mut pairs: Pairs = (0..4096).map(|_| (LIMIT - 1, 1 - LIMIT)).collect();
-    let mut window = laid(&pairs, &vec![7; 2 * 4096 + 6]);
+    let mut known = Known { pairs: (0..4096).map(|_| (LIMIT - 1, 1 - LIMIT)).collect(), ..Known::default() };
+    let mut window = laid(&known, &vec![7; 2 * 4096 + 6]);
     for _ in 0..3 {
-        assert_eq!(add_both(t, &c, &mut window, Some(&mut pairs)), 0);
+        assert!(add_both(t, &c, &mut window, Some(&mut known)).is_ok());
     }
 }
 
-/// So many starts and so many records at least.
+/// So many starts, records, changeovers and runs at least.
 pub fn random(t: &mut Tally, calls: u64, seed: u64) {
     let mut g = Random(seed.wrapping_mul(0x9E37_79B9_7F4A_7C15) | 1);
+    let mut halves: Halves = [[0; 2]; 2];
     neighbours(t);
     widest(t);
-    while t.cases_of("window start") < calls {
-        let c = new_call(&mut g);
-        let lent = words(&mut g, c.w);
-        let _ = start_both(t, &c, &lent);
-    }
-    while t.cases_of("window add") < calls {
-        if g.below(3) == 0 {
+    while ["window add", "window change", "window run"].iter().any(|group| t.cases_of(group) < calls) {
+        if g.below(6) == 0 {
             stranger(t, &mut g);
         } else {
-            run(t, &mut g);
+            run(t, &mut g, &mut halves);
         }
     }
+    eprintln!("exact halves in windows, before and after the changeover, not negative and negative: {halves:?}");
+    assert!(halves.iter().flatten().all(|&n| n > 0), "a kind of exact half did not come");
     for number in [1, 2, 3, 4, 5, 6, 7, 8, 9, 10, 16, 18, 19, 24] {
         assert!(t.reached("window add", number), "no record was refused by {number}");
+    }
+    for number in [1, 2, 3, 16, 18, 24] {
+        assert!(t.reached("window change", number), "no changeover was refused by {number}");
+        assert!(number == 24 || t.reached("window start", number), "no start was refused by {number}");
     }
 }

@@ -42,17 +42,25 @@ uint32_t ff_encode_record(const uint32_t *layout, size_t layout_len, const uint8
                           const uint64_t *items, size_t items_len, const uint8_t *text, size_t text_len,
                           uint8_t *record, size_t record_len, int64_t *counts, size_t counts_len, uint64_t *record_length);
 
-/* Starts a window: zeroes its 2 * w + 5 words; words behind these are left alone. A window keeps the sums of two Decimals over the last w accepted records:
- * count, both sums, two zeros, then the pairs held, oldest first; the sums and numbers are two's complement words, unscaled, at the entries' common scale. It
- * is neither output nor work space: after a refusal it is unchanged. w is from 1 to 4,096; `first` and `second` are the numbers, from 0 and all entries
- * counted, of two different unrepeated Decimals of the layout's top level with the same scale.
+/* Starts a window: zeroes its 2 * w + 5 words but for the display word; words behind these are left alone. A window keeps the sums of two Decimals over the last
+ * w accepted records: count, both sums, the display word, a word that is 0 or, once passed to half-even rounding, 1, then the pairs held, oldest first; the sums
+ * and numbers are two's complement words, unscaled, at the display scale or, without one, at the entries' common scale. It is neither output nor work space:
+ * after a refusal it is unchanged. w is from 1 to 4,096; `first` and `second` are the numbers, from 0 and all entries counted, of two different unrepeated
+ * Decimals of the layout's top level with the same scale; `display`, the display word, is 0, or a display scale plus 1, and at most that
+ * scale.
  * Asks 1, 2, 3, 16 (counts), 18, 16 (window). */
 uint32_t ff_window_start(const uint32_t *layout, size_t layout_len, const uint8_t *masks, size_t masks_len, uint32_t page,
-                         uint64_t w, uint64_t first, uint64_t second, uint64_t *window, size_t window_len, int64_t *counts, size_t counts_len);
+                         uint64_t w, uint64_t first, uint64_t second, uint64_t display, uint64_t *window, size_t window_len, int64_t *counts, size_t counts_len);
 
-/* Reads a record and takes the values of the two entries into the window; the oldest pair goes where there were w. The sums are those of the pairs then held,
- * and 0 after a refusal, which leaves the window unchanged. items, text and counts are work space: they hold zeros after the call.
- * Asks 1, 2, 3, 16 (counts), 18, 16 (window), 24, then as ff_decode_record does from 4 on, then 19. */
+/* Passes a window from cutting to half-even rounding: later values come in to the nearest, a half to the even neighbour; the pairs held stay. A second call
+ * changes nothing. Asks 1, 2, 3, 16 (counts), 18, 16 (window), 24. */
+uint32_t ff_window_change(const uint32_t *layout, size_t layout_len, const uint8_t *masks, size_t masks_len, uint32_t page,
+                          uint64_t w, uint64_t first, uint64_t second, uint64_t *window, size_t window_len, int64_t *counts, size_t counts_len);
+
+/* Reads a record and takes the values of the two entries into the window, brought to the display scale by cutting or, once passed, by half-even rounding; the
+ * oldest pair goes where there were w. The sums are those of the pairs then held, and 0 after a refusal, which leaves the window unchanged. items, text and counts
+ * are work space: they hold zeros after the call. Asks 1, 2, 3, 16 (counts), 18, 16 (window), 24, then as ff_decode_record does from 4 on, then 19, of the values
+ * as they are read. */
 uint32_t ff_window_add(const uint32_t *layout, size_t layout_len, const uint8_t *masks, size_t masks_len, uint32_t page,
                        const uint8_t *record, size_t record_len, uint64_t w, uint64_t first, uint64_t second, uint64_t *window, size_t window_len,
                        uint64_t *items, size_t items_len, uint8_t *text, size_t text_len, int64_t *counts, size_t counts_len,

@@ -91,15 +91,16 @@ static int refused(const char *what, uint32_t number)
     return number != 0;
 }
 
-/* Five records through a window of three; the third is refused, and the window stays as it was. */
-static int sum_scrap(void)
+/* Five records through a window of three; the third is refused, and the window stays as it was. With a display word, a scale plus 1, the values come in at that
+ * scale: cut, and from the fourth record on, behind a changeover, to the nearest. */
+static int sum_scrap(uint64_t display)
 {
     static const uint8_t jobs[5][10] = {
         {'J', '1', '0', '1', 0x00, 0x02, 0x0C, 0x00, 0x31, 0x5C}, /* 2.0 and 31.5 */
         {'J', '1', '0', '2', 0x00, 0x01, 0x0C, 0x00, 0x12, 0x0C}, /* 1.0 and 12.0 */
         {'J', '1', '0', '3', 0x00, 0x04, 0x0C, 0x00, 0x3A, 0x0C}, /* a byte of GRAMS is damaged */
         {'J', '1', '0', '4', 0x00, 0x03, 0x0C, 0x00, 0x40, 0x5C}, /* 3.0 and 40.5 */
-        {'J', '1', '0', '5', 0x00, 0x01, 0x0D, 0x00, 0x08, 0x0D}, /* taken back: -1.0 and -8.0 */
+        {'J', '1', '0', '5', 0x00, 0x01, 0x0D, 0x00, 0x07, 0x5D}, /* taken back: -1.0 and -7.5 */
     };
     uint64_t window[2 * LAST + 5];
     int64_t lenses, grams;
@@ -107,17 +108,19 @@ static int sum_scrap(void)
     size_t i;
     if (refused("scrap layout", read_layout(&scrap, (const uint8_t *)scrap_text, sizeof scrap_text - 1)))
         return 1;
-    if (refused("window", ff_window_start(scrap.words, scrap.used, scrap.masks, scrap.masks_used, scrap.page, LAST, LENSES, GRAMS, window, 2 * LAST + 5, counts, 1024)))
+    if (refused("window", ff_window_start(scrap.words, scrap.used, scrap.masks, scrap.masks_used, scrap.page, LAST, LENSES, GRAMS, display, window, 2 * LAST + 5, counts, 1024)))
         return 1;
     for (i = 0; i < 5; i++) {
+        if (display && i == 3 && refused("changeover", ff_window_change(scrap.words, scrap.used, scrap.masks, scrap.masks_used, scrap.page, LAST, LENSES, GRAMS, window, 2 * LAST + 5, counts, 1024)))
+            return 1;
         number = ff_window_add(scrap.words, scrap.used, scrap.masks, scrap.masks_used, scrap.page, jobs[i], sizeof jobs[i], LAST, LENSES, GRAMS, window, 2 * LAST + 5,
                                items, 8192, said, sizeof said, counts, 1024, &lenses, &grams);
         if (refused("scrap", number))
             continue;
         printf("scrap of the last %" PRIu64 ": lenses ", window[0]);
-        print_decimal(lenses, 1);
+        print_decimal(lenses, display ? display - 1 : 1);
         printf(", grams ");
-        print_decimal(grams, 1);
+        print_decimal(grams, display ? display - 1 : 1);
         printf("\n");
     }
     return 0;
@@ -162,5 +165,5 @@ int main(int argc, char **argv)
             return 1;
         printf("read back: %s\n", used == 8 && told == 8 && !memcmp(back, list, sizeof list) && !memcmp(again, name, 8) ? "the same list" : "another list");
     }
-    return sum_scrap();
+    return sum_scrap(0) || sum_scrap(1);
 }

@@ -5,7 +5,9 @@ ghost use Rattle.layout_text.specs.Reading.{layoutInto, LayoutRead};
 ghost use Rattle.text_field.specs.Single.{FieldTranslated, TextPlaced};
 ghost use Rattle.walks.specs.Records.{readInto, RecordRead, writtenInto, RecordWritten};
 ghost use lib.ListN.{length};
-ghost use Rattle.window.specs.Calls.{windowAsks, WindowStarted, addedTo, WindowAdded};
+ghost use Rattle.window.specs.Window.{started, changed};
+ghost use Rattle.window.specs.Pair.{scaleAt};
+ghost use Rattle.window.specs.Calls.{windowAsks, beforeAsks, WindowWritten, addedTo, WindowAdded};
 
 // Reads a layout's text form.
 #[no_mangle]
@@ -114,9 +116,39 @@ pub extern "C" fn ff_text_field(
     r.number
 }
 
-// Starts a window of the last W pairs.
+// Starts a window of the last W pairs, with a display word: 0, or a display scale plus 1.
 #[no_mangle]
 pub extern "C" fn ff_window_start(
+    layout: &[u32],
+    masks: &[u8],
+    page: u32,
+    w: u64,
+    first: u64,
+    second: u64,
+    display: u64,
+    window: &mut [u64],
+    counts: &mut [i64],
+) -> u32
+    ensures { λ r. ⌜
+        WindowWritten (windowAsks (now (layout .entry)) (now (masks .entry)) page w first second display (length (now (window .entry))) (length (now (counts .entry))))
+        r (started w display (now (window .entry))) (now (window .entry)) (now (window .exit)) (now (counts .entry)) (now (counts .exit)) ⌝ }
+{
+    window::window_start(
+        layout,
+        masks,
+        page,
+        w,
+        first,
+        second,
+        display,
+        window,
+        counts,
+    )
+}
+
+// Passes a window from cutting to half-even rounding.
+#[no_mangle]
+pub extern "C" fn ff_window_change(
     layout: &[u32],
     masks: &[u8],
     page: u32,
@@ -127,10 +159,10 @@ pub extern "C" fn ff_window_start(
     counts: &mut [i64],
 ) -> u32
     ensures { λ r. ⌜
-        WindowStarted (windowAsks (now (layout .entry)) (now (masks .entry)) page w first second (length (now (window .entry))) (length (now (counts .entry))))
-        w r (now (window .entry)) (now (window .exit)) (now (counts .entry)) (now (counts .exit)) ⌝ }
+        WindowWritten (beforeAsks (now (layout .entry)) (now (masks .entry)) page w first second (now (window .entry)) (length (now (counts .entry))))
+        r (changed (now (window .entry))) (now (window .entry)) (now (window .exit)) (now (counts .entry)) (now (counts .exit)) ⌝ }
 {
-    window::window_start(layout, masks, page, w, first, second, window, counts)
+    window::window_change(layout, masks, page, w, first, second, window, counts)
 }
 
 // Reads a record and takes its pair into a window.
@@ -153,7 +185,7 @@ pub extern "C" fn ff_window_add(
     ensures { λ r. ⌜
         WindowAdded
         (addedTo (now (layout .entry)) (now (masks .entry)) page (now («record» .entry)) w first second (now (window .entry)) (now (items .entry)) (now (text .entry)) (now (counts .entry)))
-        w r (now («first_sum» .exit)) (now («second_sum» .exit)) (now (window .entry)) (now (window .exit))
+        (scaleAt (now (layout .entry)) first) w r (now («first_sum» .exit)) (now («second_sum» .exit)) (now (window .entry)) (now (window .exit))
         (now (items .entry)) (now (items .exit)) (now (text .entry)) (now (text .exit)) (now (counts .entry)) (now (counts .exit)) ⌝ }
 {
     let r = window::window_add(

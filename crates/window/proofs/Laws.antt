@@ -1,6 +1,6 @@
 -- Laws of windows: pairs and their words, what is laid is held, what a pair makes of a window; each is an equation between two windows laid.
 use mathlib.Core.Path.{_≡_, refl, sym, ap, _∙_}
-use mathlib.Core.Bool.{true, _&&_, cond}
+use mathlib.Core.Bool.{Bool, true, _&&_, cond}
 use mathlib.Core.List.{List, [], _∷_, _++_, append-assoc}
 use Prim.Native.Nat.{ℕ, zero, suc, _+_, _-_, _*_, _%_, _^_, _<_, _≤_}
 use native.Mathlib.Omega.{arith}
@@ -10,7 +10,7 @@ use lib.ListN.{length, getD, take, drop, length-append, length-drop}
 use lib.Seq.{take-at, drop-at, drop-drop}
 use borrow.Author.Tests.{lt-ltb, le-ltb, leb-true, eqb-true}
 use Rattle.lists.proofs.Logic.{and-left, and-right}
-use Rattle.window.specs.Window.{Pair, pair, firsts, seconds, flat, pairsOf, lastOf, total, sumIn, windowWords, heldIn, laid, allSmall, wordsOk, sumsOk, lawfulIn, accepted}
+use Rattle.window.specs.Window.{Pair, pair, firsts, seconds, flat, pairsOf, lastOf, total, sumIn, windowWords, heldIn, displayIn, laid, allSmall, wordsOk, sumsOk, lawfulIn, accepted}
 use Rattle.window.specs.Steps.{putAt, movedDown, wordPlus, wordMinus, withHead, grown, rolled, pushed}
 
 -- ---- pairs and their words
@@ -66,7 +66,7 @@ unfolding laid
 held-laid ps l = pairs-flat ps (drop (5 + length ps * 2) l)
 
 -- a window of five words at least, by its words
-five : (l : List ℕ) → 5 ≤ length l → l ≡ getD l 0 0 ∷ getD l 1 0 ∷ getD l 2 0 ∷ getD l 3 0 ∷ getD l 4 0 ∷ drop 5 l
+five : (l : List ℕ) → 5 ≤ length l → l ≡ getD l 0 0 ∷ getD l 1 0 ∷ getD l 2 0 ∷ displayIn l ∷ getD l 4 0 ∷ drop 5 l
 five [] h = absurd (omega arith)
 five (x0 ∷ []) h = absurd (omega arith)
 five (x0 ∷ x1 ∷ []) h = absurd (omega arith)
@@ -103,7 +103,7 @@ module _ (a b : ℕ) (l : List ℕ) (ps : List Pair) where
 
   -- one pair behind others, laid by hand
   laid-snoc : (n x y : ℕ) → n ≡ 1 + length ps → x ≡ (total (firsts ps) + a) % 2 ^ 64 → y ≡ (total (seconds ps) + b) % 2 ^ 64
-      → n ∷ x ∷ y ∷ getD l 3 0 ∷ getD l 4 0 ∷ (flat ps ++ (a ∷ b ∷ drop (5 + (1 + length ps) * 2) l)) ≡ laid (ps ++ (pair a b ∷ [])) l
+      → n ∷ x ∷ y ∷ displayIn l ∷ getD l 4 0 ∷ (flat ps ++ (a ∷ b ∷ drop (5 + (1 + length ps) * 2) l)) ≡ laid (ps ++ (pair a b ∷ [])) l
   unfolding laid
   laid-snoc n x y p q r = rw (p, q, r, snoc-length a b ps, flat-snoc a b ps, firsts-snoc a b ps, seconds-snoc a b ps, append-assoc (flat ps) (a ∷ b ∷ []))
 
@@ -167,23 +167,38 @@ module _ (w a b : ℕ) (l : List ℕ) (ps : List Pair) (few : length ps ≤ w) (
 
 -- ---- a lawful window is what it holds, laid
 
-module _ (w : ℕ) (l : List ℕ) where
-  pub words-lawful : lawfulIn w l ≡ true → wordsOk w l ≡ true
+module _ (w scale : ℕ) (l : List ℕ) where
+  pub words-lawful : lawfulIn w scale l ≡ true → wordsOk w scale l ≡ true
   unfolding lawfulIn
-  words-lawful h = and-left (wordsOk w l) (allSmall (heldIn l)) (and-left (wordsOk w l && allSmall (heldIn l)) (sumsOk l) h)
+  words-lawful h = and-left (wordsOk w scale l) (allSmall (heldIn l)) (and-left (wordsOk w scale l && allSmall (heldIn l)) (sumsOk l) h)
 
-  pub sums-lawful : lawfulIn w l ≡ true → sumsOk l ≡ true
+  pub sums-lawful : lawfulIn w scale l ≡ true → sumsOk l ≡ true
   unfolding lawfulIn
-  sums-lawful h = and-right (wordsOk w l && allSmall (heldIn l)) (sumsOk l) h
+  sums-lawful h = and-right (wordsOk w scale l && allSmall (heldIn l)) (sumsOk l) h
 
-  pub smalls-lawful : lawfulIn w l ≡ true → allSmall (heldIn l) ≡ true
+  pub smalls-lawful : lawfulIn w scale l ≡ true → allSmall (heldIn l) ≡ true
   unfolding lawfulIn
-  smalls-lawful h = and-right (wordsOk w l) (allSmall (heldIn l)) (and-left (wordsOk w l && allSmall (heldIn l)) (sumsOk l) h)
+  smalls-lawful h = and-right (wordsOk w scale l) (allSmall (heldIn l)) (and-left (wordsOk w scale l && allSmall (heldIn l)) (sumsOk l) h)
 
-  pub lawful-few : lawfulIn w l ≡ true → getD l 0 0 ≤ w
-  lawful-few h = leb-true (getD l 0 0) w (and-left (leb (getD l 0 0) w) (eqb (getD l 3 0) 0) (and-left (leb (getD l 0 0) w && eqb (getD l 3 0) 0) (eqb (getD l 4 0) 0) (words-lawful h)))
+  abbrev counted : Bool
+  counted = leb (getD l 0 0) w
 
-  pub lawful-laid : lawfulIn w l ≡ true → windowWords w ≤ length l → l ≡ laid (heldIn l) l
+  abbrev shown : Bool
+  shown = leb (displayIn l) scale
+
+  abbrev passed : Bool
+  passed = leb (getD l 4 0) 1
+
+  pub lawful-few : lawfulIn w scale l ≡ true → getD l 0 0 ≤ w
+  lawful-few h = leb-true (getD l 0 0) w (and-left counted shown (and-left (counted && shown) passed (words-lawful h)))
+
+  pub lawful-shown : lawfulIn w scale l ≡ true → displayIn l ≤ scale
+  lawful-shown h = leb-true (displayIn l) scale (and-right counted shown (and-left (counted && shown) passed (words-lawful h)))
+
+  pub lawful-passed : lawfulIn w scale l ≡ true → getD l 4 0 ≤ 1
+  lawful-passed h = leb-true (getD l 4 0) 1 (and-right (counted && shown) passed (words-lawful h))
+
+  pub lawful-laid : lawfulIn w scale l ≡ true → windowWords w ≤ length l → l ≡ laid (heldIn l) l
   unfolding laid
   lawful-laid h long =
       let few : getD l 0 0 ≤ w = lawful-few h in
@@ -193,10 +208,10 @@ module _ (w : ℕ) (l : List ℕ) where
       let n : length (heldIn l) ≡ getD l 0 0 = pairs-length (getD l 0 0) (drop 5 l) in
       let r : drop 5 l ≡ flat (heldIn l) ++ drop (5 + length (heldIn l) * 2) l =
       sym (flat-pairs (getD l 0 0) (drop 5 l) (omega (arith, length-drop 5 l))) ∙ ap (λ d. flat (heldIn l) ++ d) (drop-drop (getD l 0 0 * 2) 5 l ∙ ap (λ k. drop (5 + k * 2) l) (sym n)) in
-      five l (omega arith) ∙ λ i. sym n i ∷ s i ∷ t i ∷ getD l 3 0 ∷ getD l 4 0 ∷ r i
+      five l (omega arith) ∙ λ i. sym n i ∷ s i ∷ t i ∷ displayIn l ∷ getD l 4 0 ∷ r i
 
   -- what the code makes of a lawful window is what the definition says
-  pub pushed-accepted : (a b : ℕ) → lawfulIn w l ≡ true → 0 < w → windowWords w ≤ length l → pushed w a b l ≡ accepted w (pair a b) l
+  pub pushed-accepted : (a b : ℕ) → lawfulIn w scale l ≡ true → 0 < w → windowWords w ≤ length l → pushed w a b l ≡ accepted w (pair a b) l
   unfolding accepted
   pushed-accepted a b h some long =
       let n : length (heldIn l) ≤ w = omega (arith, pairs-length (getD l 0 0) (drop 5 l), lawful-few h) in

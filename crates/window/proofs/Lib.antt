@@ -4,6 +4,7 @@ pub mod Totals
 pub mod Signs
 pub mod Places
 pub mod Asked
+pub mod Rules
 pub mod Runs
 pub mod Parts
 pub mod Own

@@ -17,7 +17,7 @@ use Rattle.items.specs.declared.Item.{Item}
 use Rattle.items.specs.Items.{itemWords, itemCount, itemAt, spanOf as itemSpan, values, headOf}
 use Rattle.items.proofs.Items.{rest-is}
 use Rattle.window.specs.Window.{pair}
-use Rattle.window.specs.Pair.{isTop, itemsFor, itemsBefore, isSummable, summed, scaleOf, pairOk, pairAsks, valuesFrom, wordAt, pairIn}
+use Rattle.window.specs.Pair.{isTop, itemsFor, itemsBefore, isSummable, summed, scaleAt, pairOk, pairAsks, valuesFrom, wordAt, pairIn}
 
 -- ---- an entry by its number
 
@@ -134,31 +134,36 @@ module _ (l : List ℕ) (first second : ℕ) where
     pair-second h = rw (f, h)
 
     module _ (s : summed l second ≡ true) where
-      pub pair-scale : (scaleOf (entryAt l first) ≡ scaleOf (entryAt l second) → ⊥) → false ≡ pairOk l first second
+      pub pair-scale : (scaleAt l first ≡ scaleAt l second → ⊥) → false ≡ pairOk l first second
       unfolding pairOk
-      pair-scale h = rw (f, s, ne-eqb (scaleOf (entryAt l first)) (scaleOf (entryAt l second)) h)
+      pair-scale h = rw (f, s, ne-eqb (scaleAt l first) (scaleAt l second) h)
 
-      pub pair-other : scaleOf (entryAt l first) ≡ scaleOf (entryAt l second) → not (eqb first second) ≡ pairOk l first second
+      pub pair-other : scaleAt l first ≡ scaleAt l second → not (eqb first second) ≡ pairOk l first second
       unfolding pairOk
-      pair-other h = rw (f, s, eq-eqb (scaleOf (entryAt l first)) (scaleOf (entryAt l second)) h)
+      pair-other h = rw (f, s, eq-eqb (scaleAt l first) (scaleAt l second) h)
 
-module _ (l : List ℕ) (w first second : ℕ) where
-  pub asks-none : w < 1 → 18 ≡ pairAsks l w first second
+module _ (l : List ℕ) (w first second display : ℕ) where
+  pub asks-none : w < 1 → 18 ≡ pairAsks l w first second display
   unfolding pairAsks
   asks-none h = rw (lt-leb 1 w h)
 
-  pub asks-many : 4096 < w → 18 ≡ pairAsks l w first second
+  pub asks-many : 4096 < w → 18 ≡ pairAsks l w first second display
   unfolding pairAsks
   asks-many h = rw (le-leb 1 w (omega arith), lt-leb w 4096 h)
 
   module _ (some : 1 ≤ w) (few : w ≤ 4096) where
-    pub asks-other : pairOk l first second ≡ false → 18 ≡ pairAsks l w first second
+    pub asks-other : pairOk l first second ≡ false → 18 ≡ pairAsks l w first second display
     unfolding pairAsks
     asks-other h = rw (le-leb 1 w some, le-leb w 4096 few, h)
 
-    pub asks-no : pairOk l first second ≡ true → 0 ≡ pairAsks l w first second
-    unfolding pairAsks
-    asks-no h = rw (le-leb 1 w some, le-leb w 4096 few, h)
+    module _ (h : pairOk l first second ≡ true) where
+      pub asks-high : scaleAt l first < display → 18 ≡ pairAsks l w first second display
+      unfolding pairAsks
+      asks-high k = rw (le-leb 1 w some, le-leb w 4096 few, h, lt-leb display (scaleAt l first) k)
+
+      pub asks-no : display ≤ scaleAt l first → 0 ≡ pairAsks l w first second display
+      unfolding pairAsks
+      asks-no k = rw (le-leb 1 w some, le-leb w 4096 few, h, le-leb display (scaleAt l first) k)
 
 -- ---- an item by its place
 

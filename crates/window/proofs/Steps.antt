@@ -9,7 +9,7 @@ use lib.Dec.{eqb, leb, ltb}
 use lib.ListN.{length, getD, take, drop, set, replicate, length-drop}
 use lib.Seq.{drop-drop, getD-drop, getD-append-add, paste, paste-suc, length-paste-head}
 use borrow.Author.Tests.{lt-ltb, le-ltb, le-leb, lt-leb, eq-eqb, ne-eqb}
-use Rattle.window.specs.Window.{pair, firsts, seconds, pairsOf, total, sumIn, windowWords, heldIn, small, allSmall, lawfulIn, started}
+use Rattle.window.specs.Window.{pair, firsts, seconds, pairsOf, total, sumIn, windowWords, heldIn, displayIn, small, allSmall, wordsOk, lawfulIn, started, changed}
 use Rattle.window.specs.Steps.{putAt, movedDown, wordPlus, wordMinus, withHead, pushed}
 
 -- ---- stores
@@ -30,13 +30,17 @@ pair-put (x ∷ y ∷ l) (suc k) a b h =
     let f : 2 + suc k ≡ suc (2 + k) = omega arith in
     rw (e, f) (ap (λ m. x ∷ m) (pair-put (y ∷ l) k a b (omega arith)))
 
--- zeros in front of the words behind the window
-pub start-put : (l : List ℕ) (w n : ℕ) → n ≡ windowWords w → replicate n 0 ++ drop n l ≡ started w l
+-- zeros in front of the words behind the window, and the display word
+pub start-put : (l : List ℕ) (w display n : ℕ) → n ≡ windowWords w → set (replicate n 0 ++ drop n l) 3 display ≡ started w display l
 unfolding started
-start-put l w n h =
+start-put l w display n h =
     let e : n ≡ suc (suc (suc (suc (suc (w * 2))))) = omega arith in
     let f : suc (suc (suc (suc (suc (w * 2))))) ≡ windowWords w = omega arith in
-    rw e (ap (λ k. 0 ∷ 0 ∷ 0 ∷ 0 ∷ 0 ∷ (replicate (w * 2) 0 ++ drop k l)) f)
+    rw e (ap (λ k. 0 ∷ 0 ∷ 0 ∷ display ∷ 0 ∷ (replicate (w * 2) 0 ++ drop k l)) f)
+
+pub change-put : (l : List ℕ) → set l 4 1 ≡ changed l
+unfolding changed
+change-put l = refl
 
 -- ---- moving down
 
@@ -58,34 +62,37 @@ down-all l w i h = ap (paste l 5 (drop 7 l)) h
 
 -- ---- question 24
 
-module _ (w : ℕ) (l : List ℕ) where
-  pub not-count : w < getD l 0 0 → false ≡ lawfulIn w l
+module _ (w scale : ℕ) (l : List ℕ) where
+  pub not-count : w < getD l 0 0 → false ≡ lawfulIn w scale l
   unfolding lawfulIn
   not-count h = rw (lt-leb (getD l 0 0) w h)
 
   module _ (n : getD l 0 0 ≤ w) where
-    pub not-third : (getD l 3 0 ≡ 0 → ⊥) → false ≡ lawfulIn w l
+    pub not-display : scale < displayIn l → false ≡ lawfulIn w scale l
     unfolding lawfulIn
-    not-third h = rw (le-leb (getD l 0 0) w n, ne-eqb (getD l 3 0) 0 h)
+    not-display h = rw (le-leb (getD l 0 0) w n, lt-leb (displayIn l) scale h)
 
-    module _ (s : getD l 3 0 ≡ 0) where
-      pub not-fourth : (getD l 4 0 ≡ 0 → ⊥) → false ≡ lawfulIn w l
+    module _ (s : displayIn l ≤ scale) where
+      pub not-rule : 1 < getD l 4 0 → false ≡ lawfulIn w scale l
       unfolding lawfulIn
-      not-fourth h = rw (le-leb (getD l 0 0) w n, eq-eqb (getD l 3 0) 0 s, ne-eqb (getD l 4 0) 0 h)
+      not-rule h = rw (le-leb (getD l 0 0) w n, le-leb (displayIn l) scale s, lt-leb (getD l 4 0) 1 h)
 
-      module _ (r : getD l 4 0 ≡ 0) where
-        pub not-small : allSmall (heldIn l) ≡ false → false ≡ lawfulIn w l
+      module _ (r : getD l 4 0 ≤ 1) where
+        words : wordsOk w scale l ≡ true
+        words = rw (le-leb (getD l 0 0) w n, le-leb (displayIn l) scale s, le-leb (getD l 4 0) 1 r)
+
+        pub not-small : allSmall (heldIn l) ≡ false → false ≡ lawfulIn w scale l
         unfolding lawfulIn
-        not-small h = rw (le-leb (getD l 0 0) w n, eq-eqb (getD l 3 0) 0 s, eq-eqb (getD l 4 0) 0 r, h)
+        not-small h = rw (words, h)
 
         module _ (a : allSmall (heldIn l) ≡ true) where
-          pub not-first : (getD l 1 0 ≡ sumIn (firsts (heldIn l)) → ⊥) → false ≡ lawfulIn w l
+          pub not-first : (getD l 1 0 ≡ sumIn (firsts (heldIn l)) → ⊥) → false ≡ lawfulIn w scale l
           unfolding lawfulIn
-          not-first h = rw (le-leb (getD l 0 0) w n, eq-eqb (getD l 3 0) 0 s, eq-eqb (getD l 4 0) 0 r, a, ne-eqb (getD l 1 0) (sumIn (firsts (heldIn l))) h)
+          not-first h = rw (words, a, ne-eqb (getD l 1 0) (sumIn (firsts (heldIn l))) h)
 
-          pub by-second : getD l 1 0 ≡ sumIn (firsts (heldIn l)) → eqb (getD l 2 0) (sumIn (seconds (heldIn l))) ≡ lawfulIn w l
+          pub by-second : getD l 1 0 ≡ sumIn (firsts (heldIn l)) → eqb (getD l 2 0) (sumIn (seconds (heldIn l))) ≡ lawfulIn w scale l
           unfolding lawfulIn
-          by-second h = rw (le-leb (getD l 0 0) w n, eq-eqb (getD l 3 0) 0 s, eq-eqb (getD l 4 0) 0 r, a, eq-eqb (getD l 1 0) (sumIn (firsts (heldIn l))) h)
+          by-second h = rw (words, a, eq-eqb (getD l 1 0) (sumIn (firsts (heldIn l))) h)
 
 -- so many pairs are judged, and these are the sums so far
 pub record Judging (l : List ℕ) (i first second : ℕ) : Type 0 where

@@ -168,16 +168,16 @@ seconds-length : (ps : List Pair) → length (seconds ps) ≡ length ps
 seconds-length [] = refl
 seconds-length (p ∷ ps) = ap suc (seconds-length ps)
 
-module _ (w : ℕ) (l : List ℕ) (few : w ≤ 4096) (ok : lawfulIn w l ≡ true) where
+module _ (w scale : ℕ) (l : List ℕ) (few : w ≤ 4096) (ok : lawfulIn w scale l ≡ true) where
   held-few : length (heldIn l) ≤ 4096
-  held-few = omega (arith, pairs-length (getD l 0 0) (drop 5 l), lawful-few w l ok)
+  held-few = omega (arith, pairs-length (getD l 0 0) (drop 5 l), lawful-few w scale l ok)
 
   pub first-true : wholeOf (getD l 1 0) ≡ sumOf (firsts (heldIn l))
   first-true =
-      let e : getD l 1 0 ≡ sumIn (firsts (heldIn l)) = eqb-true _ _ (and-left (eqb (getD l 1 0) (sumIn (firsts (heldIn l)))) (eqb (getD l 2 0) (sumIn (seconds (heldIn l)))) (sums-lawful w l ok)) in
-      ap wholeOf e ∙ sums-true (firsts (heldIn l)) (omega (arith, firsts-length (heldIn l), held-few)) (firsts-small (heldIn l) (smalls-lawful w l ok))
+      let e : getD l 1 0 ≡ sumIn (firsts (heldIn l)) = eqb-true _ _ (and-left (eqb (getD l 1 0) (sumIn (firsts (heldIn l)))) (eqb (getD l 2 0) (sumIn (seconds (heldIn l)))) (sums-lawful w scale l ok)) in
+      ap wholeOf e ∙ sums-true (firsts (heldIn l)) (omega (arith, firsts-length (heldIn l), held-few)) (firsts-small (heldIn l) (smalls-lawful w scale l ok))
 
   pub second-true : wholeOf (getD l 2 0) ≡ sumOf (seconds (heldIn l))
   second-true =
-      let e : getD l 2 0 ≡ sumIn (seconds (heldIn l)) = eqb-true _ _ (and-right (eqb (getD l 1 0) (sumIn (firsts (heldIn l)))) (eqb (getD l 2 0) (sumIn (seconds (heldIn l)))) (sums-lawful w l ok)) in
-      ap wholeOf e ∙ sums-true (seconds (heldIn l)) (omega (arith, seconds-length (heldIn l), held-few)) (seconds-small (heldIn l) (smalls-lawful w l ok))
+      let e : getD l 2 0 ≡ sumIn (seconds (heldIn l)) = eqb-true _ _ (and-right (eqb (getD l 1 0) (sumIn (firsts (heldIn l)))) (eqb (getD l 2 0) (sumIn (seconds (heldIn l)))) (sums-lawful w scale l ok)) in
+      ap wholeOf e ∙ sums-true (seconds (heldIn l)) (omega (arith, seconds-length (heldIn l), held-few)) (seconds-small (heldIn l) (smalls-lawful w scale l ok))

@@ -1,4 +1,4 @@
--- Scrap over the last jobs: the window, its two entries, the two calls, and what holds of any run of records.
+-- Scrap over the last jobs: the window, its two entries, the three calls, and what holds of any run of records and changeovers.
 pub mod Window
 pub mod Pair
 pub mod Calls

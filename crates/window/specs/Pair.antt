@@ -33,18 +33,19 @@ isSummable e = unrepeated e && eqb (e .kind) kindDecimal
 unfoldable pub summed : List ℕ → ℕ → Bool
 summed l i = isTop (entries l) i && isSummable (entryAt l i)
 
--- the scale of a Decimal entry
-abbrev pub scaleOf : Entry → ℕ
-scaleOf e = e .r
+-- the scale of the Decimal entry of a number
+abbrev pub scaleAt : List ℕ → ℕ → ℕ
+scaleAt l i = entryAt l i .r
 
 -- "such a pair of different entries"
 unfoldable pub pairOk : List ℕ → ℕ → ℕ → Bool
 pairOk l first second =
-    summed l first && summed l second && eqb (scaleOf (entryAt l first)) (scaleOf (entryAt l second)) && not (eqb first second)
+    summed l first && summed l second && eqb (scaleAt l first) (scaleAt l second) && not (eqb first second)
 
--- Question 18. "W is outside 1 to 4,096 or the entries are not such a pair of different entries"
-unfoldable pub pairAsks : List ℕ → ℕ → ℕ → ℕ → ℕ
-pairAsks l w first second = cond (leb 1 w && leb w 4096 && pairOk l first second) 0 18
+-- Question 18. "W is outside 1 to 4,096 or the entries are not such a pair of different entries"; S-7: "a display scale below its entries' scale (any other is refused
+-- with 18)", given as a display word: 0 for none, else that scale plus 1
+unfoldable pub pairAsks : List ℕ → ℕ → ℕ → ℕ → ℕ → ℕ
+pairAsks l w first second display = cond (leb 1 w && leb w 4096 && pairOk l first second && leb display (scaleAt l first)) 0 18
 
 -- the values of a sequence from the k-th on
 unfoldable pub valuesFrom : ℕ → Values → Values

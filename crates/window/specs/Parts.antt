@@ -19,8 +19,8 @@ pub record PairRead (d : Decoded) (l : List ℕ) (first second number a b : ℕ)
   pub countsLeft : counts′ ≡ replicate (length counts) (pos 0)
 
 -- a pair and a lawful window
-pub record PairTaken (p : Pair) (w number : ℕ) (one two : ℤ) (window window′ : List ℕ) : Type 0 where
+pub record PairTaken (p : Pair) (scale w number : ℕ) (one two : ℤ) (window window′ : List ℕ) : Type 0 where
   pub numbered : number ≡ numberOf (judged p)
-  pub firstSum : one ≡ sumAfter firsts w window (judged p)
-  pub secondSum : two ≡ sumAfter seconds w window (judged p)
-  pub windowLeft : window′ ≡ windowAfter w window (judged p)
+  pub firstSum : one ≡ sumAfter firsts scale w window (judged p)
+  pub secondSum : two ≡ sumAfter seconds scale w window (judged p)
+  pub windowLeft : window′ ≡ windowAfter scale w window (judged p)

@@ -1,4 +1,4 @@
-// Scrap over the last jobs: sums of two Decimals over the last records, in a lent window.
+// Scrap over the last jobs: sums of two Decimals over the last records, in a lent window; at a display scale by cutting, after a changeover by half-even rounding.
 use codes::KIND_DECIMAL;
 use codes::KIND_PAD;
 use decode::decode_record;
@@ -10,24 +10,28 @@ use layout::ask_layout;
 use layout::load;
 use layout::unrepeated;
 use spans::end_of;
+use value::goes_up;
+use value::is_minus;
 use value::size_of;
+use value::ten_to;
+use value::word_of;
 use zeros::clear_counts;
 use zeros::clear_items;
 use zeros::clear_text;
 ghost use mathlib.Core.Path.{_≡_};
 ghost use mathlib.Core.Bool.{Bool, true, cond};
 ghost use mathlib.Core.List.{_++_};
-ghost use Prim.Native.Nat.{ℕ, _+_, _-_, _*_, _/_, _<_, _≤_};
+ghost use Prim.Native.Nat.{ℕ, _+_, _-_, _*_, _/_, _^_, _<_, _≤_};
 ghost use lib.Dec.{eqb, leb};
 ghost use lib.IntN.{ℤ, pos};
 ghost use lib.ListN.{length, drop, replicate};
 ghost use Rattle.layout.specs.Layout.{entries};
 ghost use Rattle.items.specs.Items.{itemWords, values, headOf};
-ghost use Rattle.walks.specs.Records.{firstOf, readInto};
-ghost use Rattle.window.specs.Window.{pair, windowWords, wholeOf, small, lawfulIn};
-ghost use Rattle.window.specs.Pair.{isTop, itemsFor, itemsBefore, isSummable, summed, pairOk, pairAsks, valuesFrom};
+ghost use Rattle.walks.specs.Records.{readInto};
+ghost use Rattle.window.specs.Window.{pair, windowWords, wholeOf, small, lawfulIn, started, changed, ruleOf, ruled, contributed};
+ghost use Rattle.window.specs.Pair.{isTop, itemsFor, itemsBefore, isSummable, summed, scaleAt, pairOk, pairAsks, valuesFrom};
 ghost use Rattle.window.specs.Steps.{putAt, movedDown, withHead, wordMinus, pushed, complemented};
-ghost use Rattle.window.specs.Calls.{lawfulAsks, windowAsks, WindowStarted, addedTo, WindowAdded};
+ghost use Rattle.window.specs.Calls.{windowAsks, beforeAsks, WindowWritten, addedTo, WindowAdded};
 ghost use Rattle.window.specs.Parts.{PairRead, PairTaken};
 
 // ---- question 18: the two entries
@@ -88,6 +92,13 @@ fn is_summed(layout: &[u32], number: u64) -> bool
     is_summable(load(layout, number as usize))
 }
 
+// The scale of the entry of a number.
+fn scale_at(layout: &[u32], number: u64) -> u64
+    ensures { λ r. ⌜ r ≡ scaleAt (now (layout .entry)) number ⌝ }
+{
+    load(layout, number as usize).r as u64
+}
+
 fn pair_ok(layout: &[u32], first: u64, second: u64) -> bool
     ensures { λ r. ⌜ r ≡ pairOk (now (layout .entry)) first second ⌝ }
 {
@@ -97,15 +108,15 @@ fn pair_ok(layout: &[u32], first: u64, second: u64) -> bool
     if !is_summed(layout, second) {
         return false;
     }
-    if load(layout, first as usize).r != load(layout, second as usize).r {
+    if scale_at(layout, first) != scale_at(layout, second) {
         return false;
     }
     first != second
 }
 
-// The number of the question on W and the two entries, or 0.
-fn ask_pair(layout: &[u32], w: u64, first: u64, second: u64) -> u32
-    ensures { λ r. ⌜ r ≡ pairAsks (now (layout .entry)) w first second ⌝ }
+// The number of the question on W, the two entries and the display word, or 0.
+fn ask_pair(layout: &[u32], w: u64, first: u64, second: u64, display: u64) -> u32
+    ensures { λ r. ⌜ r ≡ pairAsks (now (layout .entry)) w first second display ⌝ }
 {
     if w < 1 {
         return 18;
@@ -114,6 +125,9 @@ fn ask_pair(layout: &[u32], w: u64, first: u64, second: u64) -> u32
         return 18;
     }
     if !pair_ok(layout, first, second) {
+        return 18;
+    }
+    if display > scale_at(layout, first) {
         return 18;
     }
     0
@@ -127,16 +141,17 @@ fn ask_window(
     w: u64,
     first: u64,
     second: u64,
+    display: u64,
     words: usize,
     work: usize,
 ) -> u32
-    ensures { λ r. ⌜ r ≡ windowAsks (now (layout .entry)) (now (masks .entry)) page w first second words work ⌝ }
+    ensures { λ r. ⌜ r ≡ windowAsks (now (layout .entry)) (now (masks .entry)) page w first second display words work ⌝ }
 {
     let number = ask_layout(layout, masks, page, work);
     if number != 0 {
         return number;
     }
-    let asked = ask_pair(layout, w, first, second);
+    let asked = ask_pair(layout, w, first, second, display);
     if asked != 0 {
         return asked;
     }
@@ -155,18 +170,18 @@ fn is_small(x: u64) -> bool
     size_of(x) < 1000000000000
 }
 
-// Whether a window is lawful, as one of W pairs.
-fn lawful(window: &[u64], w: usize) -> bool
+// Whether a window is lawful, as one of W pairs whose entries have this scale.
+fn lawful(window: &[u64], w: usize, scale: u64) -> bool
     requires { ⌜ windowWords w ≤ length (now window) ⌝ }
-    ensures { λ r. ⌜ r ≡ lawfulIn w (now (window .entry)) ⌝ }
+    ensures { λ r. ⌜ r ≡ lawfulIn w scale (now (window .entry)) ⌝ }
 {
     if window[0] > w as u64 {
         return false;
     }
-    if window[3] != 0 {
+    if window[3] > scale {
         return false;
     }
-    if window[4] != 0 {
+    if window[4] > 1 {
         return false;
     }
     let n = window[0] as usize;
@@ -264,6 +279,41 @@ fn push(window: &mut [u64], w: usize, a: u64, b: u64)
     );
 }
 
+// ---- what a value contributes
+
+// A size without k digits: cut, or, where the changeover is passed, to the nearest. From k = 20 on no size comes to a half.
+fn without_digits(size: u64, k: u64, passed: bool) -> u64
+    ensures { λ r. ⌜ r ≡ ruled (ruleOf passed) size (10 ^ k) ⌝ }
+{
+    if k > 19 {
+        return 0;
+    }
+    let p = ten_to(k);
+    let q = size / p;
+    if !passed {
+        return q;
+    }
+    let rest = size % p;
+    if goes_up(rest, p - rest, q) {
+        return q + 1;
+    }
+    q
+}
+
+// A value as a window with this display word takes it: itself, or its value at the display scale.
+fn contribution(scale: u64, display: u64, passed: bool, x: u64) -> u64
+    requires { ⌜ display ≤ scale ⌝ }
+    ensures { λ r. ⌜ r ≡ contributed scale display (ruleOf passed) x ⌝ }
+{
+    if display == 0 {
+        return x;
+    }
+    word_of(
+        is_minus(x),
+        without_digits(size_of(x), scale - (display - 1), passed),
+    )
+}
+
 // ---- sums as signed numbers
 
 fn complement(n: i64) -> i64
@@ -306,10 +356,10 @@ fn refused(number: u32) -> Sums
     }
 }
 
-// Question 19 of a pair, and the pair into a lawful window.
-fn take_pair(window: &mut [u64], w: usize, a: u64, b: u64) -> Sums
-    requires { ⌜ (0 < w) × ((w ≤ 4096) × ((windowWords w ≤ length (now window)) × (lawfulIn w (now window) ≡ true))) ⌝ }
-    ensures { λ r. ⌜ PairTaken (pair a b) w (r .number) (r .first) (r .second) (now (window .entry)) (now (window .exit)) ⌝ }
+// Question 19 of a pair, and what it contributes into a lawful window.
+fn take_pair(window: &mut [u64], w: usize, scale: u64, a: u64, b: u64) -> Sums
+    requires { ⌜ (0 < w) × ((w ≤ 4096) × ((windowWords w ≤ length (now window)) × (lawfulIn w scale (now window) ≡ true))) ⌝ }
+    ensures { λ r. ⌜ PairTaken (pair a b) scale w (r .number) (r .first) (r .second) (now (window .entry)) (now (window .exit)) ⌝ }
 {
     if !is_small(a) {
         return refused(19);
@@ -317,7 +367,11 @@ fn take_pair(window: &mut [u64], w: usize, a: u64, b: u64) -> Sums
     if !is_small(b) {
         return refused(19);
     }
-    push(window, w, a, b);
+    let display = window[3];
+    let passed = window[4] == 1;
+    let x = contribution(scale, display, passed, a);
+    let y = contribution(scale, display, passed, b);
+    push(window, w, x, y);
     Sums {
         number: 0,
         first: int_of(window[1]),
@@ -379,8 +433,68 @@ fn read_pair(
 
 // ---- the calls
 
-// Starts a window: zeroes it.
+// Starts a window: zeroes it but for its display word, 0 or a display scale plus 1.
 pub fn window_start(
+    layout: &[u32],
+    masks: &[u8],
+    page: u32,
+    w: u64,
+    first: u64,
+    second: u64,
+    display: u64,
+    window: &mut [u64],
+    counts: &mut [i64],
+) -> u32
+    ensures { λ r. ⌜
+        WindowWritten (windowAsks (now (layout .entry)) (now (masks .entry)) page w first second display (length (now (window .entry))) (length (now (counts .entry))))
+        r (started w display (now (window .entry))) (now (window .entry)) (now (window .exit)) (now (counts .entry)) (now (counts .exit)) ⌝ }
+{
+    let number = ask_window(
+        layout,
+        masks,
+        page,
+        w,
+        first,
+        second,
+        display,
+        window.len(),
+        counts.len(),
+    );
+    clear_counts(counts);
+    if number != 0 {
+        return number;
+    }
+    let n = 5 + w as usize * 2;
+    clear_items(&mut window[..n], 0);
+    window[3] = display;
+    0
+}
+
+// The questions before a record: the number of the first that fails, or 0.
+fn ask_before(
+    layout: &[u32],
+    masks: &[u8],
+    page: u32,
+    w: u64,
+    first: u64,
+    second: u64,
+    window: &[u64],
+    work: usize,
+) -> u32
+    ensures { λ r. ⌜ r ≡ beforeAsks (now (layout .entry)) (now (masks .entry)) page w first second (now (window .entry)) work ⌝ }
+{
+    let number = ask_window(layout, masks, page, w, first, second, 0, window.len(), work);
+    if number != 0 {
+        return number;
+    }
+    if !lawful(window, w as usize, scale_at(layout, first)) {
+        return 24;
+    }
+    0
+}
+
+// Passes a window from cutting to half-even rounding; the pairs that it holds stay.
+pub fn window_change(
     layout: &[u32],
     masks: &[u8],
     page: u32,
@@ -391,48 +505,15 @@ pub fn window_start(
     counts: &mut [i64],
 ) -> u32
     ensures { λ r. ⌜
-        WindowStarted (windowAsks (now (layout .entry)) (now (masks .entry)) page w first second (length (now (window .entry))) (length (now (counts .entry))))
-        w r (now (window .entry)) (now (window .exit)) (now (counts .entry)) (now (counts .exit)) ⌝ }
+        WindowWritten (beforeAsks (now (layout .entry)) (now (masks .entry)) page w first second (now (window .entry)) (length (now (counts .entry))))
+        r (changed (now (window .entry))) (now (window .entry)) (now (window .exit)) (now (counts .entry)) (now (counts .exit)) ⌝ }
 {
-    let number = ask_window(
-        layout,
-        masks,
-        page,
-        w,
-        first,
-        second,
-        window.len(),
-        counts.len(),
-    );
+    let number = ask_before(layout, masks, page, w, first, second, window, counts.len());
     clear_counts(counts);
     if number != 0 {
         return number;
     }
-    let n = 5 + w as usize * 2;
-    clear_items(&mut window[..n], 0);
-    0
-}
-
-// The questions before a record: the number of the first that fails, or 0.
-fn ask_add(
-    layout: &[u32],
-    masks: &[u8],
-    page: u32,
-    w: u64,
-    first: u64,
-    second: u64,
-    window: &[u64],
-    work: usize,
-) -> u32
-    ensures { λ r. ⌜ r ≡ firstOf (windowAsks (now (layout .entry)) (now (masks .entry)) page w first second (length (now (window .entry))) work) (lawfulAsks w (now (window .entry))) ⌝ }
-{
-    let number = ask_window(layout, masks, page, w, first, second, window.len(), work);
-    if number != 0 {
-        return number;
-    }
-    if !lawful(window, w as usize) {
-        return 24;
-    }
+    window[4] = 1;
     0
 }
 
@@ -453,10 +534,10 @@ pub fn window_add(
     ensures { λ r. ⌜
         WindowAdded
         (addedTo (now (layout .entry)) (now (masks .entry)) page (now («record» .entry)) w first second (now (window .entry)) (now (items .entry)) (now (text .entry)) (now (counts .entry)))
-        w (r .number) (r .first) (r .second) (now (window .entry)) (now (window .exit))
+        (scaleAt (now (layout .entry)) first) w (r .number) (r .first) (r .second) (now (window .entry)) (now (window .exit))
         (now (items .entry)) (now (items .exit)) (now (text .entry)) (now (text .exit)) (now (counts .entry)) (now (counts .exit)) ⌝ }
 {
-    let asked = ask_add(layout, masks, page, w, first, second, window, counts.len());
+    let asked = ask_before(layout, masks, page, w, first, second, window, counts.len());
     if asked != 0 {
         clear_items(items, 0);
         clear_text(text, 0);
@@ -477,5 +558,11 @@ pub fn window_add(
     if p.number != 0 {
         return refused(p.number);
     }
-    take_pair(window, w as usize, p.first, p.second)
+    take_pair(
+        window,
+        w as usize,
+        scale_at(layout, first),
+        p.first,
+        p.second,
+    )
 }

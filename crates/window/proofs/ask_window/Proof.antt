@@ -12,7 +12,7 @@ ask-layout-requires : tie.Need-ask-layout-requires
 ask-layout-requires c κs = search needs
 
 returns : tie.Need-returns
-returns c = asks-layout _ _ _ _ _ _ _ _ _ (c .before .ask-layout .ensures) (c .if1 .taken)
+returns c = asks-layout _ _ _ _ _ _ _ _ _ _ (c .before .ask-layout .ensures) (c .if1 .taken)
 
 ask-pair-requires : tie.Need-ask-pair-requires
 ask-pair-requires c κs = search needs
@@ -21,31 +21,31 @@ returns-2 : tie.Need-returns-2
 returns-2 c =
     let at-ask-layout = c .before .before .before .ask-layout in
     let at-if1 = c .before .before .if1 in
-    asks-pair _ _ _ _ _ _ _ _ (sym (at-ask-layout .ensures) ∙ at-if1 .left) _ (c .before .ask-pair .ensures) (c .if2 .taken)
+    asks-pair _ _ _ _ _ _ _ _ _ (sym (at-ask-layout .ensures) ∙ at-if1 .left) _ (c .before .ask-pair .ensures) (c .if2 .taken)
 
 mul-if3 : tie.Need-mul-if3
 mul-if3 c =
     let at-args = c .before .before .before .before .before .before .args in
-    omega (arith, pair-few (at-args .layout .now) (at-args .w) (at-args .first) (at-args .second) (sym (c .before .ask-pair .ensures) ∙ c .if2 .left))
+    omega (arith, pair-few (at-args .layout .now) (at-args .w) (at-args .first) (at-args .second) (at-args .display) (sym (c .before .ask-pair .ensures) ∙ c .if2 .left))
 
 add-if3 : tie.Need-add-if3
 add-if3 c =
     let at-args = c .before .before .before .before .before .before .args in
-    omega (arith, pair-few (at-args .layout .now) (at-args .w) (at-args .first) (at-args .second) (sym (c .before .ask-pair .ensures) ∙ c .if2 .left))
+    omega (arith, pair-few (at-args .layout .now) (at-args .w) (at-args .first) (at-args .second) (at-args .display) (sym (c .before .ask-pair .ensures) ∙ c .if2 .left))
 
 returns-3 : tie.Need-returns-3
 returns-3 c =
     let at-ask-layout = c .before .before .before .before .ask-layout in
     let at-if1 = c .before .before .before .if1 in
     let at-ask-pair = c .before .before .ask-pair in
-    asks-short _ _ _ _ _ _ _ _ (sym (at-ask-layout .ensures) ∙ at-if1 .left) (sym (at-ask-pair .ensures) ∙ c .before .if2 .left) (c .if3 .taken)
+    asks-short _ _ _ _ _ _ _ _ _ (sym (at-ask-layout .ensures) ∙ at-if1 .left) (sym (at-ask-pair .ensures) ∙ c .before .if2 .left) (c .if3 .taken)
 
 returns-4 : tie.Need-returns-4
 returns-4 c =
     let at-ask-layout = c .before .before .before .before .ask-layout in
     let at-if1 = c .before .before .before .if1 in
     let at-ask-pair = c .before .before .ask-pair in
-    asks-nothing _ _ _ _ _ _ _ _ (sym (at-ask-layout .ensures) ∙ at-if1 .left) (sym (at-ask-pair .ensures) ∙ c .before .if2 .left) (c .if3 .left)
+    asks-nothing _ _ _ _ _ _ _ _ _ (sym (at-ask-layout .ensures) ∙ at-if1 .left) (sym (at-ask-pair .ensures) ∙ c .before .if2 .left) (c .if3 .left)
 
 pub ask-window-spec : {M : Type 1} → statement M
 ask-window-spec =

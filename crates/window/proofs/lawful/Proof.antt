@@ -6,22 +6,22 @@ use lib.Dec.{eqb}
 use lib.ListN.{take, getD}
 use borrow.Author.Needs.{needs}
 use borrow.Author.Tests.{not-true, not-false}
-use Rattle.window.proofs.Steps.{not-count, not-third, not-fourth, not-small, not-first, by-second}
+use Rattle.window.proofs.Steps.{not-count, not-display, not-rule, not-small, not-first, by-second}
 use Rattle.window.proofs.Steps.{Judging, judging-starts, judging-first, judging-second, judging-goes, judged-small, judged-first, judged-second}
 use Rattle.window.proofs.lawful.Statement.{statement}
 use Rattle.window.proofs.lawful.Tie as tie
 
 abbrev Inv-loop : tie.InvT-loop
-Inv-loop window w n first₀ second₀ i₀ first second i = Judging window i first second
+Inv-loop window w scale n first₀ second₀ i₀ first second i = Judging window i first second
 
 abbrev μ-loop : tie.MeasureT-loop
-μ-loop window w n first₀ second₀ i₀ first second i = n - i
+μ-loop window w scale n first₀ second₀ i₀ first second i = n - i
 
 shared-slice-read-if1 : tie.Need-shared-slice-read-if1 Inv-loop μ-loop
 shared-slice-read-if1 c = search needs
 
 returns : tie.Need-returns Inv-loop μ-loop
-returns c = not-count _ _ (c .if1 .taken)
+returns c = not-count _ _ _ (c .if1 .taken)
 
 shared-slice-read-if2 : tie.Need-shared-slice-read-if2 Inv-loop μ-loop
 shared-slice-read-if2 c = search needs
@@ -29,7 +29,7 @@ shared-slice-read-if2 c = search needs
 returns-2 : tie.Need-returns-2 Inv-loop μ-loop
 returns-2 c =
     let at-if1 = c .before .before .if1 in
-    not-third _ _ (at-if1 .left) (c .if2 .taken)
+    not-display _ _ _ (at-if1 .left) (c .if2 .taken)
 
 shared-slice-read-if3 : tie.Need-shared-slice-read-if3 Inv-loop μ-loop
 shared-slice-read-if3 c = search needs
@@ -38,7 +38,7 @@ returns-3 : tie.Need-returns-3 Inv-loop μ-loop
 returns-3 c =
     let at-if1 = c .before .before .before .before .if1 in
     let at-if2 = c .before .before .if2 in
-    not-fourth _ _ (at-if1 .left) (at-if2 .left) (c .if3 .taken)
+    not-rule _ _ _ (at-if1 .left) (at-if2 .left) (c .if3 .taken)
 
 shared-slice-read-n : tie.Need-shared-slice-read-n Inv-loop μ-loop
 shared-slice-read-n c = search needs
@@ -77,7 +77,7 @@ returns-4 c =
     let at-if3 = c .before .before .before .before .before .before .before .if3 in
     let at-loop = c .before .before .before .before .before .loop in
     let at-loop-test = c .before .before .before .before .loop-test in
-    not-small _ _ (at-if1 .left) (at-if2 .left) (at-if3 .left)
+    not-small _ _ _ (at-if1 .left) (at-if2 .left) (at-if3 .left)
     (judging-first _ _ _ _ (at-loop .inv) (at-loop-test .taken) _ _ refl refl (sym (c .before .is-small .ensures) ∙ not-true _ (c .if4 .taken)))
 
 is-small-requires-2 : tie.Need-is-small-requires-2 Inv-loop μ-loop
@@ -92,7 +92,7 @@ returns-5 c =
     let at-loop-test = c .before .before .before .before .before .before .loop-test in
     let at-is-small = c .before .before .before .is-small in
     let at-if4 = c .before .before .if4 in
-    not-small _ _ (at-if1 .left) (at-if2 .left) (at-if3 .left)
+    not-small _ _ _ (at-if1 .left) (at-if2 .left) (at-if3 .left)
     (judging-second _ _ _ _ (at-loop .inv) (at-loop-test .taken) _ _ refl refl (sym (at-is-small .ensures) ∙ not-false _ (at-if4 .left))
     (sym (c .before .is-small2 .ensures) ∙ not-true _ (c .if5 .taken)))
 
@@ -129,7 +129,7 @@ returns-6 c =
     let at-if3 = c .before .before .before .before .before .if3 in
     let at-loop = c .before .before .before .loop in
     let at-loop-test = c .before .before .loop-test in
-    not-first _ _ (at-if1 .left) (at-if2 .left) (at-if3 .left) (judged-small _ _ _ _ (at-loop .inv) (at-loop-test .left))
+    not-first _ _ _ (at-if1 .left) (at-if2 .left) (at-if3 .left) (judged-small _ _ _ _ (at-loop .inv) (at-loop-test .left))
     (λ e. c .if6 .taken (e ∙ judged-first _ _ _ _ (at-loop .inv) (at-loop-test .left)))
 
 shared-slice-read-result : tie.Need-shared-slice-read-result Inv-loop μ-loop
@@ -143,7 +143,7 @@ returns-7 c =
     let at-if3 = c .before .before .before .before .before .before .if3 in
     let at-loop = c .before .before .before .before .loop in
     let at-loop-test = c .before .before .before .loop-test in
-    ap (eqb (getD (at-args .window .now) 2 0)) (sym (judged-second _ _ _ _ (at-loop .inv) (at-loop-test .left))) ∙ by-second _ _ (at-if1 .left) (at-if2 .left) (at-if3 .left)
+    ap (eqb (getD (at-args .window .now) 2 0)) (sym (judged-second _ _ _ _ (at-loop .inv) (at-loop-test .left))) ∙ by-second _ _ _ (at-if1 .left) (at-if2 .left) (at-if3 .left)
     (judged-small _ _ _ _ (at-loop .inv) (at-loop-test .left)) (c .before .if6 .left ∙ sym (judged-first _ _ _ _ (at-loop .inv) (at-loop-test .left)))
 
 pub lawful-spec : {M : Type 1} → statement M

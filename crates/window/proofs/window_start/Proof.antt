@@ -1,12 +1,12 @@
--- Refused, or the front cleared with the words behind it kept: `start-refused`, `start-done`.
+-- Refused, or the front cleared with the words behind it kept, and the display word set: `write-refused`, `write-done`, `start-cleared`.
 use mathlib.Core.Path.{refl, sym, _∙_}
 use Prim.Native.Nat.{_-_}
 use native.Mathlib.Omega.{arith}
 use lib.ListN.{length, take, length-take}
-use borrow.Author.Needs.{needs}
 use lib.Seq.{length-take-le}
 use Rattle.window.proofs.Asked.{asks-few, asks-long}
-use Rattle.window.proofs.Parts.{start-refused, start-done}
+use Rattle.window.proofs.Parts.{write-refused, write-done, start-long, start-cleared}
+use borrow.Author.Needs.{needs}
 use Rattle.window.proofs.window_start.Statement.{statement}
 use Rattle.window.proofs.window_start.Tie as tie
 
@@ -23,7 +23,7 @@ returns : tie.Need-returns
 returns c =
     let at-ask-window = c .before .before .before .before .ask-window in
     let at-clear-counts = c .before .before .clear-counts in
-    start-refused _ _ _ _ _ _ (at-ask-window .ensures) (at-clear-counts .ensures) (c .if1 .taken)
+    write-refused _ _ _ _ _ _ (at-ask-window .ensures) (at-clear-counts .ensures) (c .if1 .taken)
 
 mul-n : tie.Need-mul-n
 mul-n c =
@@ -31,7 +31,7 @@ mul-n c =
     let at-ask-window = c .before .before .before .before .ask-window in
     omega (
       arith,
-      asks-few (at-args .layout .now) (at-args .masks .now) (at-args .page) (at-args .w) (at-args .first) (at-args .second) (length (at-args .window .now))
+      asks-few (at-args .layout .now) (at-args .masks .now) (at-args .page) (at-args .w) (at-args .first) (at-args .second) (at-args .display) (length (at-args .window .now))
           (length (at-args .counts .now)) (sym (at-ask-window .ensures) ∙ c .if1 .left),
     )
 
@@ -41,22 +41,29 @@ add-n c =
     let at-ask-window = c .before .before .before .before .ask-window in
     omega (
       arith,
-      asks-few (at-args .layout .now) (at-args .masks .now) (at-args .page) (at-args .w) (at-args .first) (at-args .second) (length (at-args .window .now))
+      asks-few (at-args .layout .now) (at-args .masks .now) (at-args .page) (at-args .w) (at-args .first) (at-args .second) (at-args .display) (length (at-args .window .now))
           (length (at-args .counts .now)) (sym (at-ask-window .ensures) ∙ c .if1 .left),
     )
 
 slice-relend-prefix-clear-items : tie.Need-slice-relend-prefix-clear-items
 slice-relend-prefix-clear-items c =
     let at-ask-window = c .before .before .before .before .ask-window in
-    asks-long _ _ _ _ _ _ _ _ (sym (at-ask-window .ensures) ∙ c .if1 .left)
+    asks-long _ _ _ _ _ _ _ _ _ (sym (at-ask-window .ensures) ∙ c .if1 .left)
 
 slice-aggregate-clear-items : tie.Need-slice-aggregate-clear-items
 slice-aggregate-clear-items c =
     let at-ask-window = c .before .before .before .before .before .ask-window in
-    sym (length-take-le _ _ (asks-long _ _ _ _ _ _ _ _ (sym (at-ask-window .ensures) ∙ c .before .if1 .left)))
+    sym (length-take-le _ _ (asks-long _ _ _ _ _ _ _ _ _ (sym (at-ask-window .ensures) ∙ c .before .if1 .left)))
 
 clear-items-requires : tie.Need-clear-items-requires
 clear-items-requires c κs = search needs
+
+slice-write-window : tie.Need-slice-write-window
+slice-write-window c =
+    let at-ask-window = c .before .before .before .before .before .before .before .before .ask-window in
+    let at-if1 = c .before .before .before .before .if1 in
+    let at-clear-items = c .before .before .clear-items in
+    start-long _ _ _ _ refl (asks-long _ _ _ _ _ _ _ _ _ (sym (at-ask-window .ensures) ∙ at-if1 .left)) (at-clear-items .ensures)
 
 same-length-2 : tie.Need-same-length-2
 same-length-2 c = search needs
@@ -70,8 +77,8 @@ returns-2 c =
     let at-clear-counts = c .before .before .before .before .before .before .clear-counts in
     let at-if1 = c .before .before .before .before .if1 in
     let at-clear-items = c .before .before .clear-items in
-    start-done _ _ _ _ _ _ (at-ask-window .ensures) (at-clear-counts .ensures) (at-if1 .left) _ _ refl (asks-long _ _ _ _ _ _ _ _ (sym (at-ask-window .ensures) ∙ at-if1 .left))
-    (at-clear-items .ensures)
+    write-done _ _ _ _ _ _ (at-ask-window .ensures) (at-clear-counts .ensures) (at-if1 .left) _
+    (start-cleared _ _ _ _ refl (asks-long _ _ _ _ _ _ _ _ _ (sym (at-ask-window .ensures) ∙ at-if1 .left)) (at-clear-items .ensures) _)
 
 pub window-start-spec : {M : Type 1} → statement M
 window-start-spec =
@@ -86,6 +93,7 @@ window-start-spec =
     slice-relend-prefix-clear-items
     slice-aggregate-clear-items
     clear-items-requires
+    slice-write-window
     same-length-2
     same-length-3
     returns-2)

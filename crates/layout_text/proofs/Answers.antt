@@ -6,9 +6,9 @@ use Prim.Native.Nat.{ℕ, zero, _+_, _-_, _*_, _/_, _%_, _≤_, _<_, min}
 use native.Mathlib.Omega.{arith}
 use native.Mathlib.Nat.{sub-zero}
 use lib.Dec.{eqb, leb}
-use lib.ListN.{length, getD, take, drop, replicate, length-replicate, length-append}
-use lib.Seq.{take-append-seam}
+use lib.ListN.{length, getD, take, drop, replicate, length-replicate}
 use Rattle.lists.proofs.Lists.{drop-replicate}
+use Rattle.zeros.proofs.Filled.{in-front}
 use borrow.Author.Tests.{le-leb, eq-eqb, ne-eqb, leb-true, eqb-true}
 use Rattle.spans.specs.Tree.{nested}
 use Rattle.spans.proofs.Tree.{nested-as}
@@ -267,12 +267,6 @@ unfolding refusal
 refusal-other text words masks z = rw (ne-eqb (textChecked text) 0 z) refl
 
 -- ---- for callers: what a text that is accepted leaves in the buffers
-
--- what a buffer holds, to the length of what is given
-pub in-front : (room n : ℕ) (xs given : List ℕ) → n ≡ length given → xs ≡ filled room given → (take n xs ≡ given) × (n ≤ length xs)
-in-front room n xs given k e =
-    let l : length xs ≡ length given + length {A = ℕ} (replicate (room - length given) 0) = ap length e ∙ length-append given (replicate (room - length given) 0) in
-    (ap (λ (m : ℕ). take m xs) k ∙ ap (take (length given)) e ∙ take-append-seam given (replicate (room - length given) 0), omega arith)
 
 module _ (text layout layout′ masks masks′ : List ℕ) (number page words bytes : ℕ) (d : LayoutRead (layoutInto text layout masks) number page words bytes layout layout′ masks masks′) (z : number ≡ 0) where
   accepted : refusal text (length layout) (length masks) ≡ 0

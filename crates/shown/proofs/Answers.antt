@@ -10,7 +10,8 @@ use lib.ListN.{length, take, replicate, length-replicate}
 use Rattle.decode.specs.declared.Reading.{Reading}
 use Rattle.layout_text.specs.Form.{linesOf as textLines}
 use Rattle.layout_text.specs.Reading.{wordsOf, masksOf, pageOf, refusal, layoutInto, LayoutRead}
-use Rattle.layout_text.proofs.Answers.{read-taken, read-refused, number-is-refusal, in-front, page-held, words-held, masks-held}
+use Rattle.zeros.proofs.Filled.{in-front}
+use Rattle.layout_text.proofs.Answers.{read-taken, read-refused, number-is-refusal, page-held, words-held, masks-held}
 use Rattle.walks.specs.Records.{most, Decoded, refused, decodeRecord, numberOf, itemsOf, textsOf, filled, RecordRead}
 use Rattle.shown.specs.Shown.{layoutWords, itemRoom, workWords, tooLong, answerBy, answer, printed, shown, listed, refusedText}
 

@@ -196,7 +196,7 @@ module _ (masks source : List ℕ) where
 
 -- ---- whole lists
 
-same-is : (xs ys : List ℕ) → same xs ys ≡ true → xs ≡ ys
+pub same-is : (xs ys : List ℕ) → same xs ys ≡ true → xs ≡ ys
 same-is [] [] h = refl
 same-is [] (y ∷ ys) h = absurd (false≢true h)
 same-is (x ∷ xs) [] h = absurd (false≢true h)
@@ -204,7 +204,7 @@ same-is (x ∷ xs) (y ∷ ys) h =
     let a = both (eqb x y) (same xs ys) h in
     ap (λ (n : ℕ). n ∷ xs) (eqb-true x y (a .0)) ∙ ap (λ (l : List ℕ). y ∷ l) (same-is xs ys (a .1))
 
-same-self : (xs : List ℕ) → same xs xs ≡ true
+pub same-self : (xs : List ℕ) → same xs xs ≡ true
 same-self [] = refl
 same-self (x ∷ xs) = rw (eq-eqb x x refl) (same-self xs)
 

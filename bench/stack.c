@@ -1,6 +1,7 @@
 /* The deepest stack of each call: the stack below is painted, the call is made, and what is no longer paint is counted. Groups to eight levels, a field of
  * every kind in the innermost; the writer is given the list that was read, then values that it has to convert; two Decimals behind the groups are summed in a
- * window; the layout's text has 512 entries. */
+ * window; a record whose fields stand apart is converted to the other page, with tables of one for its groups and the last field, so that the lists compared
+ * are as deep as a layout's can be; the layout's text has 512 entries. */
 #include "../include/fixedformat.h"
 #include <stdio.h>
 #include <string.h>
@@ -11,8 +12,8 @@
 static uint32_t words[512 * 12];
 static uint8_t masks[4096];
 static uint8_t record[4096];
-static uint64_t items[8192];
-static uint8_t text[4096];
+static uint64_t items[8192], back_items[8192];
+static uint8_t text[4096], back_text[4096], made[4096];
 static int64_t counts[1024];
 static char form[131072];
 static size_t used, formed;
@@ -22,6 +23,19 @@ static void entry(uint32_t name, uint32_t offset, uint32_t width, uint32_t kind,
     uint32_t w[12] = {name, offset, width, kind, 0xFFFFFFFFu, 0xFFFFFFFFu, span, p, q, r, 0, 0};
     memcpy(words + used, w, sizeof w);
     used += 12;
+}
+
+/* One field of each kind: name, offset, offset where they stand apart, width, kind, p, q, r. */
+static const uint32_t leaf[13][8] = {
+    {20, 0, 0, 8, 0, 0, 1, 32}, {21, 0, 8, 4, 1, 1, 2, 0},   {22, 0, 12, 4, 2, 0, 1, 0}, {23, 0, 16, 2, 3, 0, 16, 0}, {24, 0, 18, 4, 3, 1, 32, 0},
+    {25, 0, 22, 8, 3, 0, 64, 0}, {26, 0, 30, 8, 4, 0, 0, 0}, {27, 0, 38, 1, 5, 0, 0, 0}, {28, 0, 39, 5, 7, 0, 1, 2},  {29, 8, 44, 5, 7, 1, 1, 2},
+    {30, 16, 49, 5, 7, 2, 1, 2}, {31, 24, 54, 7, 8, 1, 0, 2}, {32, 32, 61, 4, 1, 1, 1, 0}};
+
+static void leaves(int apart)
+{
+    size_t i;
+    for (i = 0; i < 13; i++)
+        entry(leaf[i][0], leaf[i][1 + apart], leaf[i][3], leaf[i][4], 1, leaf[i][5], leaf[i][6], leaf[i][7]);
 }
 
 static void lines(uint32_t name, uint32_t width, uint32_t kind, const char *depending, uint32_t span, uint32_t p, uint32_t r, const char *mask)
@@ -57,6 +71,7 @@ static __attribute__((noinline)) void encode(void) { number = ff_encode_record(w
 static __attribute__((noinline)) void window_start(void) { number = ff_window_start(words, used, masks, 64, page, 4, used / 12 - 2, used / 12 - 1, 1, window, 13, counts, 1024); }
 static __attribute__((noinline)) void window_change(void) { number = ff_window_change(words, used, masks, 64, page, 4, used / 12 - 2, used / 12 - 1, window, 13, counts, 1024); }
 static __attribute__((noinline)) void window_add(void) { number = ff_window_add(words, used, masks, 64, page, record, 4096, 4, used / 12 - 2, used / 12 - 1, window, 13, items, 8192, text, 4096, counts, 1024, &one, &two); }
+static __attribute__((noinline)) void convert_record(void) { number = ff_convert_record(words, used, masks, 64, page, record, 4096, words, used, masks, 64, 1 - page, made, 4096, items, 8192, text, 4096, back_items, 8192, back_text, 4096, counts, 1024, &a); }
 static __attribute__((noinline)) void read_layout(void) { number = ff_read_layout((const uint8_t *)form, formed, words, 512 * 12, masks, 4096, &page, &a, &b); }
 
 static void measure(const char *name, void (*call)(void))
@@ -101,19 +116,7 @@ int main(void)
         used = 0;
         for (level = 0; level < 7; level++)
             entry(level, 0, 64, 9, 20 - level, 0, 0, 0);
-        entry(20, 0, 8, 0, 1, 0, 1, 32);
-        entry(21, 0, 4, 1, 1, 1, 2, 0);
-        entry(22, 0, 4, 2, 1, 0, 1, 0);
-        entry(23, 0, 2, 3, 1, 0, 16, 0);
-        entry(24, 0, 4, 3, 1, 1, 32, 0);
-        entry(25, 0, 8, 3, 1, 0, 64, 0);
-        entry(26, 0, 8, 4, 1, 0, 0, 0);
-        entry(27, 0, 1, 5, 1, 0, 0, 0);
-        entry(28, 0, 5, 7, 1, 0, 1, 2);
-        entry(29, 8, 5, 7, 1, 1, 1, 2);
-        entry(30, 16, 5, 7, 1, 2, 1, 2);
-        entry(31, 24, 7, 8, 1, 1, 0, 2);
-        entry(32, 32, 4, 1, 1, 1, 1, 0);
+        leaves(0);
         memset(record, page ? 0xF0 : '0', sizeof record);
         memcpy(record + 8, "\x12\x34\x56\x78\x9C", 5);
         record[35] = page ? 0xD1 : 'J';
@@ -130,6 +133,16 @@ int main(void)
         measure("window_start", window_start);
         measure("window_change", window_change);
         measure("window_add", window_add);
+        used = 0;
+        for (level = 0; level < 7; level++) {
+            entry(level, 0, 65, 9, 20 - level, 0, 0, 0);
+            words[used - 8] = 1;
+        }
+        leaves(1);
+        words[used - 8] = 1;
+        memset(record, page ? 0xF0 : '0', sizeof record);
+        memcpy(record + 44, "\x12\x34\x56\x78\x9C", 5);
+        measure("convert_record", convert_record);
     }
     formed = (size_t)sprintf(form, "page=0\n");
     for (level = 0; level < 7; level++)

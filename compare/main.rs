@@ -4,6 +4,7 @@
 
 mod cases;
 mod check;
+mod convert;
 mod embedded;
 mod records;
 mod store;
@@ -43,6 +44,8 @@ fn main() {
     step("plain layouts, fitting lists", &tally);
     windows::random(&mut tally, records.max(200_000), seed);
     step("windows", &tally);
+    convert::random(&mut tally, records.max(200_000), seed);
+    step("records converted", &tally);
     if !tally.print(cases, seed) {
         std::process::exit(1);
     }

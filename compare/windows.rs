@@ -197,25 +197,25 @@ fn given(c: &Call, at: Places) -> Result<(i128, i128), u32> {
 // ---- lent buffers
 
 /// So many cells between guards; all of them hold anything.
-struct Lent<T> {
+pub struct Lent<T> {
     cells: Vec<T>,
     guard: T,
 }
 
 impl<T: Copy + PartialEq> Lent<T> {
-    fn new(n: usize, dirt: T, guard: T) -> Lent<T> {
+    pub fn new(n: usize, dirt: T, guard: T) -> Lent<T> {
         let mut cells = vec![dirt; n + 8];
         cells[..4].fill(guard);
         cells[n + 4..].fill(guard);
         Lent { cells, guard }
     }
-    fn at(&mut self) -> *mut T {
+    pub fn at(&mut self) -> *mut T {
         self.cells[4..].as_mut_ptr()
     }
-    fn inner(&self) -> &[T] {
+    pub fn inner(&self) -> &[T] {
         &self.cells[4..self.cells.len() - 4]
     }
-    fn guarded(&self) -> bool {
+    pub fn guarded(&self) -> bool {
         let n = self.cells.len();
         self.cells[..4].iter().chain(&self.cells[n - 4..]).all(|&x| x == self.guard)
     }

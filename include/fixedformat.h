@@ -66,6 +66,18 @@ uint32_t ff_window_add(const uint32_t *layout, size_t layout_len, const uint8_t 
                        uint64_t *items, size_t items_len, uint8_t *text, size_t text_len, int64_t *counts, size_t counts_len,
                        int64_t *first_sum, int64_t *second_sum);
 
+/* Converts a record under the old layout and page into a record under the new ones: reads the old record, writes the new one from that list, reads it back, and
+ * compares every item read back with the first of its name in the old list: an Int or Decimal by its exact value, whatever the scales, a Text by its bytes, a Bool, a
+ * Float by its bits and never a NaN, a List or Struct member by member, with the members' names. So a minus, a digit or an element that the new layout would lose is
+ * a refusal. Both layouts number their names alike; every top-level name of the new one but its Pads' stands in the old one. counts has two words for each
+ * entry of the longer layout. items, text, back_items, back_text and counts are work space: they hold zeros after the call.
+ * Asks what ff_decode_record asks of the old layout, then what ff_encode_record asks of the new one, then 16 (place to read the new record back), then 20. */
+uint32_t ff_convert_record(const uint32_t *old_layout, size_t old_layout_len, const uint8_t *old_masks, size_t old_masks_len, uint32_t old_page,
+                           const uint8_t *old_record, size_t old_record_len, const uint32_t *new_layout, size_t new_layout_len,
+                           const uint8_t *new_masks, size_t new_masks_len, uint32_t new_page, uint8_t *new_record, size_t new_record_len,
+                           uint64_t *items, size_t items_len, uint8_t *text, size_t text_len, uint64_t *back_items, size_t back_items_len,
+                           uint8_t *back_text, size_t back_text_len, int64_t *counts, size_t counts_len, uint64_t *record_length);
+
 /* Puts the translated bytes of one unrepeated Text entry (twelve words) at the front of scratch, zeros behind them, with how many scratch bytes there are.
  * Asks 1, 2, 4, 7, 16. */
 uint32_t ff_translate_text(const uint32_t *layout, size_t layout_len, uint32_t page, const uint8_t *record, size_t record_len,

@@ -8,6 +8,7 @@ ghost use lib.ListN.{length};
 ghost use Rattle.window.specs.Window.{started, changed};
 ghost use Rattle.window.specs.Pair.{scaleAt};
 ghost use Rattle.window.specs.Calls.{windowAsks, beforeAsks, WindowWritten, addedTo, WindowAdded};
+ghost use Rattle.convert.specs.Calls.{convertedInto, RecordConverted};
 
 // Reads a layout's text form.
 #[no_mangle]
@@ -205,5 +206,49 @@ pub extern "C" fn ff_window_add(
     let two = r.second;
     *first_sum = one;
     *second_sum = two;
+    r.number
+}
+
+// Converts a record under one layout into a record under another.
+#[no_mangle]
+pub extern "C" fn ff_convert_record(
+    old_layout: &[u32],
+    old_masks: &[u8],
+    old_page: u32,
+    old_record: &[u8],
+    new_layout: &[u32],
+    new_masks: &[u8],
+    new_page: u32,
+    new_record: &mut [u8],
+    items: &mut [u64],
+    text: &mut [u8],
+    back_items: &mut [u64],
+    back_text: &mut [u8],
+    counts: &mut [i64],
+    record_length: &mut u64,
+) -> u32
+    ensures { λ r. ⌜
+        RecordConverted
+        (convertedInto (now («old_layout» .entry)) (now («old_masks» .entry)) «old_page» (now («old_record» .entry)) (now («new_layout» .entry)) (now («new_masks» .entry)) «new_page»
+        (now («new_record» .entry)) (now (items .entry)) (now (text .entry)) (now («back_items» .entry)) (now («back_text» .entry)) (now (counts .entry)))
+        r (now («record_length» .exit)) (now («new_record» .entry)) (now («new_record» .exit)) (now (items .entry)) (now (items .exit)) (now (text .entry)) (now (text .exit))
+        (now («back_items» .entry)) (now («back_items» .exit)) (now («back_text» .entry)) (now («back_text» .exit)) (now (counts .entry)) (now (counts .exit)) ⌝ }
+{
+    let r = convert::convert_record(
+        old_layout,
+        old_masks,
+        old_page,
+        old_record,
+        new_layout,
+        new_masks,
+        new_page,
+        new_record,
+        items,
+        text,
+        back_items,
+        back_text,
+        counts,
+    );
+    *record_length = r.length as u64;
     r.number
 }

@@ -203,7 +203,7 @@ fn null_ok(a: u64, b: u64) -> bool
 }
 
 // Whether a text of length b from a on is inside the buffer.
-fn text_ok(text: usize, a: u64, b: u64) -> bool
+pub fn text_ok(text: usize, a: u64, b: u64) -> bool
     ensures { λ r. ⌜ r ≡ textOk text a b ⌝ }
 {
     let n = text as u64;

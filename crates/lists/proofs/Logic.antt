@@ -1,6 +1,9 @@
--- Two tests together: each from both, both from each.
+-- Two tests together: each from both, both from each, either first; two tests of numbers that pass together.
 use mathlib.Core.Path.{_≡_, refl, sym}
 use mathlib.Core.Bool.{Bool, true, false, false≢true, _&&_, _||_}
+use Prim.Native.Nat.{ℕ}
+use lib.Dec.{eqb}
+use borrow.Author.Tests.{eq-eqb, ne-eqb, eqb-true, eqb-false}
 
 pub and-left : (a b : Bool) → (a && b) ≡ true → a ≡ true
 and-left true b h = refl
@@ -28,3 +31,23 @@ or-right false b h = h
 pub or-else : (a b : Bool) → a ≡ false → (a || b) ≡ true → b ≡ true
 or-else true b f h = absurd (false≢true (sym f))
 or-else false b f h = h
+
+-- ---- either first
+
+pub and-swap : (a b : Bool) → (a && b) ≡ (b && a)
+and-swap true true = refl
+and-swap true false = refl
+and-swap false true = refl
+and-swap false false = refl
+
+-- ---- two tests of numbers
+
+pub alike : (a b c d : ℕ) → (a ≡ b → c ≡ d) → (c ≡ d → a ≡ b) → eqb a b ≡ eqb c d
+alike a b c d f g = go (eqb a b) refl
+  where
+    go : (t : Bool) → eqb a b ≡ t → t ≡ eqb c d
+    go true e = sym (eq-eqb c d (f (eqb-true a b e)))
+    go false e = sym (ne-eqb c d (λ k. eqb-false a b e (g k)))
+
+pub eqb-swap : (a b : ℕ) → eqb a b ≡ eqb b a
+eqb-swap a b = alike a b b a sym sym

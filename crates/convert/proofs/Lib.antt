@@ -1,0 +1,5 @@
+pub mod Laws
+pub mod Turns
+pub mod Exact
+pub mod Calls
+pub mod Accepted

@@ -2,15 +2,15 @@
 use mathlib.Core.Path.{_≡_, refl, sym, ap, _∙_, subst}
 use mathlib.Core.Bool.{Bool, true, false, not, _&&_, _||_, cond, false≢true}
 use Prim.Native.Nat.{ℕ, zero, suc, _+_, _-_, _*_, _/_, _%_, _^_, _≤_, _<_}
-use native.Mathlib.Nat.{lt-of-lt-of-le, mul-one, mul-assoc, mul-mul-mul-comm, mod-lt, mod-eq-of-lt}
+use native.Mathlib.Nat.{mul-one, mul-assoc, mul-mul-mul-comm, mod-lt, mod-eq-of-lt}
 use native.Mathlib.Omega.{arith}
 use native.Mathlib.Decide.{decLt}
-use lib.Dec.{T, leb, ltb, eqb}
-use lib.Pow.{pow-add, pow-pos, pow-mono, shl-lt}
+use lib.Dec.{T, leb, ltb, eqb, lit<}
+use lib.Pow.{pow-add, pow-pos}
 use lib.Ieee.{Float, nan, inf, fin, Format, binary32, binary64, prec, low, up, down, odd, round, isNan, nanBits, fits, hid, ones, top, ofFields, ofBits, toBits}
 use lib.Ieee.Bits.{ofBits-toBits, toBits-ofBits, toBits-lt, ofBits-fits, nanBits-is}
 use lib.Ieee.Fits.{fits-widens, round-fits}
-use lib.Ieee.Exact.{HasValue, round-exact}
+use lib.Ieee.Exact.{HasValue}
 use borrow.Author.Tests.{lt-leb, le-leb, leb-true, leb-false, eqb-true, eqb-false, ne-eqb, eq-eqb, lt-ltb, le-ltb, ltb-true, not-true}
 use Rattle.lists.proofs.Logic.{both}
 use Rattle.value.specs.Scalar.{floatOf}
@@ -19,10 +19,11 @@ use Rattle.binary.proofs.Words.{word-back, bytes-length}
 use Rattle.value.specs.Answer.{given}
 use Rattle.float.specs.Half.{sig, finite16, fields16, halfWord}
 use Rattle.float.specs.Single.{narrow, singleWord, wideWord, cutSize, cut, cutWord}
+use Rattle.float.specs.Narrow.{signAt}
 use Rattle.float.specs.Field.{wordFor, patternFor, floatIn, floatBytes, plainHalf, Exact, exact64, exact32, exact16, exactIn}
 use Rattle.float.proofs.Values.{same-bits}
-use Rattle.float.proofs.Fields.{pattern-value, pattern-top, sig-lt}
-use Rattle.float.proofs.Narrow.{narrow-value}
+use Rattle.float.proofs.Fields.{pattern-value, pattern-top}
+use Rattle.float.proofs.Narrow.{value-kept, single-pattern}
 
 -- ---- binary32
 
@@ -33,23 +34,21 @@ not-nan f v e = subst (λ (b : Bool). T (not b)) (sym (sym (nanBits-is f v) ∙ 
 same-number : (v : ℕ) → ofBits binary64 (wideWord v) ≡ ofBits binary32 v
 same-number v = ofBits-toBits binary64 (ofBits binary32 v) (fits-widens (ofBits binary32 v) (ofBits-fits binary32 v))
 
--- below the infinity
-finite-kept : (v : ℕ) → v < 2 ^ 32 → v % 2 ^ 31 / 2 ^ 23 < 255 → T (not (isNan (ofBits binary32 v))) → singleWord (wideWord v) ≡ v
-finite-kept v h k n =
-    let x = v % 2 ^ 31 / 2 ^ 23 in
-    let m = sig (2 ^ 23) x (v % 2 ^ 23) in
-    let s = leb (2 ^ 31) v in
-    let val = pattern-value binary32 v k in
-    let m-lt : m < 2 ^ 24 = sig-lt (2 ^ 23) x (v % 2 ^ 23) (mod-lt v (pow-pos 23)) in
-    ap (λ (y : Float). toBits binary32 (narrow y)) (same-number v)
-    ∙ ap (toBits binary32) (narrow-value (ofBits binary32 v) s (m * 2 ^ (x - 1)) (2 ^ 149) (pow-pos 149) val)
-    ∙ same-bits binary32 (round binary32 s (m * 2 ^ (x - 1)) (2 ^ 149)) (ofBits binary32 v) s (m * 2 ^ (x - 1)) (2 ^ 149) (pow-pos 149)
-    (round-exact binary32 s (m * 2 ^ (x - 1)) (2 ^ 149) m (x - 1) (pow-pos 149) m-lt (lt-of-lt-of-le (shl-lt 24 (x - 1) m-lt) (pow-mono (reach x k))) refl)
-    val
-    ∙ toBits-ofBits binary32 v h n
+-- the sign's weight, the field and the digits
+parts-32 : (v : ℕ) → v < 2 ^ 32 → signAt 24 255 (leb (2 ^ 31) v) + (v % 2 ^ 31 / 2 ^ 23 * 2 ^ 23 + v % 2 ^ 23) ≡ v
+parts-32 v h = go (leb (2 ^ 31) v) refl
   where
-    reach : (x : ℕ) → x < 255 → 24 + (x - 1) ≤ 277
-    reach x k = omega arith
+    go : (s : Bool) → leb (2 ^ 31) v ≡ s → signAt 24 255 s + (v % 2 ^ 31 / 2 ^ 23 * 2 ^ 23 + v % 2 ^ 23) ≡ v
+    go true e = let l = leb-true (2 ^ 31) v e in omega arith
+    go false e = let l = leb-false (2 ^ 31) v e in omega arith
+
+-- below the infinity
+finite-kept : (v : ℕ) → v < 2 ^ 32 → v % 2 ^ 31 / 2 ^ 23 < 255 → singleWord (wideWord v) ≡ v
+finite-kept v h k =
+    ap (λ (y : Float). toBits binary32 (narrow y)) (same-number v)
+    ∙ single-pattern (ofBits binary32 v)
+    ∙ value-kept 24 149 255 (ofBits binary32 v) (leb (2 ^ 31) v) (v % 2 ^ 31 / 2 ^ 23) (v % 2 ^ 23) (lit< tt) k (mod-lt v (pow-pos 23)) (pattern-value binary32 v k)
+    ∙ parts-32 v h
 
 narrow-top : (z s : Bool) (y : Float) → y ≡ cond z (inf s) nan → narrow y ≡ y
 unfolding narrow
@@ -64,7 +63,7 @@ single-kept v h n = go (decLt (v % 2 ^ 31 / 2 ^ 23) 255)
     highest v k = omega arith
 
     go : Dec (v % 2 ^ 31 / 2 ^ 23 < 255) → singleWord (wideWord v) ≡ v
-    go (yes k) = finite-kept v h k (not-nan binary32 v n)
+    go (yes k) = finite-kept v h k
     go (no k) =
         ap (λ (y : Float). toBits binary32 (narrow y)) (same-number v)
         ∙ ap (toBits binary32) (narrow-top (eqb (v % 2 ^ 23) 0) (leb (2 ^ 31) v) (ofBits binary32 v) (pattern-top binary32 v (highest v k)))

@@ -5,6 +5,8 @@ pub mod Rule
 pub mod Rounding
 pub mod Patterns
 pub mod Scalars
+pub mod Units
+pub mod Nearest
 pub mod Narrow
 pub mod Bytes
 pub mod Back

@@ -1,26 +1,70 @@
--- An f64 at binary32: what `round` keeps and drops, and the bits of what it makes.
+-- An f64 in a narrow format: `narrowed` sees only a fraction's value; binary32's `round` and `toBits` are `narrowed` at 24 digits; and of an f64's fields it is the rounding that the code does.
 use mathlib.Core.Path.{_≡_, refl, sym, ap, _∙_, subst}
 use mathlib.Core.Logic.{inl, inr}
 use mathlib.Core.Bool.{Bool, true, false, cond}
-use Prim.Native.Nat.{ℕ, suc, _+_, _-_, _*_, _/_, _%_, _^_, _≤_, _<_, min, compare}
-use native.Mathlib.Nat.{le-antisymm, le-trans, le-of-eq, lt-of-lt-of-le, lt-of-le-of-lt, lt-of-not-le, lt-irrefl, mul-one, mul-comm, mul-assoc, mul-right-comm, mul-pos, mul-le-mul-right, mul-le-mul-left, mul-lt-mul-of-pos-right, mul-div-cancel, div-one, le-div-iff-mul-le, div-lt-iff-lt-mul, eq-or-lt-of-le, pow-succ', add-assoc, zero-add}
+use Prim.Native.Nat.{ℕ, zero, suc, _+_, _-_, _*_, _/_, _%_, _^_, _≤_, _<_, min}
+use native.Mathlib.Nat.{le-antisymm, le-trans, le-of-eq, lt-of-lt-of-le, lt-of-le-of-lt, lt-of-not-le, lt-irrefl, mul-one, mul-comm, mul-assoc, mul-right-comm, mul-pos, mul-le-mul-right, mul-lt-mul-of-pos-right, mul-div-cancel, div-one, le-div-iff-mul-le, div-lt-iff-lt-mul, eq-or-lt-of-le, eq-of-mul-eq-mul-right, pow-succ', add-assoc, add-mul, suc-mul, one-mul, zero-lt-suc, min-eq-left, min-eq-right, min-le-right, mul-le-mul}
+use native.Mathlib.Decide.{decLt}
 use native.Mathlib.Omega.{arith}
 use lib.Dec.{ltb, leb, eqb, lit≤, lit<}
 use lib.Pow.{pow-add, pow-pos, pow-mono, shl-lt}
 use lib.Ieee.{Float, nan, inf, fin, binary32, binary64, up, down, size, odd, units, round, ofBits, toBits}
 use lib.Ieee.Digits.{size-lt, size-le}
-use lib.Ieee.Fits.{down-pos, nearest-le, round-is, round-fits}
-use lib.Ieee.Bits.{toBits-lt}
+use lib.Ieee.Fits.{down-pos, round-is}
 use lib.Ieee.Exact.{HasValue, odd-sign}
-use lib.Ieee.Nearest.{closest, closest-same, nearest-ge, div-same}
-use lib.Ieee.Scale.{round-same}
-use borrow.Author.Tests.{ltb-true, ltb-false, lt-ltb}
+use lib.Ieee.Nearest.{div-same}
+use borrow.Author.Tests.{ltb-true, ltb-false, lt-ltb, eq-eqb, ne-eqb}
 use Rattle.value.specs.Rounding.{rounded}
 use Rattle.float.specs.Half.{sig}
-use Rattle.float.specs.Single.{narrow, singleWord, singleSize}
-use Rattle.float.proofs.Rule.{rounded-closest}
-use Rattle.float.proofs.Fields.{pattern-value, pattern-top, field-lt}
+use Rattle.float.specs.Single.{narrow}
+use Rattle.float.specs.Narrow.{NarrowFormat, unitsOf, narrowed, infinityAt, nanAt, signAt, patternOf, PatternNearest, SinglePattern}
+use Rattle.float.proofs.Rule.{rounded-closest, rounded-same, rounded-le, rounded-ge}
+use Rattle.float.proofs.Units.{fields-units}
+use Rattle.float.proofs.Nearest.{twice, same-units, kept-le, kept-ge, nearest-narrowed}
+use Rattle.float.proofs.Fields.{pattern-value, pattern-top}
 use Rattle.float.proofs.Values.{bitsAt, bits-of-value}
+
+-- ---- a fraction's value alone counts
+pub narrowed-same : (p i a b c d : ℕ) → 0 < b → 0 < d → a * d ≡ c * b → narrowed p i a b ≡ narrowed p i c d
+unfolding narrowed
+narrowed-same p i a b c d B D e =
+    let k = size (c / d) - p in
+    let f : a * (d * 2 ^ k) ≡ c * (b * 2 ^ k) = sym (mul-assoc a d (2 ^ k)) ∙ ap (λ (z : ℕ). z * 2 ^ k) e ∙ mul-assoc c b (2 ^ k) in
+    ap (λ (z : ℕ). min ((size z - p) * 2 ^ (p - 1) + rounded a (b * 2 ^ (size z - p))) i) (div-same a b c d B D e)
+    ∙ ap (λ (z : ℕ). min (k * 2 ^ (p - 1) + z) i) (rounded-same a (b * 2 ^ k) c (d * 2 ^ k) (mul-pos B (pow-pos k)) (mul-pos D (pow-pos k)) f)
+
+pub of-value : (p low ones : ℕ) (y : Float) (s : Bool) (a c : ℕ) → 0 < c → HasValue y s a c → patternOf p low ones y ≡ signAt p ones s + narrowed p (infinityAt p ones) (a * 2 ^ low) c
+unfolding patternOf
+of-value p low ones nan s a c C v = absurd v
+of-value p low ones (inf t) s a c C v = absurd v
+of-value p low ones (fin t m e) s a c C v =
+    let n = m * up e * 2 ^ low in
+    let f : n * c ≡ a * 2 ^ low * down e = mul-right-comm (m * up e) (2 ^ low) c ∙ ap (λ (z : ℕ). z * 2 ^ low) (v .1) ∙ mul-right-comm a (down e) (2 ^ low) in
+    ap (λ (z : Bool). signAt p ones z + narrowed p (infinityAt p ones) n (down e)) (v .0)
+    ∙ ap (λ (z : ℕ). signAt p ones s + z) (narrowed-same p (infinityAt p ones) n (down e) (a * 2 ^ low) c (down-pos e) C f)
+
+pub pattern-nearest : PatternNearest
+pattern-nearest p low ones y s a c b P C v x = of-value p low ones y s a c C v ∙ ap (λ (z : ℕ). signAt p ones s + z) (nearest-narrowed p (infinityAt p ones) (a * 2 ^ low) c b P C x)
+
+-- what a pattern stands for has that pattern
+pub own-pattern : (p i b d : ℕ) → 1 < p → 0 < d → b ≤ i → narrowed p i (unitsOf p b * d) d ≡ b
+own-pattern p i b d P D l =
+    nearest-narrowed p i (unitsOf p b * d) d b P D
+    (record {
+      within = l;
+      least = λ c k. omega arith;
+      even = λ c k x t. let e : unitsOf p c * d ≡ unitsOf p b * d = omega arith in absurd (x (same-units p c b (eq-of-mul-eq-mul-right d D (unitsOf p c) (unitsOf p b) e)));
+    })
+
+pub value-kept : (p low ones : ℕ) (y : Float) (s : Bool) (e t : ℕ) → 1 < p → e < ones → t < 2 ^ (p - 1) → HasValue y s (sig (2 ^ (p - 1)) e t * 2 ^ (e - 1)) (2 ^ low)
+    → patternOf p low ones y ≡ signAt p ones s + (e * 2 ^ (p - 1) + t)
+value-kept p low ones y s e t P E l v =
+    let b = e * 2 ^ (p - 1) + t in
+    let i = infinityAt p ones in
+    let m : suc e * 2 ^ (p - 1) ≤ i = mul-le-mul-right (2 ^ (p - 1)) E in
+    of-value p low ones y s _ (2 ^ low) (pow-pos low) v
+    ∙ ap (λ (n : ℕ). signAt p ones s + narrowed p i (n * 2 ^ low) (2 ^ low)) (sym (fields-units p e t l))
+    ∙ ap (λ (n : ℕ). signAt p ones s + n) (own-pattern p i b (2 ^ low) P (pow-pos low) (omega (arith, suc-mul e (2 ^ (p - 1)))))
 
 -- ---- a number's digits
 size-exact : (a n : ℕ) → 2 ^ a ≤ n → n < 2 ^ suc a → size n ≡ suc a
@@ -129,147 +173,146 @@ at-zero s q hi = go (ltb q (2 ^ 23)) refl
     go true e = units-bits s q 0 ∙ units-low s q (ltb-true q (2 ^ 23) e)
     go false e = above s q 0 (ltb-false q (2 ^ 23) e) hi
 
--- ---- what `round` makes of m * 2 ^ j * 2 ^ -1074, m below 2 ^ 53
+-- ---- so, what `round` makes of a fraction
+of-units : (s : Bool) (q k : ℕ) → (0 < k → 2 ^ 23 ≤ q) → q ≤ 2 ^ 24 → toBits binary32 (units binary32 s q k) ≡ pattern s q k
+of-units s q zero lo hi = at-zero s q hi
+of-units s q (suc k) lo hi = above s q (suc k) (lo (zero-lt-suc k)) hi
+
+of-round : (s : Bool) (a c : ℕ) → 0 < c → toBits binary32 (round binary32 s a c) ≡ signAt 24 255 s + narrowed 24 (255 * 2 ^ 23) (a * 2 ^ 149) c
+unfolding narrowed
+of-round s a c C =
+    let n = a * 2 ^ 149 in
+    let k = size (n / c) - 24 in
+    ap (toBits binary32) (round-is binary32 s a c)
+    ∙ ap (λ (q : ℕ). toBits binary32 (units binary32 s q k)) (sym (rounded-closest n (c * 2 ^ k) (mul-pos C (pow-pos k))))
+    ∙ of-units s (rounded n (c * 2 ^ k)) k (kept-ge 24 n c (lit< tt) C) (kept-le 24 n c (lit< tt) C)
+
+pub single-pattern : SinglePattern
+unfolding narrow patternOf toBits
+single-pattern nan = refl
+single-pattern (inf s) = refl
+single-pattern (fin s m e) = of-round s (m * up e) (down e) (down-pos e)
+
+-- ---- the ways of the code: no digit is dropped, or j of them
+
 join : (m a b : ℕ) → m * 2 ^ a * 2 ^ b ≡ m * 2 ^ (a + b)
 join m a b = mul-assoc m (2 ^ a) (2 ^ b) ∙ ap (λ (z : ℕ). m * z) (sym (pow-add 2 a b))
 
--- 24 of the 53 digits are kept
-digits : (m k : ℕ) → 2 ^ 52 ≤ m → m < 2 ^ 53 → size (m * 2 ^ k / 2 ^ 29) - 24 ≡ k
-digits m k lo hi =
-    ap (λ (z : ℕ). z - 24)
-    (size-exact (23 + k) (m * 2 ^ k / 2 ^ 29)
-    (le-div-iff-mul-le (pow-pos 29) .1 (le-trans (le-of-eq (ap (λ (z : ℕ). z * 2 ^ 29) (pow-add 2 23 k) ∙ mul-right-comm (2 ^ 23) (2 ^ k) (2 ^ 29))) (mul-le-mul-right (2 ^ k) lo)))
-    (div-lt-iff-lt-mul (pow-pos 29) .1
-    (lt-of-lt-of-le (mul-lt-mul-of-pos-right hi (pow-pos k)) (le-of-eq (sym (ap (λ (z : ℕ). 2 ^ z * 2 ^ 29) (more k) ∙ ap (λ (z : ℕ). z * 2 ^ 29) (pow-add 2 24 k) ∙ mul-right-comm (2 ^ 24) (2 ^ k) (2 ^ 29)))))))
-    ∙ past-24 k
-  where
-    more : (k : ℕ) → suc (23 + k) ≡ 24 + k
-    more k = omega arith
+narrowed-low : (p i n d : ℕ) → 0 < d → n < 2 ^ p * d → 2 ^ p ≤ i → rounded n d ≡ narrowed p i n d
+unfolding narrowed
+narrowed-low p i n d D h l =
+    let z = size-le (n / d) p (div-lt-iff-lt-mul D .1 h) in
+    let e : size (n / d) - p ≡ 0 = omega arith in
+    let r = rounded n d in
+    let f : 0 * 2 ^ (p - 1) + r ≡ r = omega arith in
+    sym
+    (ap (λ (k : ℕ). min (k * 2 ^ (p - 1) + rounded n (d * 2 ^ k)) i) e
+    ∙ ap (λ (u : ℕ). min (0 * 2 ^ (p - 1) + rounded n u) i) (mul-one d)
+    ∙ ap (λ (q : ℕ). min q i) f
+    ∙ min-eq-left (le-trans (rounded-le n d (2 ^ p) D h) l))
 
--- in the normal range, j = k + 896
-round-high : (s : Bool) (m k : ℕ) → 2 ^ 52 ≤ m → m < 2 ^ 53 → round binary32 s (m * 2 ^ (k + 896)) (2 ^ 1074) ≡ units binary32 s (closest m (2 ^ 29)) k
-round-high s m k lo hi =
-    let a = m * 2 ^ (k + 896) in
-    let n = a * 2 ^ 149 in
-    let flat : n ≡ m * 2 ^ k * 2 ^ 1045 = join m (k + 896) 149 ∙ ap (λ (z : ℕ). m * 2 ^ z) (add-assoc k 896 149) ∙ sym (join m k 1045) in
-    let full : n * 2 ^ 29 ≡ m * 2 ^ k * 2 ^ 1074 = ap (λ (z : ℕ). z * 2 ^ 29) flat ∙ mul-assoc (m * 2 ^ k) (2 ^ 1045) (2 ^ 29) in
-    let d : size (n / 2 ^ 1074) - 24 ≡ k = ap (λ (z : ℕ). size z - 24) (div-same n (2 ^ 1074) (m * 2 ^ k) (2 ^ 29) (pow-pos 1074) (pow-pos 29) full) ∙ digits m k lo hi in
-    round-is binary32 s a (2 ^ 1074)
-    ∙ ap (λ (z : ℕ). units binary32 s (closest n (2 ^ 1074 * 2 ^ z)) z) d
-    ∙ ap (λ (z : ℕ). units binary32 s z k)
-    (closest-same n (2 ^ 1074 * 2 ^ k) m (2 ^ 29) (mul-pos (pow-pos 1074) (pow-pos k)) (pow-pos 29) (full ∙ mul-assoc m (2 ^ k) (2 ^ 1074) ∙ ap (λ (z : ℕ). m * z) (mul-comm (2 ^ k) (2 ^ 1074))))
+narrowed-high : (p i n d j : ℕ) → 0 < p → 0 < d → 2 ^ (p - 1) * d ≤ n → n < 2 ^ p * d → narrowed p i (n * 2 ^ j) d ≡ min (j * 2 ^ (p - 1) + rounded n d) i
+unfolding narrowed
+narrowed-high p i n d j P D lo hi =
+    let a = p - 1 + j in
+    let up : suc a ≡ p + j = omega arith in
+    let x : 2 ^ a * d ≤ n * 2 ^ j = le-trans (le-of-eq (ap (λ (z : ℕ). z * d) (pow-add 2 (p - 1) j) ∙ mul-right-comm (2 ^ (p - 1)) (2 ^ j) d)) (mul-le-mul-right (2 ^ j) lo) in
+    let y : n * 2 ^ j < 2 ^ suc a * d =
+    lt-of-lt-of-le (mul-lt-mul-of-pos-right hi (pow-pos j)) (le-of-eq (sym (ap (λ (z : ℕ). 2 ^ z * d) up ∙ ap (λ (z : ℕ). z * d) (pow-add 2 p j) ∙ mul-right-comm (2 ^ p) (2 ^ j) d))) in
+    let e : size (n * 2 ^ j / d) ≡ suc a = size-exact a (n * 2 ^ j / d) (le-div-iff-mul-le D .1 x) (div-lt-iff-lt-mul D .1 y) in
+    let f : size (n * 2 ^ j / d) - p ≡ j = omega arith in
+    let g : n * 2 ^ j * d ≡ n * (d * 2 ^ j) = mul-assoc n (2 ^ j) d ∙ ap (λ (z : ℕ). n * z) (mul-comm (2 ^ j) d) in
+    ap (λ (k : ℕ). min (k * 2 ^ (p - 1) + rounded (n * 2 ^ j) (d * 2 ^ k)) i) f
+    ∙ ap (λ (q : ℕ). min (j * 2 ^ (p - 1) + q) i) (rounded-same (n * 2 ^ j) (d * 2 ^ j) n d (mul-pos D (pow-pos j)) D g)
 
--- below it, j + i = 925: the units are the format's smallest values
-round-low : (s : Bool) (m j i : ℕ) → m < 2 ^ 53 → j + i ≡ 925 → 30 ≤ i → round binary32 s (m * 2 ^ j) (2 ^ 1074) ≡ units binary32 s (closest m (2 ^ i)) 0
-round-low s m j i hi e l =
-    let n = m * 2 ^ j * 2 ^ 149 in
-    let small : n < 2 ^ 24 * 2 ^ 1074 = lt-of-le-of-lt (le-of-eq (join m j 149)) (lt-of-lt-of-le (shl-lt 53 (j + 149) hi) (pow-mono (reach j i e l))) in
-    let d : size (n / 2 ^ 1074) - 24 ≡ 0 = none (size (n / 2 ^ 1074)) (size-le (n / 2 ^ 1074) 24 (div-lt-iff-lt-mul (pow-pos 1074) .1 small)) in
-    round-is binary32 s (m * 2 ^ j) (2 ^ 1074)
-    ∙ ap (λ (z : ℕ). units binary32 s (closest n (2 ^ 1074 * 2 ^ z)) z) d
-    ∙ ap (λ (z : ℕ). units binary32 s z 0)
-    (closest-same n (2 ^ 1074 * 2 ^ 0) m (2 ^ i) (mul-pos (pow-pos 1074) (pow-pos 0)) (pow-pos i)
-    (ap (λ (z : ℕ). z * 2 ^ i) (join m j 149) ∙ join m (j + 149) i ∙ ap (λ (z : ℕ). m * 2 ^ z) (total j i e)))
-  where
-    reach : (j i : ℕ) → j + i ≡ 925 → 30 ≤ i → 53 + (j + 149) ≤ 1098
-    reach j i e l = omega arith
+-- ---- an f64's size, m * 2 ^ x times 2 ^ -1074, in units of 2 ^ -low
+module _ (p low ones m x : ℕ) (P : 1 < p) (Q : p ≤ 24) (O : 1 < ones) (M : m < 2 ^ 53) where
+  abbrev rounds : ℕ
+  rounds = narrowed p (infinityAt p ones) (m * 2 ^ x * 2 ^ low) (2 ^ 1074)
 
-    none : (z : ℕ) → z ≤ 24 → z - 24 ≡ 0
-    none z h = omega arith
+  -- twice the leading digit's weight
+  top-le : 2 ^ p ≤ infinityAt p ones
+  top-le = le-trans (le-of-eq (sym (twice p (omega arith)))) (mul-le-mul-right (2 ^ (p - 1)) O)
 
-    total : (j i : ℕ) → j + i ≡ 925 → j + 149 + i ≡ 1074
-    total j i e = omega arith
+  pub low-way : (e : ℕ) → x + low + e ≡ 1074 → 53 ≤ p + e → rounded m (2 ^ e) ≡ rounds
+  low-way e g l =
+      let f : m * 2 ^ x * 2 ^ low * 2 ^ e ≡ m * 2 ^ 1074 = ap (λ (z : ℕ). z * 2 ^ e) (join m x low) ∙ join m (x + low) e ∙ ap (λ (i : ℕ). m * 2 ^ i) g in
+      narrowed-low p (infinityAt p ones) m (2 ^ e) (pow-pos e) (lt-of-lt-of-le M (le-trans (pow-mono l) (le-of-eq (pow-add 2 p e)))) top-le
+      ∙ sym (narrowed-same p (infinityAt p ones) (m * 2 ^ x * 2 ^ low) (2 ^ 1074) m (2 ^ e) (pow-pos 1074) (pow-pos e) f)
 
--- the 24 digits that are kept of 53
-kept-least : (m : ℕ) → 2 ^ 52 ≤ m → 2 ^ 23 ≤ m / 2 ^ 29
-kept-least m h = omega arith
+  module _ (j : ℕ) (L : 2 ^ 52 ≤ m) (g : x + low ≡ j + 1021 + p) where
+    kept-top : m < 2 ^ p * 2 ^ (53 - p)
+    kept-top = let e : p + (53 - p) ≡ 53 = omega arith in lt-of-lt-of-le M (le-of-eq (sym (sym (pow-add 2 p (53 - p)) ∙ ap (λ (i : ℕ). 2 ^ i) e)))
 
-kept-most : (m : ℕ) → m < 2 ^ 53 → m / 2 ^ 29 < 2 ^ 24
-kept-most m h = omega arith
+    kept-low : 2 ^ (p - 1) * 2 ^ (53 - p) ≤ m
+    kept-low = let e : p - 1 + (53 - p) ≡ 52 = omega arith in le-trans (le-of-eq (sym (pow-add 2 (p - 1) (53 - p)) ∙ ap (λ (i : ℕ). 2 ^ i) e)) L
 
--- ---- so, the pattern of m * 2 ^ j * 2 ^ -1074 at binary32
-closest-le : (m d b : ℕ) → m / d < b → closest m d ≤ b
-closest-le m d b h = le-trans (nearest-le (m / d) (compare (m % d * 2) d)) h
+    high-way : rounds ≡ min (j * 2 ^ (p - 1) + rounded m (2 ^ (53 - p))) (infinityAt p ones)
+    high-way =
+        let i : x + low + (53 - p) ≡ j + 1074 = omega arith in
+        let f : m * 2 ^ x * 2 ^ low * 2 ^ (53 - p) ≡ m * 2 ^ j * 2 ^ 1074 =
+        ap (λ (z : ℕ). z * 2 ^ (53 - p)) (join m x low) ∙ join m (x + low) (53 - p) ∙ ap (λ (i : ℕ). m * 2 ^ i) i ∙ sym (join m j 1074) in
+        narrowed-same p (infinityAt p ones) (m * 2 ^ x * 2 ^ low) (2 ^ 1074) (m * 2 ^ j) (2 ^ (53 - p)) (pow-pos 1074) (pow-pos (53 - p)) f
+        ∙ narrowed-high p (infinityAt p ones) m (2 ^ (53 - p)) j (omega arith) (pow-pos (53 - p)) kept-low kept-top
 
-pub single-high : (s : Bool) (m j k : ℕ) → 2 ^ 52 ≤ m → m < 2 ^ 53 → j ≡ k + 896 → toBits binary32 (round binary32 s (m * 2 ^ j) (2 ^ 1074)) ≡ pattern s (closest m (2 ^ 29)) k
-single-high s m j k lo hi e =
-    ap (λ (i : ℕ). toBits binary32 (round binary32 s (m * 2 ^ i) (2 ^ 1074))) e
-    ∙ ap (toBits binary32) (round-high s m k lo hi)
-    ∙ above s (closest m (2 ^ 29)) k (le-trans (kept-least m lo) (nearest-ge (m / 2 ^ 29) (compare (m % 2 ^ 29 * 2) (2 ^ 29)))) (closest-le m (2 ^ 29) (2 ^ 24) (kept-most m hi))
+    pub digits-le : rounded m (2 ^ (53 - p)) ≤ 2 * 2 ^ (p - 1)
+    digits-le = le-trans (rounded-le m (2 ^ (53 - p)) (2 ^ p) (pow-pos (53 - p)) kept-top) (le-of-eq (sym (twice p (omega arith))))
 
-pub single-low : (s : Bool) (m j i : ℕ) → m < 2 ^ 53 → j + i ≡ 925 → 30 ≤ i → toBits binary32 (round binary32 s (m * 2 ^ j) (2 ^ 1074)) ≡ pattern s (closest m (2 ^ i)) 0
-single-low s m j i hi e l =
-    ap (toBits binary32) (round-low s m j i hi e l)
-    ∙ at-zero s (closest m (2 ^ i)) (closest-le m (2 ^ i) (2 ^ 24) (div-lt-iff-lt-mul (pow-pos i) .1 (lt-of-lt-of-le hi (le-trans (lit≤ tt) (mul-le-mul-left (2 ^ 24) (pow-mono l))))))
+    pub high-size : j + 1 < ones → j * 2 ^ (p - 1) + rounded m (2 ^ (53 - p)) ≡ rounds
+    high-size l =
+        let a : (j + 2) * 2 ^ (p - 1) ≤ ones * 2 ^ (p - 1) = mul-le-mul-right (2 ^ (p - 1)) (omega arith) in
+        let b = digits-le in
+        sym (high-way ∙ min-eq-left (omega (arith, add-mul j 2 (2 ^ (p - 1)))))
 
--- ---- a value by its fraction
-pub narrow-value : (x : Float) (s : Bool) (a c : ℕ) → 0 < c → HasValue x s a c → narrow x ≡ round binary32 s a c
-unfolding narrow
-narrow-value nan s a c C v = absurd v
-narrow-value (inf t) s a c C v = absurd v
-narrow-value (fin t m e) s a c C v = ap (λ (z : Bool). round binary32 z (m * up e) (down e)) (v .0) ∙ round-same binary32 s (m * up e) (down e) a c (down-pos e) C (v .1)
-
--- ---- the pattern of the size alone
-whole : (q : ℕ) → q ≤ 2 ^ 24 → q ≡ 0 + min (0 * 2 ^ 23 + q) (255 * 2 ^ 23)
-whole q h = omega arith
-
-pub low-size : (m j i : ℕ) → m < 2 ^ 53 → j + i ≡ 925 → 30 ≤ i → rounded m (2 ^ i) ≡ toBits binary32 (round binary32 false (m * 2 ^ j) (2 ^ 1074))
-low-size m j i hi e l =
-    rounded-closest m (2 ^ i) (pow-pos i)
-    ∙ whole (closest m (2 ^ i)) (closest-le m (2 ^ i) (2 ^ 24) (div-lt-iff-lt-mul (pow-pos i) .1 (lt-of-lt-of-le hi (le-trans (lit≤ tt) (mul-le-mul-left (2 ^ 24) (pow-mono l))))))
-    ∙ sym (single-low false m j i hi e l)
-
-pub high-le : (m : ℕ) → m < 2 ^ 53 → rounded m (2 ^ 29) ≤ 2 ^ 24
-high-le m h = rw (rounded-closest m (2 ^ 29) (pow-pos 29)) (closest-le m (2 ^ 29) (2 ^ 24) (kept-most m h))
-
-pub high-size : (m j k : ℕ) → 2 ^ 52 ≤ m → m < 2 ^ 53 → j ≡ k + 896 → k ≤ 253 → k * 2 ^ 23 + rounded m (2 ^ 29) ≡ toBits binary32 (round binary32 false (m * 2 ^ j) (2 ^ 1074))
-high-size m j k lo hi e l =
-    under (rounded m (2 ^ 29)) k (high-le m hi) l
-    ∙ ap (λ (q : ℕ). pattern false q k) (rounded-closest m (2 ^ 29) (pow-pos 29))
-    ∙ sym (single-high false m j k lo hi e)
-  where
-    under : (q k : ℕ) → q ≤ 2 ^ 24 → k ≤ 253 → k * 2 ^ 23 + q ≡ 0 + min (k * 2 ^ 23 + q) (255 * 2 ^ 23)
-    under q k h l = omega arith
-
-pub high-over : (m j k : ℕ) → 2 ^ 52 ≤ m → m < 2 ^ 53 → j ≡ k + 896 → 253 < k → 255 * 2 ^ 23 ≡ toBits binary32 (round binary32 false (m * 2 ^ j) (2 ^ 1074))
-high-over m j k lo hi e l =
-    over (closest m (2 ^ 29)) k (le-trans (kept-least m lo) (nearest-ge (m / 2 ^ 29) (compare (m % 2 ^ 29 * 2) (2 ^ 29)))) l ∙ sym (single-high false m j k lo hi e)
-  where
-    over : (q k : ℕ) → 2 ^ 23 ≤ q → 253 < k → 255 * 2 ^ 23 ≡ 0 + min (k * 2 ^ 23 + q) (255 * 2 ^ 23)
-    over q k h l = omega arith
-
--- ---- the sign
-under-sign : (s : Bool) (n : ℕ) (b : Bool) → bitsUnder s n b ≡ cond s (2 ^ 31) 0 + bitsUnder false n b
-unfolding bitsUnder
-under-sign s n true =
-    let d = size n - 24 in
-    add-assoc (cond s (2 ^ 31) 0) (d * 2 ^ 23) (n / 2 ^ d) ∙ ap (λ (z : ℕ). cond s (2 ^ 31) 0 + (z + n / 2 ^ d)) (sym (zero-add (d * 2 ^ 23)))
-under-sign s n false = refl
-
-pub round-sign : (s : Bool) (a c : ℕ) → toBits binary32 (round binary32 s a c) ≡ cond s (2 ^ 31) 0 + toBits binary32 (round binary32 false a c)
-round-sign s a c =
-    let n = a * 2 ^ 149 in
-    let k = size (n / c) - 24 in
-    let q = closest n (c * 2 ^ k) in
-    ap (toBits binary32) (round-is binary32 s a c)
-    ∙ units-bits s q k
-    ∙ under-sign s (q * 2 ^ k) (ltb (q * 2 ^ k) (2 ^ 277))
-    ∙ ap (λ (z : ℕ). cond s (2 ^ 31) 0 + z) (sym (ap (toBits binary32) (round-is binary32 false a c) ∙ units-bits false q k))
+    pub high-over : ones ≤ j + 1 → infinityAt p ones ≡ rounds
+    high-over l =
+        let a : ones * 2 ^ (p - 1) ≤ (j + 1) * 2 ^ (p - 1) = mul-le-mul-right (2 ^ (p - 1)) l in
+        let b = rounded-ge m (2 ^ (53 - p)) (2 ^ (p - 1)) (pow-pos (53 - p)) kept-low in
+        sym (high-way ∙ min-eq-right (omega (arith, add-mul j 1 (2 ^ (p - 1)), one-mul (2 ^ (p - 1)))))
 
 -- ---- an f64's word
-pub single-finite : (w : ℕ) → (w % 2 ^ 63 / 2 ^ 52 ≡ 2047 → ⊥) → singleWord w ≡ cond (leb (2 ^ 63) w) (2 ^ 31) 0 + singleSize (w % 2 ^ 63 / 2 ^ 52) (w % 2 ^ 52)
-single-finite w n =
-    ap (toBits binary32) (narrow-value (ofBits binary64 w) (leb (2 ^ 63) w) _ (2 ^ 1074) (pow-pos 1074) (pattern-value binary64 w (field-lt w n)))
-    ∙ round-sign (leb (2 ^ 63) w) (sig (2 ^ 52) (w % 2 ^ 63 / 2 ^ 52) (w % 2 ^ 52) * 2 ^ (w % 2 ^ 63 / 2 ^ 52 - 1)) (2 ^ 1074)
 
--- at the highest field: by whether the digits are 0
-pub single-top : (w : ℕ) {s z : Bool} → w % 2 ^ 63 / 2 ^ 52 ≡ 2047 → leb (2 ^ 63) w ≡ s → eqb (w % 2 ^ 52) 0 ≡ z → toBits binary32 (cond z (inf s) nan) ≡ singleWord w
-unfolding narrow
-single-top w {s} {z} e p q = go s z ∙ sym (ap (λ (x : Float). toBits binary32 (narrow x)) (pattern-top binary64 w e ∙ ap (λ (b : Bool). cond b (inf (leb (2 ^ 63) w)) nan) q ∙ ap (λ (b : Bool). cond z (inf b) nan) p))
+-- above the infinity, a NaN
+pub word-nan : (p low ones w : ℕ) → 0x7FF0_0000_0000_0000 < w % 2 ^ 63 → patternOf p low ones (ofBits binary64 w) ≡ nanAt p ones
+unfolding patternOf
+word-nan p low ones w l =
+    let e : w % 2 ^ 63 / 2 ^ 52 ≡ 2047 = omega arith in
+    ap (patternOf p low ones) (pattern-top binary64 w e ∙ ap (λ (b : Bool). cond b (inf (leb (2 ^ 63) w)) nan) (ne-eqb (w % 2 ^ 52) 0 (λ z. omega arith)))
+
+infinite : (p low ones w : ℕ) → w % 2 ^ 63 / 2 ^ 52 ≡ 2047 → w % 2 ^ 52 ≡ 0 → patternOf p low ones (ofBits binary64 w) ≡ signAt p ones (leb (2 ^ 63) w) + infinityAt p ones
+unfolding patternOf
+infinite p low ones w e n = ap (patternOf p low ones) (pattern-top binary64 w e ∙ ap (λ (b : Bool). cond b (inf (leb (2 ^ 63) w)) nan) (eq-eqb (w % 2 ^ 52) 0 n))
+
+-- else its sign and its fields; the infinity's are far above what overflows
+abbrev pub sizeAt : ℕ → ℕ → ℕ → ℕ → ℕ → ℕ
+sizeAt p low ones x t = narrowed p (infinityAt p ones) (sig (2 ^ 52) x t * 2 ^ (x - 1) * 2 ^ low) (2 ^ 1074)
+
+pub word-pattern : (p low ones w : ℕ) → NarrowFormat p low ones → w % 2 ^ 63 ≤ 0x7FF0_0000_0000_0000
+    → patternOf p low ones (ofBits binary64 w) ≡ signAt p ones (leb (2 ^ 63) w) + sizeAt p low ones (w % 2 ^ 63 / 2 ^ 52) (w % 2 ^ 52)
+word-pattern p low ones w F l = go (decLt (w % 2 ^ 63 / 2 ^ 52) 2047)
   where
-    go : (s z : Bool) → toBits binary32 (cond z (inf s) nan) ≡ toBits binary32 (narrow (cond z (inf s) nan))
-    go s true = refl
-    go s false = refl
+    go : Dec (w % 2 ^ 63 / 2 ^ 52 < 2047) → patternOf p low ones (ofBits binary64 w) ≡ signAt p ones (leb (2 ^ 63) w) + sizeAt p low ones (w % 2 ^ 63 / 2 ^ 52) (w % 2 ^ 52)
+    go (yes k) = of-value p low ones (ofBits binary64 w) (leb (2 ^ 63) w) _ (2 ^ 1074) (pow-pos 1074) (pattern-value binary64 w k)
+    go (no k) =
+        let e : w % 2 ^ 63 / 2 ^ 52 ≡ 2047 = omega arith in
+        let z : w % 2 ^ 52 ≡ 0 = omega arith in
+        infinite p low ones w e z
+        ∙ ap (λ (n : ℕ). signAt p ones (leb (2 ^ 63) w) + n) (high-over p low ones (2 ^ 52) 2046 (omega arith) (omega arith) (omega arith) (lit< tt) (1025 + low - p) (lit≤ tt) (omega arith) (omega arith))
+        ∙ ap (λ (x : ℕ). signAt p ones (leb (2 ^ 63) w) + sizeAt p low ones x 0) (sym e)
+        ∙ ap (λ (t : ℕ). signAt p ones (leb (2 ^ 63) w) + sizeAt p low ones (w % 2 ^ 63 / 2 ^ 52) t) (sym z)
 
-pub size-fits : (x t : ℕ) → singleSize x t < 2 ^ 32
-size-fits x t = toBits-lt binary32 _ (round-fits binary32 false (sig (2 ^ 52) x t * 2 ^ (x - 1)) (2 ^ 1074))
+pub size-le-infinity : (p i n d : ℕ) → narrowed p i n d ≤ i
+unfolding narrowed
+size-le-infinity p i n d = min-le-right _ i
+
+-- the weights of the code, h being what a call answered for the leading digit's
+module _ {h : ℕ} (p ones : ℕ) (P : 1 < p) (O : ones ≤ 255) (e : h ≡ 2 ^ (p - 1)) (l : h ≤ 2 ^ 23) where
+  pub weight-le : (k : ℕ) → k ≤ 256 → k * h ≤ 2 ^ 31
+  weight-le k m = mul-le-mul m l
+
+  pub nan-weight : ones * h + h / 2 ≡ nanAt p ones
+  nan-weight =
+      let s : suc (p - 2) ≡ p - 1 = omega arith in
+      let f : 2 ^ (p - 1) ≡ 2 * 2 ^ (p - 2) = ap (λ (i : ℕ). 2 ^ i) (sym s) ∙ pow-succ' 2 (p - 2) in
+      let g : h / 2 ≡ 2 ^ (p - 2) = omega arith in
+      ap (λ (z : ℕ). ones * z + h / 2) e ∙ ap (λ (z : ℕ). ones * 2 ^ (p - 1) + z) g

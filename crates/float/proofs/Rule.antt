@@ -2,7 +2,7 @@
 use mathlib.Core.Path.{_≡_, refl, sym, ap, _∙_, subst}
 use mathlib.Core.Bool.{Bool, true, false, cond, true≢false}
 use Prim.Native.Nat.{ℕ, _+_, _-_, _*_, _/_, _%_, _^_, _≤_, _<_, compare, Ordering, Ordering·lt, Ordering·eq, Ordering·gt}
-use native.Mathlib.Nat.{le-of-lt, lt-irrefl, one-mul, mod-eq-of-lt, mod-lt, div-lt-iff-lt-mul, lt-of-le-of-lt}
+use native.Mathlib.Nat.{le-of-lt, lt-irrefl, one-mul, mod-eq-of-lt, mod-lt, div-lt-iff-lt-mul, le-div-iff-mul-le, lt-of-le-of-lt}
 use native.Mathlib.Numerals.{add-one}
 use native.Mathlib.Decide.{decLt}
 use native.Mathlib.Omega.{arith}
@@ -60,12 +60,20 @@ rounded-closest n d h = go (n / d) (n % d) (mod-lt n h) (decLt (n % d * 2) d) (d
 pub rounded-same : (a b c d : ℕ) → 0 < b → 0 < d → a * d ≡ c * b → rounded a b ≡ rounded c d
 rounded-same a b c d B D e = rounded-closest a b B ∙ closest-same a b c d B D e ∙ sym (rounded-closest c d D)
 
--- ---- what is below a whole number does not go past it
+-- ---- what is below or above a whole number does not go past it
 pub rounded-le : (n d b : ℕ) → 0 < d → n < b * d → rounded n d ≤ b
 unfolding rounded
 rounded-le n d b D h = one (goesUp (n % d) (d - n % d) (n / d)) (div-lt-iff-lt-mul D .1 h)
   where
     one : (up : Bool) → n / d < b → n / d + cond up 1 0 ≤ b
+    one true l = omega arith
+    one false l = omega arith
+
+pub rounded-ge : (n d b : ℕ) → 0 < d → b * d ≤ n → b ≤ rounded n d
+unfolding rounded
+rounded-ge n d b D h = one (goesUp (n % d) (d - n % d) (n / d)) (le-div-iff-mul-le D .1 h)
+  where
+    one : (up : Bool) → b ≤ n / d → b ≤ n / d + cond up 1 0
     one true l = omega arith
     one false l = omega arith
 

@@ -1,9 +1,8 @@
 -- An f64's word at binary32 and at binary16, and a binary32 pattern as an f64's word.
 use Prim.Native.Nat.{ℕ, _+_, _-_, _*_, _/_, _%_, _^_}
-use mathlib.Core.Bool.{false, cond}
+use mathlib.Core.Bool.{cond}
 use lib.Dec.{leb, ltb}
 use lib.Ieee.{Float, nan, inf, fin, binary32, binary64, up, down, round, ofBits, toBits}
-use Rattle.float.specs.Half.{sig}
 
 -- "Writing to 32 rounds to nearest even"
 unfoldable pub narrow : Float → Float
@@ -15,10 +14,6 @@ narrow (fin s m e) = round binary32 s (m * up e) (down e)
 -- "NaN writes 0x7FC00000 to 32": `toBits` has it
 abbrev pub singleWord : ℕ → ℕ
 singleWord w = toBits binary32 (narrow (ofBits binary64 w))
-
--- the binary32 pattern of the size of an f64's fields
-abbrev pub singleSize : ℕ → ℕ → ℕ
-singleSize x t = toBits binary32 (round binary32 false (sig (2 ^ 52) x t * 2 ^ (x - 1)) (2 ^ 1074))
 
 -- the f64 word of a binary32 pattern: the same number, and "NaN of 16 or 32 bits reads as 0x7FF8000000000000"
 abbrev pub wideWord : ℕ → ℕ

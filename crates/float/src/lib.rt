@@ -3,7 +3,7 @@
 use value::Amount;
 use value::Scalar;
 ghost use mathlib.Core.Path.{_≡_};
-ghost use Prim.Native.Nat.{_+_, _-_, _*_, _/_, _%_, _^_, _<_};
+ghost use Prim.Native.Nat.{_+_, _-_, _*_, _/_, _%_, _^_, _<_, _≤_};
 ghost use mathlib.Core.Bool.{true, false, not, _&&_, cond};
 ghost use lib.IntN.{pos};
 ghost use lib.Dec.{eqb, ltb};
@@ -15,7 +15,8 @@ ghost use Rattle.value.specs.Answer.{refused, given};
 ghost use Rattle.value.specs.Number.{amountAs};
 ghost use Rattle.value.specs.Rounding.{rounded};
 ghost use Rattle.float.specs.Half.{sig, halfWord};
-ghost use Rattle.float.specs.Single.{singleWord, singleSize, wideWord, cutSize, cutWord};
+ghost use Rattle.float.specs.Single.{singleWord, wideWord, cutSize, cutWord};
+ghost use Rattle.float.specs.Narrow.{NarrowFormat, narrowed, infinityAt, patternOf};
 ghost use Rattle.float.specs.Decimal.{toDecimal, ofDecimal};
 ghost use Rattle.float.specs.Convert.{floatedOf, floatedAs, decimalFor};
 ghost use Rattle.float.specs.Field.{fieldOk, wordFor, patternFor, floatIn, parsedAs, floatBytes, plainHalf, exactIn};
@@ -143,50 +144,64 @@ fn nearest_even(m: u64, k: u64) -> u64
     q
 }
 
-// The binary32 pattern of the size of a finite f64, from the exponent's field and the digits.
-fn single_size(x: u64, t: u64) -> u64
-    requires { ⌜ t < 2 ^ 52 ⌝ }
-    ensures { λ r. ⌜ r ≡ singleSize x t ⌝ }
+// The leading one's weight in a significand of p digits.
+fn leading(p: u64) -> u64
+    requires { ⌜ (1 < p) × (p ≤ 24) ⌝ }
+    ensures { λ r. ⌜ (r ≡ 2 ^ (p - 1)) × (r ≤ 2 ^ 23) ⌝ }
+{
+    1 << (p - 1)
+}
+
+// The pattern of the size of a finite f64 with the exponent's field x and the digits t, in a format with p digits in a significand,
+// the smallest positive number 2^-low and the infinity's field `ones`.
+fn narrow_size(p: u64, low: u64, ones: u64, x: u64, t: u64) -> u64
+    requires { ⌜ NarrowFormat p low ones × (t < 2 ^ 52) ⌝ }
+    ensures { λ r. ⌜ r ≡ narrowed p (infinityAt p ones) (sig (2 ^ 52) x t * 2 ^ (x - 1) * 2 ^ low) (2 ^ 1074) ⌝ }
 {
     let m = significand(0x10_0000_0000_0000, x, t);
     if x == 0 {
-        return nearest_even(m, 925);
+        return nearest_even(m, 1074 - low);
     }
-    if x < 897 {
-        return nearest_even(m, 926 - x);
+    let normal = 1022 + p - low;
+    if x < normal {
+        return nearest_even(m, 1075 - low - x);
     }
-    let k = x - 897;
-    if k > 253 {
-        0x7F80_0000
-    } else {
-        k * 8388608 + nearest_even(m, 29)
+    let k = x - normal;
+    let h = leading(p);
+    if k + 1 < ones {
+        return k * h + nearest_even(m, 53 - p);
     }
+    ones * h
 }
 
-// The binary32 pattern of an f64's word, rounded.
+// The pattern of an f64's word in such a format.
+fn narrow_word(p: u64, low: u64, ones: u64, w: u64) -> u64
+    requires { ⌜ NarrowFormat p low ones ⌝ }
+    ensures { λ r. ⌜ r ≡ patternOf p low ones (Ieee.ofBits binary64 w) ⌝ }
+{
+    let h = leading(p);
+    let size = w % 0x8000_0000_0000_0000;
+    if size > 0x7FF0_0000_0000_0000 {
+        return ones * h + h / 2;
+    }
+    let a = narrow_size(
+        p,
+        low,
+        ones,
+        size / 0x10_0000_0000_0000,
+        w % 0x10_0000_0000_0000,
+    );
+    if w < 0x8000_0000_0000_0000 {
+        return a;
+    }
+    (ones + 1) * h + a
+}
+
+// The binary32 pattern of an f64's word.
 fn single_word(w: u64) -> u64
     ensures { λ r. ⌜ r ≡ singleWord w ⌝ }
 {
-    let x = w % 0x8000_0000_0000_0000 / 0x10_0000_0000_0000;
-    let t = w % 0x10_0000_0000_0000;
-    if x == 2047 {
-        if t == 0 {
-            if w < 0x8000_0000_0000_0000 {
-                0x7F80_0000
-            } else {
-                0xFF80_0000
-            }
-        } else {
-            0x7FC0_0000
-        }
-    } else {
-        let a = single_size(x, t);
-        if w < 0x8000_0000_0000_0000 {
-            a
-        } else {
-            0x8000_0000 + a
-        }
-    }
+    narrow_word(24, 149, 255, w)
 }
 
 // A binary32 pattern's fields, cut to a binary16 size.

@@ -1,6 +1,7 @@
-//! One field, by the port and by the Rust; a signed Embedded Int by the port and by the model of embedded.rs.
+//! One field, by the port and by the Rust; a signed Embedded Int by the port and by the model of embedded.rs, a Float of 16 bits in writing by that of halves.rs.
 
 use crate::embedded;
+use crate::halves;
 use rust::{decode, ebcdic, edited, encode, packed, zoned, Encoding, Endian, Field, FieldKind, Justify, Layout, NumRepr, SignKind, Value};
 use std::collections::BTreeMap;
 
@@ -388,9 +389,24 @@ pub fn writes(k: &Kind, pg: u32, width: usize, v: &Item) -> Option<(u32, Vec<u8>
         let seen = if same { Seen::Listed(embedded::RULE) } else { Seen::Other(format!("port {n} {:02x?}, judged {judged}, model {model:02x?}", &buf)) };
         return Some((n, buf[4..4 + taken].to_vec(), seen));
     }
-    let mut layout = Layout::from_fields(vec![field(k, width)]).unwrap();
-    layout.record_len = 0;
-    let theirs = encode::encode_record(&layout, &[("F".into(), theirs_value.clone())], page(pg));
+    let rust_writes = |k: &Kind, width: usize| {
+        let mut layout = Layout::from_fields(vec![field(k, width)]).unwrap();
+        layout.record_len = 0;
+        encode::encode_record(&layout, &[("F".into(), theirs_value.clone())], page(pg))
+    };
+    // the float is the Rust's own, at 64 bits
+    if halves::is(k) && n == 0 {
+        let wide = rust_writes(&Kind { p: 0, q: 64, ..k.clone() }, 8).ok().and_then(|b| b.try_into().ok()).map(u64::from_be_bytes);
+        let model = wide.map(halves::nearest);
+        let ours = [buf[4], buf[5]];
+        let ours = if k.p == 0 { u16::from_be_bytes(ours) } else { u16::from_le_bytes(ours) };
+        let seen = match model {
+            Some((h, rule)) if untouched && judged == 0 && h == ours => Seen::Listed(rule),
+            _ => Seen::Other(format!("port {ours:04x}, judged {judged}, model {model:x?} of {wide:x?}")),
+        };
+        return Some((n, buf[4..4 + taken].to_vec(), seen));
+    }
+    let theirs = rust_writes(k, width);
     let high = v.tag == 1 && v.text.iter().any(|&b| b >= 0x80);
     let size_at = |scale: i128, unscaled: i128, from: i128| if from < scale { unscaled.checked_mul(10i128.pow((scale - from) as u32)) } else { Some(unscaled / 10i128.pow((from - scale) as u32)) };
     let big = match theirs_value {

@@ -6,6 +6,7 @@ mod cases;
 mod check;
 mod convert;
 mod embedded;
+mod halves;
 mod records;
 mod store;
 mod trips;
@@ -35,6 +36,8 @@ fn main() {
     step("signed Embedded Ints", &tally);
     cases::rounding(&mut tally, 250_000, seed);
     step("scales lost, floats rounded", &tally);
+    halves::random(&mut tally, 400_000, seed);
+    step("floats of 16 bits", &tally);
     let left = cases.saturating_sub(tally.cases());
     cases::random(&mut tally, left.max(200_000), seed);
     step("random fields", &tally);

@@ -5,7 +5,7 @@
 //!   D PAGE NUMBER   reading the record gives the list; a number but 0 refuses
 //!   E PAGE NUMBER   writing the list gives the record; a number but 0 refuses
 //! Values and bytes are the Rust's own. It gives no numbers: that of a refusal is the model's (records.rs). Cases that differ by a rule of docs/DIFFERENCES.md
-//! are left out, and so are layouts with a signed Embedded Int.
+//! are left out, and so are layouts with a signed Embedded Int and, in writing, lists with a Float of 16 bits.
 
 use crate::cases::{any_kind, bytes, width, Random};
 use crate::records::{list, list_words, raw, rust_list, whole, written, Entry, Layouts};

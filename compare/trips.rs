@@ -4,6 +4,7 @@
 use crate::cases::Random;
 use crate::check::{Item, Kind, Seen, Tally};
 use crate::embedded;
+use crate::halves;
 use crate::records::{list_words, Entry, Node};
 use std::collections::HashMap;
 
@@ -116,15 +117,6 @@ fn below_power(g: &mut Random, digits: u32) -> u64 {
     }
 }
 
-fn half(g: &mut Random) -> f64 {
-    let sign = if g.below(2) == 0 { 1.0 } else { -1.0 };
-    sign * match g.below(8) {
-        0 => 0.0,
-        1 => f64::INFINITY,
-        _ => (1.0 + g.below(1024) as f64 / 1024.0) * 2f64.powi(g.below(30) as i32 - 14),
-    }
-}
-
 fn value(g: &mut Random, e: &Entry) -> Item {
     let (k, w, controls) = (&e.kind, e.width, e.controls());
     let item = |tag, a, b| Item { tag, a, b, text: vec![] };
@@ -162,7 +154,7 @@ fn value(g: &mut Random, e: &Entry) -> Item {
         }
         3 => {
             let f = match k.q {
-                16 => half(g).to_bits(),
+                16 => halves::any(g).to_bits(),
                 32 => {
                     let f = f32::from_bits(g.next() as u32);
                     (if f.is_nan() { 1.5 } else { f } as f64).to_bits()
@@ -239,9 +231,29 @@ fn embedded_fits(t: &mut Tally, g: &mut Random) {
     }
 }
 
+/// The floats that fit 16 bits are those that the model finds exact.
+fn halves_fit(t: &mut Tally, g: &mut Random) {
+    let mut counts = [7i64; 2];
+    for _ in 0..20_000 {
+        let bits = match g.below(8) {
+            0 => 0x7FF0_0000_0000_0000 + g.below(3) | g.below(2) << 63,
+            1 | 2 => halves::any(g).to_bits(),
+            _ => halves::near(g),
+        };
+        let kind = Kind { kind: 3, p: 0, q: 16, r: 0, s: 0, mask: vec![] };
+        let (mut words, items) = (vec![], [0, 4, bits, 0]);
+        Entry { name: 0, offset: 0, width: 2, kind, occurs: None, depending: None, members: vec![] }.words(&mut words, &mut vec![]);
+        let none = [0u8; 1];
+        let fits = unsafe { trip_is_fitting(words.as_ptr(), words.len(), none.as_ptr(), 0, items.as_ptr(), 4, none.as_ptr(), 0, counts.as_mut_ptr(), 2) } == 1;
+        let seen = if fits == (halves::nearest(bits).1 == halves::EXACT) { Seen::Same } else { Seen::Other(format!("fitting: {fits}")) };
+        t.note(if fits { "fitting, 16 bits" } else { "not, 16 bits" }, 0, seen, 0, || format!("{bits:016x}"));
+    }
+}
+
 pub fn random(t: &mut Tally, cases: u64, seed: u64) {
     let mut g = Random(seed.wrapping_mul(0x9E37_79B9_7F4A_7C15) | 1);
     embedded_fits(t, &mut g);
+    halves_fit(t, &mut g);
     let (mut record, mut counts, mut back, mut said) = (vec![0x55u8; 65_536], vec![7i64; 1024], vec![0x55u64; 40_000], vec![0x55u8; 65_536]);
     let mut done = 0;
     while done < cases {

@@ -36,7 +36,7 @@ uint32_t ff_decode_record(const uint32_t *layout, size_t layout_len, const uint8
                           int64_t *counts, size_t counts_len, uint64_t *item_words_used, uint64_t *text_used);
 
 /* Writes a record from a value list, with its length. A Decimal of more scale than its field has, and a Float for a Decimal or Edited field, goes to the nearest
- * number that the field can hold, an exact half to the even one.
+ * number that the field can hold, an exact half to the even one. So does a float that goes into 16 or 32 bits, by IEEE 754: 65520 into 16 bits is an infinity, 2^-24 is 0001, a NaN 7E00.
  * Asks 1, 2, 3, 16 (counts), 11, 12, 16 (the layout's length), then field by field 13, 15, 14, 15, 16. */
 uint32_t ff_encode_record(const uint32_t *layout, size_t layout_len, const uint8_t *masks, size_t masks_len, uint32_t page,
                           const uint64_t *items, size_t items_len, const uint8_t *text, size_t text_len,

@@ -80,7 +80,7 @@ inRange w true true size = ltb 0 size && leb (2 * size) (256 ^ w)
 unfoldable pub binaryFits : ℕ → Bool → Bool → ℕ → Bool
 binaryFits w signed negative size = widthOk w && inRange w signed negative size
 
--- ---- Float: "64 any; 32 exact, no NaN; 16 exact normal, zero or infinity", "width bits/8"
+-- ---- Float: "64 any; 32 exact, no NaN" and, by S-9, "every exact binary16 number"; "width bits/8"
 
 unfoldable pub wordFits : ℕ → ℕ → ℕ → Bool
 wordFits bits w x = exactIn bits x && eqb w (bits / 8)

@@ -3,12 +3,13 @@ use mathlib.Core.Path.{_≡_, refl}
 use mathlib.Core.Bool.{Bool, true, false}
 use mathlib.Core.List.{List, [], _∷_}
 use Prim.Native.Nat.{ℕ, _-_, _^_}
-use lib.Ieee.{inf, ofBits, toBits, nanBits, isNan, fits}
+use lib.IntN.{negsuc}
+use lib.Ieee.{inf, fin, ofBits, toBits, nanBits, isNan, fits}
 use Rattle.lists.specs.Scan.{everyBy}
 use Rattle.value.specs.declared.Scalar.the-variants.{Null, Text, Int, Float as FloatV, FloatBits, Bool as BoolV}
 use Rattle.value.specs.Scalar.{decimal}
 use Rattle.float.specs.Half.{halfWord}
-use Rattle.float.specs.Single.{narrow}
+use Rattle.float.specs.Narrow.{patternOf}
 use Rattle.float.specs.Field.{exactIn}
 use Rattle.edited.specs.Edited.{countBy, lawfulFrom}
 use Rattle.fits.specs.Decide.{textFits, hexFits, digitsFit, intFits, binaryFits, wordFits, decimalFits, tells, editedFits, fitsOf}
@@ -127,8 +128,21 @@ unfolding fitsOf binaryFits
 binary-unsigned = refl
 
 float-infinite : fitsOf 0 16 0 0 [] 2 3 (FloatV (inf true)) [] ≡ true
-unfolding fitsOf wordFits exactIn fits isNan toBits nanBits ofBits narrow halfWord
+unfolding fitsOf wordFits exactIn fits isNan toBits nanBits ofBits patternOf halfWord
 float-infinite = refl
+
+-- 2^−24, the smallest half, and half of it
+float-smallest : fitsOf 0 16 0 0 [] 2 3 (FloatV (fin false 1 (negsuc 23))) [] ≡ true
+unfolding fitsOf wordFits exactIn fits isNan toBits nanBits ofBits patternOf halfWord
+float-smallest = refl
+
+float-smaller : fitsOf 0 16 0 0 [] 2 3 (FloatV (fin false 1 (negsuc 24))) [] ≡ false
+unfolding fitsOf wordFits exactIn fits isNan toBits nanBits ofBits patternOf halfWord
+float-smaller = refl
+
+float-half-nan : fitsOf 0 16 0 0 [] 2 3 (FloatBits 0x7FF8_0000_0000_0000) [] ≡ false
+unfolding fitsOf wordFits exactIn nanBits ofBits patternOf
+float-half-nan = refl
 
 float-nan : fitsOf 0 64 0 0 [] 8 3 (FloatBits 0xFFF8_0000_0000_0001) [] ≡ true
 unfolding fitsOf wordFits exactIn nanBits

@@ -45,7 +45,7 @@ pub data Fits (p q r s : ℕ) (mask : List ℕ) (w : ℕ) : ℕ → Scalar → L
   embedded-fits : (negative : Bool) (size : ℕ) (t : List ℕ) → isEmbedded p q ≡ true → 0 < w → size < 10 ^ w → size < 2 ^ 63 → Minus negative size
       → Fits p q r s mask w kindInt (Int negative size) t
   binary-fits : (negative : Bool) (size : ℕ) (t : List ℕ) → widthOk w ≡ true → InRange w (flag q) negative size → Fits p q r s mask w kindBinary (Int negative size) t
-  -- "Float: 64 any; 32 exact, no NaN; 16 exact normal, zero or infinity"
+  -- "Float: 64 any; 32 exact, no NaN"; 02, S-9: "every exact binary16 number"
   float-fits : (x : ℕ) (t : List ℕ) → Exact q x → w ≡ q / 8 → Fits p q r s mask w kindFloat (floatOf x) t
   -- "Hex: 2w lower-case digits"
   hex-fits : (start count : ℕ) (t : List ℕ) → Hex.Fits w t → Fits p q r s mask w kindHex (Text start count) t

@@ -8,6 +8,7 @@ pub mod Scalars
 pub mod Units
 pub mod Nearest
 pub mod Narrow
+pub mod Halves
 pub mod Bytes
 pub mod Back
 pub mod Numbered

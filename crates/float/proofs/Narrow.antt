@@ -17,7 +17,7 @@ use borrow.Author.Tests.{ltb-true, ltb-false, lt-ltb, eq-eqb, ne-eqb}
 use Rattle.value.specs.Rounding.{rounded}
 use Rattle.float.specs.Half.{sig}
 use Rattle.float.specs.Single.{narrow}
-use Rattle.float.specs.Narrow.{NarrowFormat, unitsOf, narrowed, infinityAt, nanAt, signAt, patternOf, PatternNearest, SinglePattern}
+use Rattle.float.specs.Narrow.{NarrowFormat, unitsOf, narrowed, infinityAt, nanAt, signAt, patternOf, PatternNearest, SingleNarrowed}
 use Rattle.float.proofs.Rule.{rounded-closest, rounded-same, rounded-le, rounded-ge}
 use Rattle.float.proofs.Units.{fields-units}
 use Rattle.float.proofs.Nearest.{twice, same-units, kept-le, kept-ge, nearest-narrowed}
@@ -120,7 +120,7 @@ pow-lt-back : (i p : ℕ) → 2 ^ i < 2 ^ p → i < p
 pow-lt-back i p h = lt-of-not-le (λ (g : p ≤ i). lt-irrefl (2 ^ i) (lt-of-lt-of-le h (pow-mono g)))
 
 -- the pattern of q * 2 ^ k units: k * 2 ^ 23 + q, and the infinity's from there on
-abbrev pub pattern : Bool → ℕ → ℕ → ℕ
+abbrev pattern : Bool → ℕ → ℕ → ℕ
 pattern s q k = cond s (2 ^ 31) 0 + min (k * 2 ^ 23 + q) (255 * 2 ^ 23)
 
 units-normal : (s : Bool) (q k : ℕ) → 2 ^ 23 ≤ q → q < 2 ^ 24 → bitsUnder s (q * 2 ^ k) (ltb (q * 2 ^ k) (2 ^ 277)) ≡ pattern s q k
@@ -187,11 +187,11 @@ of-round s a c C =
     ∙ ap (λ (q : ℕ). toBits binary32 (units binary32 s q k)) (sym (rounded-closest n (c * 2 ^ k) (mul-pos C (pow-pos k))))
     ∙ of-units s (rounded n (c * 2 ^ k)) k (kept-ge 24 n c (lit< tt) C) (kept-le 24 n c (lit< tt) C)
 
-pub single-pattern : SinglePattern
+pub single-narrowed : SingleNarrowed
 unfolding narrow patternOf toBits
-single-pattern nan = refl
-single-pattern (inf s) = refl
-single-pattern (fin s m e) = of-round s (m * up e) (down e) (down-pos e)
+single-narrowed nan = refl
+single-narrowed (inf s) = refl
+single-narrowed (fin s m e) = of-round s (m * up e) (down e) (down-pos e)
 
 -- ---- the ways of the code: no digit is dropped, or j of them
 

@@ -1,7 +1,8 @@
 -- `narrowed` has its property and is alone in it: with k digits dropped, the sizes near n / d are multiples of 2 ^ k units, among which `rounded` takes the nearest; below them all is farther.
+-- Where the infinity begins follows from the property alone.
 use mathlib.Core.Path.{_≡_, sym, ap, _∙_, subst}
 use Prim.Native.Nat.{ℕ, suc, _+_, _-_, _*_, _/_, _%_, _^_, _≤_, _<_, min}
-use native.Mathlib.Nat.{le-antisymm, le-trans, le-of-eq, lt-of-lt-of-le, mul-pos, mul-assoc, mul-comm, mul-left-comm, mul-lt-mul-of-pos-right, pow-succ', div-lt-iff-lt-mul, le-div-iff-mul-le, min-eq-left, min-eq-right}
+use native.Mathlib.Nat.{add-mul, le-antisymm, le-trans, le-of-eq, lt-of-lt-of-le, mul-pos, mul-assoc, mul-comm, mul-left-comm, mul-lt-mul-of-pos-right, pow-succ', div-lt-iff-lt-mul, le-div-iff-mul-le, min-eq-left, min-eq-right}
 use native.Mathlib.Decide.{decLt}
 use native.Mathlib.Omega.{arith}
 use lib.Pow.{pow-add, pow-pos, pow-mono}
@@ -9,7 +10,7 @@ use lib.Ieee.{size}
 use lib.Ieee.Digits.{size-lt, size-reaches}
 use Rattle.value.specs.Rounding.{away, Nearest, rounded}
 use Rattle.value.proofs.Nearest.{rounded-nearest}
-use Rattle.float.specs.Narrow.{unitsOf, NearestPattern, narrowed, NarrowedNearest, NearestNarrowed}
+use Rattle.float.specs.Narrow.{unitsOf, NearestPattern, narrowed, NarrowedNearest, NearestNarrowed, InfinityFrom}
 use Rattle.float.proofs.Rule.{rounded-le, rounded-ge}
 use Rattle.float.proofs.Units.{units-lt, pattern-units, Place, multiple, under, place}
 
@@ -156,3 +157,41 @@ narrowed-nearest p i n d P D = within-least p n d P D i (decLt i _)
 
 pub nearest-narrowed : NearestNarrowed
 nearest-narrowed p i n d b P D x = only p i n d (narrowed p i n d) b D (narrowed-nearest p i n d P D) x
+
+-- ---- where the infinity begins
+module _ (p i n d b : ℕ) (D : 0 < d) (I : 0 < i) (E : i % 2 ≡ 0) (x : NearestPattern p i n d b) where
+  abbrev last : ℕ
+  last = unitsOf p (i - 1)
+
+  last-lt : last * d < unitsOf p i * d
+  last-lt = scaled-lt p n d D (i - 1) i (omega arith)
+
+  from-half-way : b ≡ i → (last + unitsOf p i) * d ≤ 2 * n
+  from-half-way e =
+      let l = last-lt in
+      let f : away n d (unitsOf p i) ≤ away n d last = subst (λ (c : ℕ). away n d (unitsOf p c) ≤ away n d last) e (x .least (i - 1) (omega arith)) in
+      omega (arith, add-mul last (unitsOf p i) d)
+
+  -- below the infinity's, only the largest number's pattern could be as near, and it is odd
+  no-number : (last + unitsOf p i) * d ≤ 2 * n → b < i → ⊥
+  no-number h l = go (decLt b (i - 1))
+    where
+      go : Dec (b < i - 1) → ⊥
+      go (yes k) =
+          let y = scaled-lt p n d D b (i - 1) k in
+          let z = last-lt in
+          let f = x .least i (omega arith) in
+          omega (arith, add-mul last (unitsOf p i) d)
+      go (no k) =
+          let e : i - 1 ≡ b = omega arith in
+          let z = last-lt in
+          let f : away n d last ≤ away n d (unitsOf p i) = subst (λ (c : ℕ). away n d (unitsOf p c) ≤ away n d (unitsOf p i)) (sym e) (x .least i (omega arith)) in
+          let t : away n d (unitsOf p i) ≡ away n d last = omega (arith, add-mul last (unitsOf p i) d) in
+          let v = x .even i (omega arith) (λ g. omega arith) (t ∙ ap (λ (c : ℕ). away n d (unitsOf p c)) e) in
+          omega arith
+
+  is-infinity : (last + unitsOf p i) * d ≤ 2 * n → b ≡ i
+  is-infinity h = let g = no-number h in let l = x .within in omega arith
+
+pub infinity-from : InfinityFrom
+infinity-from p i n d P D I E = let x = narrowed-nearest p i n d P D in (from-half-way p i n d _ D I E x, is-infinity p i n d _ D I E x)

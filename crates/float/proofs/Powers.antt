@@ -53,16 +53,20 @@ whole : (m : ℕ) → m < 2048 → HasValue (ofInt binary64 (pos m)) false m 1
 unfolding ofInt
 whole m h = round-whole binary64 false m (le-trans (le-of-lt h) (lit≤ tt))
 
--- the one argument of exactness: in units of 2 ^ -1074 the product is m times a power of two, and m has at most 11 digits
+-- the one argument of exactness: in units of 2 ^ -1074 a half is m times a power of two, and m has at most 11 digits
+pub half-exact : (s : Bool) (m e : ℕ) → m < 2048 → e < 31 → HasValue (round binary64 s (m * 2 ^ (e - 1)) (2 ^ 24)) s (m * 2 ^ (e - 1)) (2 ^ 24)
+half-exact s m e h k =
+    round-exact binary64 s (m * 2 ^ (e - 1)) (2 ^ 24) m (e - 1 + 1050) (pow-pos 24) (lt-of-lt-of-le h (lit≤ tt))
+    (lt-of-lt-of-le (shl-lt 11 (e - 1 + 1050) h) (pow-mono (room e k)))
+    (mul-assoc m (2 ^ (e - 1)) (2 ^ 1074) ∙ ap (λ (x : ℕ). m * x) (split (e - 1)) ∙ sym (mul-assoc m (2 ^ (e - 1 + 1050)) (2 ^ 24)))
+  where
+    split : (j : ℕ) → 2 ^ j * 2 ^ 1074 ≡ 2 ^ (j + 1050) * 2 ^ 24
+    split j = sym (mul-assoc (2 ^ j) (2 ^ 1050) (2 ^ 24)) ∙ ap (λ (x : ℕ). x * 2 ^ 24) (sym (pow-add 2 j 1050))
+
 pub product-exact : (m e : ℕ) (p : Float) → m < 2048 → e < 31 → T (power e p) → HasValue (mul binary64 (ofInt binary64 (pos m)) p) false (m * 2 ^ (e - 1)) (2 ^ 24)
 product-exact m e p h k t =
     subst (λ (x : Float). HasValue x false (m * 2 ^ (e - 1)) (2 ^ 24))
     (sym
     (mul-value binary64 (ofInt binary64 (pos m)) p false false m 1 (2 ^ (e - 1)) (2 ^ 24) (zero-lt-suc 0) (pow-pos 24) (whole m h) (has-value p (2 ^ (e - 1)) (2 ^ 24) t)
     ∙ ap (λ (c : ℕ). round binary64 false (m * 2 ^ (e - 1)) c) (one-mul (2 ^ 24))))
-    (round-exact binary64 false (m * 2 ^ (e - 1)) (2 ^ 24) m (e - 1 + 1050) (pow-pos 24) (lt-of-lt-of-le h (lit≤ tt))
-    (lt-of-lt-of-le (shl-lt 11 (e - 1 + 1050) h) (pow-mono (room e k)))
-    (mul-assoc m (2 ^ (e - 1)) (2 ^ 1074) ∙ ap (λ (x : ℕ). m * x) (split (e - 1)) ∙ sym (mul-assoc m (2 ^ (e - 1 + 1050)) (2 ^ 24))))
-  where
-    split : (j : ℕ) → 2 ^ j * 2 ^ 1074 ≡ 2 ^ (j + 1050) * 2 ^ 24
-    split j = sym (mul-assoc (2 ^ j) (2 ^ 1050) (2 ^ 24)) ∙ ap (λ (x : ℕ). x * 2 ^ 24) (sym (pow-add 2 j 1050))
+    (half-exact false m e h k)

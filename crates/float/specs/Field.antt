@@ -1,7 +1,7 @@
 -- A Float field: "p order, q bits 16/32/64, width bits/8".
 use mathlib.Core.Path.{_≡_}
 use mathlib.Core.List.{List}
-use mathlib.Core.Bool.{Bool, true, false, not, _&&_, _||_, cond}
+use mathlib.Core.Bool.{Bool, false, not, _&&_, _||_, cond}
 use Prim.Native.Nat.{ℕ, _/_, _%_, _^_, _<_}
 use lib.Dec.{eqb, ltb}
 use lib.ListN.{length}
@@ -13,7 +13,8 @@ use Rattle.binary.specs.Bytes.{wordIn, bytesOf}
 use Rattle.float.specs.declared.Parsed.{Parsed}
 use Rattle.float.specs.declared.Parsed.the-variants.{Value, Bad}
 use Rattle.float.specs.Half.{halfWord}
-use Rattle.float.specs.Single.{singleWord, wideWord, cutWord}
+use Rattle.float.specs.Single.{singlePattern, wideWord}
+use Rattle.float.specs.Narrow.{halfPattern}
 
 abbrev pub fieldOk : ℕ → ℕ → Bool
 fieldOk bits width = (eqb bits 16 || eqb bits 32 || eqb bits 64) && eqb width (bits / 8)
@@ -24,7 +25,7 @@ wordFor bits v = cond (eqb bits 16) (halfWord v) (cond (eqb bits 32) (wideWord v
 
 -- the pattern of an f64's word at so many bits
 unfoldable pub patternFor : ℕ → ℕ → ℕ
-patternFor bits w = cond (eqb bits 16) (cutWord w) (cond (eqb bits 32) (singleWord w) w)
+patternFor bits w = cond (eqb bits 16) (halfPattern w) (cond (eqb bits 32) (singlePattern w) w)
 
 -- what a field's bytes are read as
 unfoldable pub floatIn : ℕ → ℕ → List ℕ → Answer Scalar
@@ -38,20 +39,20 @@ parsedAs Bad = refused 8
 unfoldable pub floatBytes : ℕ → ℕ → ℕ → ℕ → List ℕ
 floatBytes order bits width w = bytesOf order width (patternFor bits w)
 
--- ---- "Float: 64 any; 32 exact, no NaN; 16 exact normal, zero or infinity"
+-- ---- "Float: 64 any; 32 exact, no NaN"; 02, S-9: "Fitting lists gain every exact binary16 number"
 
--- a half whose fraction is 0 (a zero, an infinity or a power of two), or whose exponent's field is none of the two ends
-abbrev pub plainHalf : ℕ → Bool
-plainHalf h = eqb (h % 1024) 0 || (not (eqb (h % 32768 / 1024) 0) && not (eqb (h % 32768 / 1024) 31))
+-- a half above the infinity
+abbrev pub nanHalf : ℕ → Bool
+nanHalf h = ltb 31744 (h % 32768)
 
 pub data Exact : ℕ → ℕ → Type 0 where
   exact64 : (w : ℕ) → w < 2 ^ 64 → Exact 64 w
   exact32 : (w v : ℕ) → v < 2 ^ 32 → nanBits binary32 v ≡ false → w ≡ wideWord v → Exact 32 w
-  exact16 : (w h : ℕ) → h < 2 ^ 16 → plainHalf h ≡ true → w ≡ halfWord h → Exact 16 w
+  exact16 : (w h : ℕ) → h < 2 ^ 16 → nanHalf h ≡ false → w ≡ halfWord h → Exact 16 w
 
 -- the same as a test: what is written for the word reads as the word
 unfoldable pub exactIn : ℕ → ℕ → Bool
 exactIn bits w =
-    cond (eqb bits 16) (plainHalf (cutWord w) && eqb (halfWord (cutWord w)) w)
-    (cond (eqb bits 32) (not (nanBits binary32 (singleWord w)) && eqb (wideWord (singleWord w)) w)
+    cond (eqb bits 16) (not (nanHalf (halfPattern w)) && eqb (halfWord (halfPattern w)) w)
+    (cond (eqb bits 32) (not (nanBits binary32 (singlePattern w)) && eqb (wideWord (singlePattern w)) w)
     (eqb bits 64 && ltb w (2 ^ 64)))

@@ -15,11 +15,11 @@ ghost use Rattle.value.specs.Answer.{refused, given};
 ghost use Rattle.value.specs.Number.{amountAs};
 ghost use Rattle.value.specs.Rounding.{rounded};
 ghost use Rattle.float.specs.Half.{sig, halfWord};
-ghost use Rattle.float.specs.Single.{singleWord, wideWord, cutSize, cutWord};
-ghost use Rattle.float.specs.Narrow.{NarrowFormat, narrowed, infinityAt, patternOf};
+ghost use Rattle.float.specs.Single.{singlePattern, wideWord};
+ghost use Rattle.float.specs.Narrow.{NarrowFormat, narrowed, infinityAt, patternOf, halfPattern};
 ghost use Rattle.float.specs.Decimal.{toDecimal, ofDecimal};
 ghost use Rattle.float.specs.Convert.{floatedOf, floatedAs, decimalFor};
-ghost use Rattle.float.specs.Field.{fieldOk, wordFor, patternFor, floatIn, parsedAs, floatBytes, plainHalf, exactIn};
+ghost use Rattle.float.specs.Field.{fieldOk, wordFor, patternFor, floatIn, parsedAs, floatBytes, nanHalf, exactIn};
 ghost use lib.ListN.{length};
 
 // The f64 word of a value, where it has one.
@@ -197,38 +197,18 @@ fn narrow_word(p: u64, low: u64, ones: u64, w: u64) -> u64
     (ones + 1) * h + a
 }
 
+// The binary16 pattern of an f64's word.
+fn half_pattern(w: u64) -> u64
+    ensures { λ r. ⌜ r ≡ halfPattern w ⌝ }
+{
+    narrow_word(11, 24, 31, w)
+}
+
 // The binary32 pattern of an f64's word.
-fn single_word(w: u64) -> u64
-    ensures { λ r. ⌜ r ≡ singleWord w ⌝ }
+fn single_pattern(w: u64) -> u64
+    ensures { λ r. ⌜ r ≡ singlePattern w ⌝ }
 {
     narrow_word(24, 149, 255, w)
-}
-
-// A binary32 pattern's fields, cut to a binary16 size.
-fn cut_size(e: u64, t: u64) -> u64
-    requires { ⌜ (e < 256) × (t < 2 ^ 23) ⌝ }
-    ensures { λ r. ⌜ (r ≡ cutSize e t) × (r < 32768) ⌝ }
-{
-    if e < 113 {
-        0
-    } else if e < 143 {
-        (e - 112) * 1024 + t / 8192
-    } else {
-        31744
-    }
-}
-
-// The binary16 pattern of an f64's word: at binary32, and cut.
-fn cut_word(w: u64) -> u64
-    ensures { λ r. ⌜ r ≡ cutWord w ⌝ }
-{
-    let v = single_word(w);
-    let a = cut_size(v % 0x8000_0000 / 8388608, v % 8388608);
-    if w < 0x8000_0000_0000_0000 {
-        a
-    } else {
-        32768 + a
-    }
 }
 
 // ---- decimals
@@ -401,8 +381,8 @@ fn pattern_for(bits: u32, w: u64) -> u64
     ensures { λ r. ⌜ r ≡ patternFor bits w ⌝ }
 {
     match bits {
-        16 => cut_word(w),
-        32 => single_word(w),
+        16 => half_pattern(w),
+        32 => single_pattern(w),
         _ => w,
     }
 }
@@ -432,34 +412,20 @@ pub fn encode_float(part: &mut [u8], word: u64, bits: u32, order: u32) -> bool
 
 // ---- the words that a field keeps
 
-// A zero, an infinity or a normal number.
-fn plain_half(h: u64) -> bool
-    ensures { λ r. ⌜ r ≡ plainHalf h ⌝ }
+fn exact_half(w: u64) -> bool
+    ensures { λ r. ⌜ r ≡ (not (nanHalf (halfPattern w)) && eqb (halfWord (halfPattern w)) w) ⌝ }
 {
-    if h % 1024 == 0 {
-        return true;
-    }
-    let e = h % 32768 / 1024;
-    if e == 0 {
+    let h = half_pattern(w);
+    if h % 32768 > 31744 {
         return false;
     }
-    e != 31
-}
-
-fn exact_half(w: u64) -> bool
-    ensures { λ r. ⌜ r ≡ (plainHalf (cutWord w) && eqb (halfWord (cutWord w)) w) ⌝ }
-{
-    let h = cut_word(w);
-    if plain_half(h) {
-        return half_word(h) == w;
-    }
-    false
+    half_word(h) == w
 }
 
 fn exact_single(w: u64) -> bool
-    ensures { λ r. ⌜ r ≡ (not (Ieee.nanBits binary32 (singleWord w)) && eqb (wideWord (singleWord w)) w) ⌝ }
+    ensures { λ r. ⌜ r ≡ (not (Ieee.nanBits binary32 (singlePattern w)) && eqb (wideWord (singlePattern w)) w) ⌝ }
 {
-    let v = single_word(w);
+    let v = single_pattern(w);
     if v % 0x8000_0000 > 0x7F80_0000 {
         return false;
     }

@@ -1,7 +1,8 @@
 // Compares the leaves with answers from outside, a line for each group:
 // - page 037 as published (all 256 bytes; taken from glibc's IBM037 by iconv);
 // - COBOL: GnuCOBOL's fields on standard input, made by tools/cobol-vectors;
-// - IEEE 754: every binary16 number, and pseudo-random ones of the other sizes, as a sum that Python's struct and ctypes gave.
+// - IEEE 754: published binary16 numbers; every binary16 number, and pseudo-random words at 16 and 32 bits, as sums that tools/float-sums makes
+//   by Python's struct, with an infinity where it overflows, and ctypes.
 
 use codes::KIND_INT;
 use codes::TAG_INT;
@@ -581,14 +582,23 @@ fn verdict(name: &[u8], sum: u64, right: u64) {
     }
 }
 
+// Every half, and what it was read as written again: itself, and 0x7E00 for a NaN.
 fn halves() {
     let mut sum: u64 = 0;
+    let mut back: u64 = 0;
     let mut h: u64 = 0;
     while h < 65536 {
-        sum = mixed(sum, read_half(h));
+        let w = read_half(h);
+        sum = mixed(sum, w);
+        back = mixed(back, write_half(w));
         h += 1;
     }
     verdict(b"binary16 read, all 65536", sum, 115316097024);
+    verdict(
+        b"binary16 read and written again, all 65536",
+        back,
+        2047377408,
+    );
 }
 
 fn next(x: u64) -> u64 {
@@ -608,29 +618,91 @@ fn near_single(x: u64) -> u64 {
 fn random_floats() {
     let mut x: u64 = 88172645463325252;
     let mut single: u64 = 0;
-    let mut half: u64 = 0;
     let mut wider: u64 = 0;
     let mut i: u64 = 0;
     while i < 100000 {
         x = next(x);
         let w = near_single(x);
         single = mixed(single, write_single(w));
-        half = mixed(half, write_half(w));
         wider = mixed(wider, read_single(x % 0x1_0000_0000));
         i += 1;
     }
     verdict(b"binary32 written, 100000", single, 88363357800);
-    verdict(b"binary16 written by cutting, 100000", half, 65133465368);
     verdict(b"binary32 read, 100000", wider, 23726069014);
 }
 
-// The worked record of the specification that no theorem has.
-fn worked() {
-    verdict(
-        b"65520 to half: 7BFF",
-        write_half(0x40EF_FE00_0000_0000),
-        0x7BFF,
-    );
+// A word whose exponent lies round that of a binary16's range.
+fn near_half(x: u64) -> u64 {
+    let sign = x / 0x8000_0000_0000_0000;
+    let digits = x % 0x10_0000_0000_0000;
+    let power = 995 + x / 0x10_0000_0000_0000 % 48;
+    sign * 0x8000_0000_0000_0000 + power * 0x10_0000_0000_0000 + digits
+}
+
+// The same with no more than eleven digits after the leading one, so that many lie half way between two halves.
+fn near_tie(x: u64) -> u64 {
+    near_half(x) / 0x200_0000_0000 * 0x200_0000_0000
+}
+
+fn random_halves() {
+    let mut x: u64 = 88172645463325252;
+    let mut any: u64 = 0;
+    let mut tied: u64 = 0;
+    let mut i: u64 = 0;
+    while i < 100000 {
+        x = next(x);
+        any = mixed(any, write_half(near_half(x)));
+        tied = mixed(tied, write_half(near_tie(x)));
+        i += 1;
+    }
+    verdict(b"binary16 written, 100000", any, 106349413868);
+    verdict(b"binary16 written near a tie, 100000", tied, 104130688595);
+}
+
+// Numbers whose binary16 patterns are published: 0 and -0, the smallest and the largest subnormal number, the smallest normal one, 1/3, the
+// numbers round 1, -2, the largest number; and the request's 65520, and an infinity.
+const NUMBERS: [u64; 13] = [
+    0x0000_0000_0000_0000,
+    0x8000_0000_0000_0000,
+    0x3E70_0000_0000_0000,
+    0x3F0F_F800_0000_0000,
+    0x3F10_0000_0000_0000,
+    0x3FD5_5555_5555_5555,
+    0x3FEF_FC00_0000_0000,
+    0x3FF0_0000_0000_0000,
+    0x3FF0_0400_0000_0000,
+    0xC000_0000_0000_0000,
+    0x40EF_FC00_0000_0000,
+    0x40EF_FE00_0000_0000,
+    0xFFF0_0000_0000_0000,
+];
+
+const HALVES: [u64; 13] = [
+    0x0000,
+    0x8000,
+    0x0001,
+    0x03FF,
+    0x0400,
+    0x3555,
+    0x3BFF,
+    0x3C00,
+    0x3C01,
+    0xC000,
+    0x7BFF,
+    0x7C00,
+    0xFC00,
+];
+
+fn published() {
+    let mut right: u64 = 0;
+    let mut i: usize = 0;
+    while i < 13 {
+        if write_half(NUMBERS[i]) == HALVES[i] {
+            right = more(right);
+        }
+        i += 1;
+    }
+    line(b"binary16 as published, written", right, 13);
 }
 
 fn main() {
@@ -645,7 +717,8 @@ fn main() {
         b"COBOL whole numbers with an embedded sign, written and read",
     );
     cobol(&all[..n], 101, b"COBOL edited, written and read");
-    worked();
+    published();
     halves();
+    random_halves();
     random_floats();
 }

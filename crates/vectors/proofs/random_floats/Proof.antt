@@ -1,13 +1,14 @@
+-- `vectors::random_floats` ends: its counter stops at 100,000.
 use Prim.Native.Nat.{_-_, _≤_}
 use borrow.Author.Needs.{needs}
 use Rattle.vectors.proofs.random_floats.Statement.{statement}
 use Rattle.vectors.proofs.random_floats.Tie as tie
 
 abbrev Inv-loop : tie.InvT-loop
-Inv-loop x₀ single₀ half₀ wider₀ i₀ t7 t8 t9 x single half wider i = i ≤ 100000
+Inv-loop x₀ single₀ wider₀ i₀ t6 t7 x single wider i = i ≤ 100000
 
 abbrev μ-loop : tie.MeasureT-loop
-μ-loop x₀ single₀ half₀ wider₀ i₀ t7 t8 t9 x single half wider i = 100000 - i
+μ-loop x₀ single₀ wider₀ i₀ t6 t7 x single wider i = 100000 - i
 
 loop-holds : tie.Need-loop-holds Inv-loop μ-loop
 loop-holds c = search needs
@@ -24,17 +25,11 @@ write-single-requires c κs = search needs
 mixed-requires : tie.Need-mixed-requires Inv-loop μ-loop
 mixed-requires c κs = search needs
 
-write-half-requires : tie.Need-write-half-requires Inv-loop μ-loop
-write-half-requires c κs = search needs
-
-mixed-requires-2 : tie.Need-mixed-requires-2 Inv-loop μ-loop
-mixed-requires-2 c κs = search needs
-
 read-single-requires : tie.Need-read-single-requires Inv-loop μ-loop
 read-single-requires c κs = search needs
 
-mixed-requires-3 : tie.Need-mixed-requires-3 Inv-loop μ-loop
-mixed-requires-3 c κs = search needs
+mixed-requires-2 : tie.Need-mixed-requires-2 Inv-loop μ-loop
+mixed-requires-2 c κs = search needs
 
 add-i : tie.Need-add-i Inv-loop μ-loop
 add-i c = search needs
@@ -57,12 +52,6 @@ slice-aggregate-verdict-2 c = search needs
 verdict-requires-2 : tie.Need-verdict-requires-2 Inv-loop μ-loop
 verdict-requires-2 c κs = search needs
 
-slice-aggregate-verdict-3 : tie.Need-slice-aggregate-verdict-3 Inv-loop μ-loop
-slice-aggregate-verdict-3 c = search needs
-
-verdict-requires-3 : tie.Need-verdict-requires-3 Inv-loop μ-loop
-verdict-requires-3 c κs = search needs
-
 returns : tie.Need-returns Inv-loop μ-loop
 returns c = search needs
 
@@ -77,10 +66,8 @@ random-floats-spec =
     near-single-requires
     write-single-requires
     mixed-requires
-    write-half-requires
-    mixed-requires-2
     read-single-requires
-    mixed-requires-3
+    mixed-requires-2
     add-i
     loop-less
     loop-again
@@ -88,6 +75,4 @@ random-floats-spec =
     verdict-requires
     slice-aggregate-verdict-2
     verdict-requires-2
-    slice-aggregate-verdict-3
-    verdict-requires-3
     returns)

@@ -8,6 +8,8 @@ mod cases;
 mod check;
 #[path = "../compare/embedded.rs"]
 mod embedded;
+#[path = "../compare/halves.rs"]
+mod halves;
 #[path = "../compare/records.rs"]
 mod records;
 

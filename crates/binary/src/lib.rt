@@ -1,5 +1,7 @@
 // Binary integers of any byte order, and Bools.
 
+#![tactic(auto)]
+
 ghost use Rattle.std.specs.Prelude.{◌≡◌, Bool, true, cond, List, [], ◌∷◌, ◌++◌, ℕ, ◌+◌, ◌*◌, ◌%◌, ◌^◌, ◌<◌, ◌≤◌, length, drop};
 ghost use Rattle.value.specs.Number.{read_as};
 ghost use Rattle.binary.specs.Bytes.{word_in, bytes_of, big_from, little_of, big_bytes, little_bytes};

@@ -1,5 +1,7 @@
 // The numbers that the layout's words and the value list's give to kinds, tags, absent options and elements' names.
 
+#![tactic(auto)]
+
 // Kinds of fields.
 pub const KIND_TEXT: u32 = 0;
 

@@ -1,4 +1,7 @@
 // The record reader: a sequence reads fields, a field reads elements, a group element reads a sequence.
+
+#![tactic(auto)]
+
 ghost use Rattle.std.specs.Prelude.{◌≡◌, Bool, true, false, ◌&&◌, not, cond, eqb, List, [], ℕ, ◌+◌, ◌≤◌, pos, length, replicate};
 ghost use Rattle.codes.specs.Codes.{most, element, tag_struct};
 ghost use Rattle.layout.specs.Layout.{unrepeated_leaf, part, unrepeated};

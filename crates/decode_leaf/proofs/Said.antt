@@ -23,7 +23,7 @@ use Rattle.float.specs.Field.{float_in, field_ok, word_for}
 use Rattle.binary.specs.Bytes.{word_in}
 use Rattle.value.specs.Scalar.{float_of}
 use lib.Ieee.{binary64, of_bits, nan_bits}
-use Rattle.hex.specs.Hex.{hex_of}
+use Rattle.hex_field.specs.Hex.{hex_of}
 use Rattle.edited.specs.Edited as Edited
 use Rattle.edited.proofs.Round as EditedRound
 use Rattle.decode_scalar.specs.Decode.{Says, refused, value, text, says, flag, int_says, decimal_says, float_says, int_in, decimal_in, answer_of, text_after}

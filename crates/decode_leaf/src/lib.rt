@@ -1,4 +1,7 @@
 // The parts of the record reader: the counts of a walk, one scalar or Pad with its item.
+
+#![tactic(auto)]
+
 ghost use Rattle.std.specs.Prelude.{◌≡◌, Bool, true, false, ◌||◌, ◌&&◌, not, cond, List, [], ◌∷◌, ◌++◌, ℕ, ◌+◌, ◌-◌, ◌*◌, ◌/◌, ◌≤◌, ◌<◌, min, max, ◌^◌, ℤ, pos, eqb, leb, ltb, length, take, drop, get_or, set, replicate};
 ghost use Rattle.codes.specs.Codes.{element};
 ghost use Rattle.walks.specs.Walk.{times, how_many, leaf};

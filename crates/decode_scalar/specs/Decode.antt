@@ -15,7 +15,7 @@ use Rattle.text.specs.Text.{read_text, front}
 use Rattle.display.specs.Display as Display
 use Rattle.binary.specs.Binary.{integer_of, bool_of}
 use Rattle.float.specs.Field.{float_in}
-use Rattle.hex.specs.Hex.{hex_of}
+use Rattle.hex_field.specs.Hex.{hex_of}
 use Rattle.packed.specs.Packed as Packed
 use Rattle.zoned.specs.Zoned as Zoned
 use Rattle.edited.specs.Edited as Edited

@@ -1,5 +1,7 @@
 // One scalar field of any kind, read: a field is told by the words kind, p, q, r of its layout entry.
 
+#![tactic(auto)]
+
 ghost use Rattle.std.specs.Prelude.{◌≡◌, map, ℕ, ◌%◌, ◌<◌, length};
 ghost use Rattle.value.specs.Answer.{given};
 ghost use Rattle.value.specs.Field.{last_of};
@@ -7,7 +9,7 @@ ghost use Rattle.value.specs.Number.{read_as};
 ghost use Rattle.float.specs.Field.{parsed_as};
 ghost use Rattle.ebcdic.specs.Ebcdic.{from_page};
 ghost use Rattle.text.specs.Text.{read_text};
-ghost use Rattle.hex.specs.Hex.{hex_of};
+ghost use Rattle.hex_field.specs.Hex.{hex_of};
 ghost use Rattle.decode_scalar.specs.Decode as Decode;
 ghost use Rattle.decode_scalar.specs.Decode.{says, answer_of, decoded_as, text_after, int_says, decimal_says, float_says, is_embedded, is_overpunched, embedded_of, int_in, decimal_in};
 
@@ -156,7 +158,7 @@ fn read_hex(part: &[u8], order: u32, text: &mut [u8]) -> Decoded
     ensures result_value { decoded_as result ≡ answer_of (Decode.text (hex_of order part.now)) (length text.old) }
     ensures text_after { text.new ≡ text_after (Decode.text (hex_of order part.now)) text.old }
 {
-    if hex::to_hex(part, order, text) {
+    if hex_field::to_hex(part, order, text) {
         return text_answer(part.len() * 2);
     }
     Decoded::Refused(16)

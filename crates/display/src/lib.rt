@@ -1,5 +1,7 @@
 // Int and Display fields: numbers as text, on either page, of any width.
 
+#![tactic(auto)]
+
 ghost use Rattle.std.specs.Prelude.{◌≡◌, map, [], Bool, ◌&&◌, not, length};
 ghost use Rattle.value.specs.Scalar.{decimal};
 ghost use Rattle.value.specs.Number.{read_as, written_as};

@@ -1,4 +1,7 @@
 // Code page 037, both ways.
+
+#![tactic(auto)]
+
 ghost use Rattle.std.specs.Prelude.{◌≡◌, get_or};
 ghost use Rattle.ebcdic.specs.Ebcdic.{to_ascii, to_ebcdic, from_page, onto_page, copied};
 

@@ -1,5 +1,7 @@
 // Edited (printed amount) fields, on either page: the number that one says, and a number in the picture of a mask.
 
+#![tactic(auto)]
+
 ghost use Rattle.std.specs.Prelude.{◌≡◌, true, false, ◌&&◌, cond, map, ◌-◌, ◌<◌, eqb, leb, ltb, length};
 ghost use Rattle.value.specs.Answer.{given};
 ghost use Rattle.value.specs.Number.{number, read_as, amount_as};

@@ -1,4 +1,7 @@
 // The record writer: a sequence writes fields, a field writes elements, a group element writes a sequence.
+
+#![tactic(auto)]
+
 ghost use Rattle.std.specs.Prelude.{◌≡◌, ℕ, ◌/◌, ◌&&◌, ◌||◌, eqb, ltb, pos, length, replicate};
 ghost use Rattle.codes.specs.Codes.{kind_pad};
 ghost use Rattle.layout.specs.Layout.{part, entries, record_length, unrepeated, is_pad};

@@ -17,7 +17,7 @@ use Rattle.display.specs.Display.{whole_in}
 use Rattle.display.proofs.Numbered.{in-whole-numbered}
 use Rattle.float.specs.Convert.{floated_of, decimal_for}
 use Rattle.float.proofs.Numbered.{floated-numbered, for-numbered}
-use Rattle.hex.proofs.Back as HexBack
+use Rattle.hex_field.proofs.Back as HexBack
 use Rattle.edited.specs.Edited as Edited
 use Rattle.edited.proofs.Round as EditedRound
 use Rattle.decode_scalar.specs.Decode.{flag}

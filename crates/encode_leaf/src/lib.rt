@@ -1,4 +1,7 @@
 // The parts of the record writer: the elements of an entry, and one scalar or Pad put into the record.
+
+#![tactic(auto)]
+
 ghost use Rattle.std.specs.Prelude.{◌≡◌, Bool, true, false, ◌||◌, ◌&&◌, cond, List, ℕ, ◌+◌, ◌-◌, ◌*◌, ◌≤◌, min, max, pos, eqb, leb, length, replicate};
 ghost use Rattle.codes.specs.Codes.{most, tag_text};
 ghost use Rattle.items.specs.Items.{values, text_of};

@@ -22,8 +22,8 @@ use Rattle.display.proofs.Back.{length-bytes, decimal-fits}
 use Rattle.binary.specs.Binary.{integer_bytes}
 use Rattle.binary.proofs.Words.{bytes-length}
 use Rattle.float.specs.Field.{float_bytes}
-use Rattle.hex.specs.Hex as Hex
-use Rattle.hex.proofs.Back as HexBack
+use Rattle.hex_field.specs.Hex as Hex
+use Rattle.hex_field.proofs.Back as HexBack
 use Rattle.packed.specs.Packed as Packed
 use Rattle.packed.proofs.Writing as PackedWriting
 use Rattle.packed.proofs.Round as PackedRound

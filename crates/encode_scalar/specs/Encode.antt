@@ -13,7 +13,7 @@ use Rattle.display.specs.Display.{whole_in, int_fits, int_bytes, decimal_fits}
 use Rattle.binary.specs.Binary.{width_ok, integer_bytes}
 use Rattle.float.specs.Convert.{floated_of, decimal_for}
 use Rattle.float.specs.Field.{field_ok, float_bytes}
-use Rattle.hex.specs.Hex as Hex
+use Rattle.hex_field.specs.Hex as Hex
 use Rattle.packed.specs.Packed as Packed
 use Rattle.zoned.specs.Zoned as Zoned
 use Rattle.edited.specs.Edited as Edited

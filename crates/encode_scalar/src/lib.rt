@@ -1,6 +1,8 @@
 // One scalar field of any kind, written: a field is told by the words kind, p, q, r, s of its layout entry and an Edited's mask, and a value by
 // the tag and the two words of its item and, for a Text, its bytes.
 
+#![tactic(auto)]
+
 ghost use Rattle.std.specs.Prelude.{◌≡◌, [], ◌∷◌, map, cond, true, false, ℕ, ◌<◌, length, eqb};
 ghost use Rattle.value.specs.Number.{written_as, amount_as};
 ghost use Rattle.value.specs.Scalar.{scalar_of};
@@ -85,8 +87,8 @@ fn judge_hex(width: usize, v: Scalar, text: &[u8]) -> u32
     ensures { result ≡ hex_judged width (hex_text v text.now) }
 {
     match v {
-        Scalar::Null => hex::judge_hex(width, &text[0..0]),
-        Scalar::Text(_, _) => hex::judge_hex(width, text),
+        Scalar::Null => hex_field::judge_hex(width, &text[0..0]),
+        Scalar::Text(_, _) => hex_field::judge_hex(width, text),
         Scalar::Int(_, _) => 13,
         Scalar::Decimal(_, _, _) => 13,
         Scalar::Float(_) => 13,
@@ -257,8 +259,8 @@ fn write_hex(part: &mut [u8], order: u32, v: Scalar, text: &[u8]) -> u32
         (hex_written order (length part.old) (hex_text v text.now)) part.old }
 {
     match v {
-        Scalar::Null => hex::encode_hex(part, &text[0..0], order),
-        Scalar::Text(_, _) => hex::encode_hex(part, text, order),
+        Scalar::Null => hex_field::encode_hex(part, &text[0..0], order),
+        Scalar::Text(_, _) => hex_field::encode_hex(part, text, order),
         Scalar::Int(_, _) => 13,
         Scalar::Decimal(_, _, _) => 13,
         Scalar::Float(_) => 13,

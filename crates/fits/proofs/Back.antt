@@ -27,8 +27,8 @@ use Rattle.binary.proofs.Back as BinaryBack
 use Rattle.float.specs.Convert.{floated_of, decimal_for}
 use Rattle.float.specs.Field.{Exact, exact64, exact32, exact16, field_ok}
 use Rattle.float.proofs.Back as FloatBack
-use Rattle.hex.specs.Hex as Hex
-use Rattle.hex.proofs.Back as HexBack
+use Rattle.hex_field.specs.Hex as Hex
+use Rattle.hex_field.proofs.Back as HexBack
 use Rattle.packed.specs.Packed as Packed
 use Rattle.packed.proofs.Writing as PackedWriting
 use Rattle.packed.proofs.Round as PackedRound

@@ -13,7 +13,7 @@ use Rattle.text.proofs.Back.{written-length}
 use Rattle.display.specs.Display as Display
 use Rattle.display.proofs.Back.{fits-decimal}
 use Rattle.float.proofs.Back.{exact-lt}
-use Rattle.hex.proofs.Back as HexBack
+use Rattle.hex_field.proofs.Back as HexBack
 use Rattle.packed.specs.Packed as Packed
 use Rattle.packed.proofs.Writing.{fits_below}
 use Rattle.zoned.specs.Zoned as Zoned

@@ -22,7 +22,7 @@ use Rattle.numerals.specs.Numerals.{is_sign}
 use Rattle.display.specs.Display as Display
 use Rattle.binary.specs.Binary.{width_ok}
 use Rattle.binary.proofs.Integers.{width_low, width-high, half_twice, half_at}
-use Rattle.hex.specs.Hex.{is_lower}
+use Rattle.hex_field.specs.Hex.{is_lower}
 use Rattle.edited.specs.Edited.{judged, is_lawful, is_floating, count_of, positions}
 use Rattle.fits.specs.Decide.{byte_ok, is_text_byte, untrimmed_fits, minus_ok, digits_fit, in_range, last_two, tells, mask_fits, word_fits}
 

@@ -22,7 +22,7 @@ use Rattle.text.specs.Text as Text
 use Rattle.value.proofs.Field.{last_snoc}
 use Rattle.numerals.specs.Numerals.{is_sign}
 use Rattle.display.specs.Display.{is_separate}
-use Rattle.hex.specs.Hex as Hex
+use Rattle.hex_field.specs.Hex as Hex
 use Rattle.edited.specs.Edited.{is_lawful, is_floating, count_of, positions}
 use Rattle.edited.specs.Fits as Edited
 use Rattle.edited.specs.Fits.Tells.{first-plus, first-minus, last-plus, last-minus, credit, debit}

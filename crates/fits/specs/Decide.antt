@@ -12,7 +12,7 @@ use Rattle.numerals.specs.Numerals.{is_sign}
 use Rattle.display.specs.Display.{is_separate}
 use Rattle.binary.specs.Binary.{width_ok}
 use Rattle.float.specs.Field.{exact_in}
-use Rattle.hex.specs.Hex.{is_lower}
+use Rattle.hex_field.specs.Hex.{is_lower}
 use Rattle.edited.specs.Edited.{is_lawful, is_floating, count_of, positions}
 use Rattle.decode_scalar.specs.Decode.{flag, is_embedded}
 

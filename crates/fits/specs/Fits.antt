@@ -9,7 +9,7 @@ use Rattle.text.specs.Text as Text
 use Rattle.display.specs.Display.{is_separate}
 use Rattle.binary.specs.Binary.{width_ok}
 use Rattle.float.specs.Field.{Exact}
-use Rattle.hex.specs.Hex as Hex
+use Rattle.hex_field.specs.Hex as Hex
 use Rattle.edited.specs.Fits as Edited
 use Rattle.decode_scalar.specs.Decode.{Says, value, text, flag, is_embedded}
 

@@ -1,12 +1,14 @@
 // Whether a value fits a scalar field: a field is told by the words kind, p, q, r, s of its layout entry, an Edited's mask and its width, and a Text's bytes stand
 // beside the value.
 
+#![tactic(auto)]
+
 ghost use Rattle.std.specs.Prelude.{◌≡◌, true, not, ◌&&◌, cond, ℕ, ◌%◌, eqb, length};
 ghost use Rattle.std.specs.Float.Ieee as Ieee;
 ghost use Rattle.std.specs.Float.{binary64};
 ghost use Rattle.lists.specs.Scan.{every_by};
 ghost use Rattle.binary.specs.Binary.{width_ok};
-ghost use Rattle.hex.specs.Hex.{is_lower};
+ghost use Rattle.hex_field.specs.Hex.{is_lower};
 ghost use Rattle.decode_scalar.specs.Decode as Decode;
 ghost use Rattle.fits.specs.Decide.{is_text_byte, cut_end_ok, trimmed_fits, text_fits, hex_fits, minus_ok, digits_fit, int_fits, in_range, binary_fits, word_fits};
 ghost use Rattle.fits.specs.Decide.{sign_ok, display_fits, packed_fits, zoned_fits, decimal_fits, last_two, tells, edited_minus_ok, mask_fits, edited_fits, fits_of};

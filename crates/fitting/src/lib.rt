@@ -1,4 +1,7 @@
 // Whether a value list with its texts fits a layout: a sequence goes by fields, a field by elements, a group element by a sequence.
+
+#![tactic(auto)]
+
 ghost use Rattle.std.specs.Prelude.{◌≡◌, true, false, ◌&&◌, ◌||◌, not, eqb, leb, pos, length, replicate};
 ghost use Rattle.codes.specs.Codes.{tag_text};
 ghost use Rattle.layout.specs.Layout.{work_for, part};

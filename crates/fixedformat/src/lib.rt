@@ -1,4 +1,7 @@
 // The calls as C functions. A slice is a pointer and a length, in elements.
+
+#![tactic(auto)]
+
 ghost use Rattle.std.specs.Prelude.{◌≡◌, length};
 ghost use Rattle.layout.specs.Layout.{checked_of};
 ghost use Rattle.layout_text.specs.Reading.{layout_into, LayoutRead};

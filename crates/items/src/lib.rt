@@ -1,5 +1,7 @@
 // Value lists: whether one is well formed, and its items by name.
 
+#![tactic(auto)]
+
 ghost use Rattle.std.specs.Prelude.{◌≡◌, Bool, false, ◌++◌, ℕ, ◌+◌, ◌*◌, ◌/◌, ◌≤◌, min, eqb, length, get_or, drop};
 ghost use Rattle.codes.specs.Codes.{tag_list};
 ghost use Rattle.spans.specs.Tree.{end_of};

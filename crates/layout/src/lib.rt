@@ -1,4 +1,7 @@
 // The layout's words: whether they are lawful, the record's length, and whether a table depends on a count.
+
+#![tactic(auto)]
+
 ghost use Rattle.std.specs.Prelude.{◌≡◌, ◌+◌, ◌*◌, ◌≤◌, length, get_or};
 ghost use Rattle.spans.specs.Tree.{nested};
 ghost use Rattle.layout.specs.Layout.{entry_at, span_of, is_group, unrepeated, unrepeated_leaf, controls, part, words_ok, up_to, plain_ok, float_ok, bool_ok, edited_ok, kind_ok, option_ok, place_ok, entry_ok, entries_ok, checked_of, layout_asks, reserved_width, record_length, depends_in};

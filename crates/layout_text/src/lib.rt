@@ -1,4 +1,7 @@
 // The text form of a layout, read into its words and masks.
+
+#![tactic(auto)]
+
 ghost use Rattle.std.specs.Prelude.{◌≡◌, true, ◌&&◌, cond, [], ◌++◌, ℕ, ◌+◌, ◌*◌, ◌≤◌, ◌<◌, eqb, length, get_or, take, drop, set};
 ghost use Rattle.layout.specs.Layout.{absent};
 ghost use Rattle.lists.specs.Part.{place_in};

@@ -18,6 +18,8 @@
 //   N 0003 SPELLING                    name_of the text and a number
 //   . GROUP                            the end of a group: its cases are counted
 
+#![tactic(auto)]
+
 ghost use Rattle.std.specs.Prelude.{◌≤◌};
 
 use libc::STDOUT_FILENO;

@@ -1,5 +1,7 @@
 // The leaves as C functions, for the comparison with the Rust.
 
+#![tactic(auto)]
+
 ghost use Rattle.std.specs.Prelude.{◌≡◌, length};
 ghost use Rattle.ebcdic.specs.Ebcdic.{to_ascii, to_ebcdic};
 ghost use Rattle.value.specs.Scalar.{scalar_of};

@@ -1,4 +1,7 @@
 // The lines of a layout's text form, each judged on its own, and the numbers of names by first sight.
+
+#![tactic(auto)]
+
 ghost use Rattle.std.specs.Prelude.{◌≡◌, ◌≤◌, ◌<◌, length, take};
 ghost use Rattle.lists.specs.Part.{place_in};
 ghost use Rattle.lists.specs.Scan.{before_by};

@@ -1,4 +1,7 @@
 // Laws of lists that all crates share, and filling and copying a buffer.
+
+#![tactic(auto)]
+
 ghost use Rattle.std.specs.Prelude.{◌≡◌, ◌++◌, ◌≤◌, min, length, take, drop, replicate};
 
 // Sets every byte to v.

@@ -1,5 +1,7 @@
 // Numbers as text, on either page: blanks at the ends, the digits among the bytes, digits and signs written.
 
+#![tactic(auto)]
+
 ghost use Rattle.std.specs.Prelude.{◌≡◌, map, Bool, false, ◌+◌, ◌≤◌, ◌<◌, length, take, drop};
 ghost use Rattle.lists.specs.Part.{place_in};
 ghost use Rattle.lists.specs.Scan.{left_by, left_count, right_by};

@@ -1,5 +1,7 @@
 // Packed decimal fields of any width.
 
+#![tactic(auto)]
+
 ghost use Rattle.std.specs.Prelude.{◌≡◌, length, true, ◌+◌, ◌*◌, ◌<◌};
 ghost use Rattle.value.specs.Number.{read_as};
 ghost use Rattle.packed.specs.Packed.{decode_of, fits_of, written_of, sign_of, is_negative, ByPlace};

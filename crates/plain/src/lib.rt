@@ -1,4 +1,7 @@
 // Plain layouts decided: question by question, names by index, the other clauses in one walk of the tree.
+
+#![tactic(auto)]
+
 ghost use Rattle.std.specs.Prelude.{◌≡◌, ◌&&◌, ◌||◌, not, cond, List, ℕ, ◌+◌, ◌-◌, ◌≤◌, ◌<◌, length, take, set};
 ghost use Rattle.layout.specs.Layout.{entry_count, is_group, present, part, entries, unrepeated, controls};
 ghost use Rattle.walks.specs.Plain.{is_in, names_of, distinct, pad_ok, width_ok, sure, group_ok, plain};

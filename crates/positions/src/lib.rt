@@ -1,4 +1,7 @@
 // Positions in a record: sums and products that stop, differences that do not fall below 0, the larger of two.
+
+#![tactic(auto)]
+
 ghost use Rattle.std.specs.Prelude.{◌≡◌, ◌+◌, ◌-◌, ◌*◌, max, leb};
 ghost use Rattle.positions.specs.Positions.{sat};
 

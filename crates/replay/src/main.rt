@@ -4,6 +4,9 @@
 //   r 3032          a record's bytes           i 0 2 .. a value list's words       t 4f4b   its text bytes
 //   D PAGE NUMBER   reading the record gives the list; a number but 0 refuses, and all is zeros
 //   E PAGE NUMBER   writing the list gives the record; a number but 0 refuses, and all is zeros
+
+#![tactic(auto)]
+
 use libc::STDOUT_FILENO;
 use testing::{
     at, first_bytes, first_layout, first_words, holds_bytes, holds_words, line_at, more, narrow,

@@ -1,4 +1,7 @@
 // A list written by a layout and read back by it: demand 3 of the two calls.
+
+#![tactic(auto)]
+
 ghost use Rattle.std.specs.Prelude.{◌≡◌, ◌++◌, ◌+◌, ◌-◌, ◌≤◌, length, take, drop};
 ghost use Rattle.roundtrip.specs.Same.{RoundTrip, Returns};
 

@@ -1,6 +1,8 @@
 // Prints what a record says by its layout, from the files layout.txt and record.bin of the folder that it is run in. A file that can't be
 // read, and output that can't be written, is told on standard error.
 
+#![tactic(auto)]
+
 ghost use Rattle.std.specs.Prelude.{◌≡◌, true, false, ◌≤◌, length};
 
 use libc::{STDERR_FILENO, STDOUT_FILENO};

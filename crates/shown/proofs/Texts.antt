@@ -14,8 +14,8 @@ use Rattle.value.specs.Digits.{spread}
 use Rattle.value.specs.declared.Scalar.{Scalar}
 use Rattle.value.specs.declared.Scalar.TheVariants.{Int}
 use Rattle.binary.specs.Bytes.{bytes_of}
-use Rattle.hex.specs.Hex.{hex_of}
-use Rattle.hex.proofs.Laws.{hex-length}
+use Rattle.hex_field.specs.Hex.{hex_of}
+use Rattle.hex_field.proofs.Laws.{hex-length}
 use Rattle.text.specs.Shown.{shows, none, shown_of}
 use Rattle.layout_text.specs.Reading.{spelling}
 use Rattle.shown.specs.Shown.{is_plain, escape, escaped, float_text, number_text, name_of, refused_word, refused_text, ended}

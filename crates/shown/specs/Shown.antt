@@ -5,7 +5,7 @@ use Rattle.value.specs.Digits.{spread}
 use Rattle.value.specs.declared.Scalar.{Scalar}
 use Rattle.value.specs.declared.Scalar.TheVariants.{Int}
 use Rattle.binary.specs.Bytes.{bytes_of}
-use Rattle.hex.specs.Hex.{hex_of}
+use Rattle.hex_field.specs.Hex.{hex_of}
 use Rattle.text.specs.Shown.{Shows, shows, none, shown_of}
 use Rattle.items.specs.declared.Item.{Item}
 use Rattle.items.specs.Items.{scalar_in, item_count, item_at}

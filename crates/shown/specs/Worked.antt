@@ -7,7 +7,7 @@ use Rattle.ebcdic.specs.Ebcdic.{from_page}
 use Rattle.display.specs.Display as Display
 use Rattle.packed.specs.Packed as Packed
 use Rattle.binary.specs.Bytes.{bytes_of}
-use Rattle.hex.specs.Hex.{hex_of}
+use Rattle.hex_field.specs.Hex.{hex_of}
 use Rattle.text.specs.Text as Text
 use Rattle.text.specs.Shown.{digit_count, decimal_text}
 use Rattle.spans.specs.Tree.{tree, tree_in, size, nested}

@@ -1,7 +1,9 @@
 // What `show` prints of a layout's text and a record, a piece at a time: the bytes from a place on, as many as a buffer holds.
 
+#![tactic(auto)]
+
 ghost use Rattle.std.specs.Prelude.{◌≡◌, Bool, [], ◌∷◌, ℕ, ◌≤◌, ◌/◌, length, take, drop, replicate};
-ghost use Rattle.hex.specs.Hex.{hex_of};
+ghost use Rattle.hex_field.specs.Hex.{hex_of};
 ghost use Rattle.layout_text.specs.Reading.{Spells};
 ghost use Rattle.shown.specs.Shown.{is_plain, escape, escaped, number_text, float_text, number_in, kind_name, value_of, name_of, name_line, kind_line, value_line, lines_of, listed};
 ghost use Rattle.shown.specs.Shown.{refused_text, item_room, too_long, answer, shown, piece};
@@ -68,7 +70,7 @@ fn push_hex(out: &mut [u8], s: Sink, part: &[u8]) -> Sink
     ensures { Took (state out.old s) (hex_of 0 part.now) out.new result }
 {
     let mut digits = [0u8; 16];
-    hex::to_hex(part, 0, &mut digits);
+    hex_field::to_hex(part, 0, &mut digits);
     let n = part.len() * 2;
     push_all(out, s, &digits[0..n])
 }

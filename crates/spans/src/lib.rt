@@ -1,4 +1,7 @@
 // The tree that spans make of a run of entries.
+
+#![tactic(auto)]
+
 ghost use Rattle.std.specs.Prelude.{◌≡◌};
 ghost use Rattle.spans.specs.Tree.{end_of, span_ok};
 

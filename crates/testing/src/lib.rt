@@ -1,4 +1,7 @@
 // What the programs that compare answers share: a cell, the front and the lines of what is given, and whether a buffer holds what it should.
+
+#![tactic(auto)]
+
 ghost use Rattle.std.specs.Prelude.{◌≡◌, ◌+◌, ◌-◌, ◌%◌, ◌≤◌, ◌++◌, map, length, take, drop, slice_index};
 ghost use Rattle.lists.specs.Part.{place_in};
 ghost use Rattle.lines.specs.Lines.{line_from, start_in};

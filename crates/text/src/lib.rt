@@ -1,5 +1,7 @@
 // Text fields and Pads of a record.
 
+#![tactic(auto)]
+
 ghost use Rattle.std.specs.Prelude.{◌≡◌, Bool, cond, ◌∷◌, map, ◌+◌, ◌≤◌, ◌<◌, leb, length, take, drop};
 ghost use Rattle.lists.specs.Part.{place_in};
 ghost use Rattle.lists.specs.Scan.{left_by, left_count, right_by, before_by};

@@ -1,5 +1,7 @@
 // One Text field on its own, by its layout entry: its bytes translated to scratch, and its text as a part of the record or of the scratch.
 
+#![tactic(auto)]
+
 ghost use Rattle.std.specs.Prelude.{◌≡◌, Bool, true, false, cond, [], ◌+◌, ◌≤◌, eqb, length, take, drop};
 ghost use Rattle.lists.specs.Part.{place_in};
 ghost use Rattle.text.specs.Text.{cut, cut_from};

@@ -1,4 +1,7 @@
 // Plain layouts, fitting lists, and lists written and read back, as C functions for the comparison.
+
+#![tactic(auto)]
+
 ghost use Rattle.std.specs.Prelude.{◌≡◌, cond, ◌&&◌, leb, pos, length, replicate};
 ghost use Rattle.layout.specs.Layout.{work_for};
 ghost use Rattle.walks.specs.Plain.{plain};

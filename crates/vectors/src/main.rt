@@ -4,6 +4,8 @@
 // - IEEE 754: published binary16 numbers; every binary16 number, and pseudo-random words at 16 and 32 bits, as sums that tools/float-sums makes
 //   by Python's struct, with an infinity where it overflows, and ctypes.
 
+#![tactic(auto)]
+
 ghost use Rattle.std.specs.Prelude.{◌<◌, ◌≤◌, length};
 
 use codes::{KIND_INT, TAG_INT};

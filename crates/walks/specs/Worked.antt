@@ -18,7 +18,7 @@ use Rattle.binary.specs.Bytes as Bytes
 use Rattle.float.specs.Single.{narrow}
 use Rattle.float.specs.Field.{exact_in}
 use Rattle.float.specs.Convert.{decimal_for}
-use Rattle.hex.specs.Hex as Hex
+use Rattle.hex_field.specs.Hex as Hex
 use Rattle.text.specs.Text as Text
 use Rattle.decode_scalar.specs.Decode.{says}
 use Rattle.encode_scalar.specs.Encode.{number_judged, number_bytes, judged_of, bytes_of}

@@ -1,4 +1,7 @@
 // Scrap over the last jobs: sums of two Decimals over the last records, in a lent window; at a display scale by cutting, after a changeover by half-even rounding.
+
+#![tactic(auto)]
+
 ghost use Rattle.std.specs.Prelude.{◌≡◌, ℕ, ◌+◌, ◌-◌, ◌*◌, ◌/◌, ◌^◌, ◌<◌, ◌≤◌, Bool, true, cond, ◌++◌, length, replicate, ℤ, pos};
 ghost use Rattle.layout.specs.Layout.{entries};
 ghost use Rattle.items.specs.Items.{item_words, values, head_of};

@@ -1,4 +1,7 @@
 // Zeros in a lent buffer: item words, text bytes, counts, layout words.
+
+#![tactic(auto)]
+
 ghost use Rattle.std.specs.Prelude.{◌≡◌, ◌++◌, ◌-◌, pos, length, take, replicate};
 
 // Zeros from a place on.

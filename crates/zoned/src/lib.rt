@@ -1,5 +1,7 @@
 // Zoned decimal fields of any width, on either page.
 
+#![tactic(auto)]
+
 ghost use Rattle.std.specs.Prelude.{◌≡◌, Bool, cond, List, [], ◌∷◌, ◌++◌, map, ℕ, ◌+◌, ◌<◌, ◌≤◌, length};
 ghost use Rattle.value.specs.Number.{read_in, unlawful, read_as};
 ghost use Rattle.ebcdic.specs.Ebcdic.{from_page, onto_page};

@@ -5,8 +5,8 @@ use native.Mathlib.Omega.{arith}
 use borrow.Author.Tests.{leb-true}
 use lib.Dec.{leb}
 use lib.ListN.{length, take}
-use Rattle.hex.specs.Hex.{hex_of}
-use Rattle.hex.proofs.Laws.{hex-length}
+use Rattle.hex_field.specs.Hex.{hex_of}
+use Rattle.hex_field.proofs.Laws.{hex-length}
 use borrow.Author.Rules.{rules}
 use Rattle.decode_scalar.proofs.read_hex.Statement.{statement}
 use Rattle.decode_scalar.proofs.read_hex.Tie as tie

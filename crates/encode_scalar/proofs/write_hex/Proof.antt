@@ -5,8 +5,8 @@ use Prim.Native.Nat.{◌-◌}
 use borrow.Author.Tests.{eqb-true}
 use lib.Dec.{eqb}
 use lib.ListN.{length}
-use Rattle.hex.specs.Hex as Hex
-use Rattle.hex.proofs.Back as HexBack
+use Rattle.hex_field.specs.Hex as Hex
+use Rattle.hex_field.proofs.Back as HexBack
 use Rattle.encode_scalar.proofs.Parts.{numbered}
 use borrow.Author.Rules.{rules}
 use Rattle.encode_scalar.proofs.write_hex.Statement.{statement}

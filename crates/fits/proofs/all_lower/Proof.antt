@@ -4,7 +4,7 @@ use lib.ListN.{length, take, drop}
 use borrow.Author.Rules.{rules}
 use Rattle.lists.specs.Scan.{every_by}
 use Rattle.lists.proofs.Scan.{every-go, every-stop, every-end}
-use Rattle.hex.specs.Hex.{is_lower}
+use Rattle.hex_field.specs.Hex.{is_lower}
 use Rattle.fits.proofs.all_lower.Statement.{statement}
 use Rattle.fits.proofs.all_lower.Tie as tie
 

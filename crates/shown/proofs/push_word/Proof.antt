@@ -2,7 +2,7 @@
 use mathlib.Core.Path.{ap, ◌∙◌}
 use Prim.Native.Nat.{◌-◌}
 use lib.ListN.{length}
-use Rattle.hex.specs.Hex.{hex_of}
+use Rattle.hex_field.specs.Hex.{hex_of}
 use Rattle.shown.specs.Sink.{state, all}
 use Rattle.shown.proofs.Texts.{float_is}
 use borrow.Author.Rules.{rules}

@@ -1,7 +1,7 @@
 -- Worked examples, by computation.
 use Rattle.std.specs.Prelude.{◌≡◌, refl, [], ◌∷◌}
 use Rattle.lists.specs.Scan.{keep_by, every_by}
-use Rattle.hex.specs.Hex.{hex_of, digits_in, judged_of, bytes_of}
+use Rattle.hex_field.specs.Hex.{hex_of, digits_in, judged_of, bytes_of}
 
 -- 4F as "4f", and with the low digit first as "f4"
 high-first : hex_of 0 (0x4F ∷ []) ≡ 0x34 ∷ 0x66 ∷ []

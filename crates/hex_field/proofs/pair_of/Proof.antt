@@ -5,10 +5,10 @@ use native.Mathlib.Omega.{arith}
 use borrow.Author.Tests.{eq-eqb, ne_eqb, ltb-true}
 use lib.Dec.{eqb, ltb}
 use lib.ListN.{take}
-use Rattle.hex.specs.Hex.{nibble_in, is_hex}
+use Rattle.hex_field.specs.Hex.{nibble_in, is_hex}
 use borrow.Author.Rules.{rules}
-use Rattle.hex.proofs.pair_of.Statement.{statement}
-use Rattle.hex.proofs.pair_of.Tie as tie
+use Rattle.hex_field.proofs.pair_of.Statement.{statement}
+use Rattle.hex_field.proofs.pair_of.Tie as tie
 
 small : (x n : ℕ) → n ≡ nibble_in x → is_hex x ≡ true → n < 16
 small x n e h = rw e (ltb-true (nibble_in x) 16 h)

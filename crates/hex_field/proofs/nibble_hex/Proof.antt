@@ -3,8 +3,8 @@ use borrow.Author.Tests.{lt-ltb, le-ltb}
 use lib.Dec.{ltb}
 use lib.ListN.{take}
 use borrow.Author.Rules.{rules}
-use Rattle.hex.proofs.nibble_hex.Statement.{statement}
-use Rattle.hex.proofs.nibble_hex.Tie as tie
+use Rattle.hex_field.proofs.nibble_hex.Statement.{statement}
+use Rattle.hex_field.proofs.nibble_hex.Tie as tie
 
 add-result : tie.Need-overflow-add-result
 add-result c = search rules

@@ -4,11 +4,11 @@ use Prim.Native.Nat.{◌+◌, ◌-◌, ◌*◌, ◌≤◌}
 use native.Mathlib.Omega.{arith}
 use lib.ListN.{length, take, drop, set, length-set}
 use borrow.Author.Rules.{rules}
-use Rattle.hex.specs.Hex.{hex_of}
-use Rattle.hex.proofs.Laws.{hex-none, hex-go, hex-end}
+use Rattle.hex_field.specs.Hex.{hex_of}
+use Rattle.hex_field.proofs.Laws.{hex-none, hex-go, hex-end}
 use native.Mathlib.Nat.{le_antisymm}
-use Rattle.hex.proofs.write_hex.Statement.{statement}
-use Rattle.hex.proofs.write_hex.Tie as tie
+use Rattle.hex_field.proofs.write_hex.Statement.{statement}
+use Rattle.hex_field.proofs.write_hex.Tie as tie
 
 abbrev invariant-loop : tie.invariant-loop
 invariant-loop part order out₀ i₀ out i = (i ≤ length part) × ((out ≡ hex_of order (take i part) ++ drop (i * 2) out₀) × (length out ≡ length out₀))

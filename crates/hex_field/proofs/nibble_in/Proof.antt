@@ -3,8 +3,8 @@ use native.Mathlib.Omega.{arith}
 use borrow.Author.Tests.{le-leb, lt-leb}
 use borrow.Author.Rules.{rules}
 use Rattle.value.proofs.Digits.{past}
-use Rattle.hex.proofs.nibble_in.Statement.{statement}
-use Rattle.hex.proofs.nibble_in.Tie as tie
+use Rattle.hex_field.proofs.nibble_in.Statement.{statement}
+use Rattle.hex_field.proofs.nibble_in.Tie as tie
 
 returns : tie.Need-returns
 returns c = let x = c.before.args.x in simp (lt-leb 48 x (omega arith), lt-leb 65 x (omega arith), lt-leb 97 x (omega arith))

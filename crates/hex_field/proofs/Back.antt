@@ -12,8 +12,8 @@ use Rattle.lists.specs.Scan.{every_by}
 use Rattle.lists.proofs.Scan.{keep-every, every-weaker, every-head, every-tail}
 use Rattle.lists.proofs.Logic.{and_left, and_right}
 use Rattle.value.proofs.Digits.{high_digit, low_digit}
-use Rattle.hex.specs.Hex.{hex_digit, hex_pair, hex_of, nibble_in, is_hex, is_ink, digits_in, pair_of, pair_up, judged_of, bytes_of, is_lower, Fits}
-use Rattle.hex.proofs.Laws.{fine}
+use Rattle.hex_field.specs.Hex.{hex_digit, hex_pair, hex_of, nibble_in, is_hex, is_ink, digits_in, pair_of, pair_up, judged_of, bytes_of, is_lower, Fits}
+use Rattle.hex_field.proofs.Laws.{fine}
 
 -- a digit is no blank
 ink : (x : ℕ) → is_lower x ≡ true → is_ink x ≡ true

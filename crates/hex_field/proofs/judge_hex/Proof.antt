@@ -2,9 +2,9 @@ use mathlib.Core.Path.{sym, ◌∙◌}
 use Prim.Native.Nat.{◌-◌}
 use lib.ListN.{length, take}
 use borrow.Author.Rules.{rules}
-use Rattle.hex.proofs.Laws.{Judged, judged-start, judged-skip, judged-more, judged-bad, judged-odd, judged-long, judged-fine}
-use Rattle.hex.proofs.judge_hex.Statement.{statement}
-use Rattle.hex.proofs.judge_hex.Tie as tie
+use Rattle.hex_field.proofs.Laws.{Judged, judged-start, judged-skip, judged-more, judged-bad, judged-odd, judged-long, judged-fine}
+use Rattle.hex_field.proofs.judge_hex.Statement.{statement}
+use Rattle.hex_field.proofs.judge_hex.Tie as tie
 
 abbrev invariant-loop : tie.invariant-loop
 invariant-loop width text n₀ i₀ n i = Judged text i n

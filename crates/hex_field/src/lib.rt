@@ -1,7 +1,9 @@
 // Hex fields: bytes as digits of base 16.
 
+#![tactic(auto)]
+
 ghost use Rattle.std.specs.Prelude.{◌≡◌, Bool, true, false, cond, List, [], ◌∷◌, ◌++◌, ℕ, ◌+◌, ◌*◌, ◌/◌, ◌%◌, ◌<◌, ◌≤◌, eqb, leb, length, drop};
-ghost use Rattle.hex.specs.Hex.{hex_digit, hex_of, nibble_in, is_hex, pair_of, judged_of, bytes_of};
+ghost use Rattle.hex_field.specs.Hex.{hex_digit, hex_of, nibble_in, is_hex, pair_of, judged_of, bytes_of};
 
 // The lower-case digit of a number below 16.
 fn nibble_hex(n: u8) -> u8

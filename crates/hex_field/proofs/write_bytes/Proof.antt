@@ -3,9 +3,9 @@ use Prim.Native.Nat.{◌-◌}
 use native.Mathlib.Omega.{arith}
 use lib.ListN.{length, take, replicate, length-replicate}
 use borrow.Author.Rules.{rules}
-use Rattle.hex.proofs.Laws.{Pairing, pairing-start, pairing-skip, pairing-wait, pairing-pair, pairing-end, pair-lawful, pair-room}
-use Rattle.hex.proofs.write_bytes.Statement.{statement}
-use Rattle.hex.proofs.write_bytes.Tie as tie
+use Rattle.hex_field.proofs.Laws.{Pairing, pairing-start, pairing-skip, pairing-wait, pairing-pair, pairing-end, pair-lawful, pair-room}
+use Rattle.hex_field.proofs.write_bytes.Statement.{statement}
+use Rattle.hex_field.proofs.write_bytes.Tie as tie
 
 abbrev invariant-loop : tie.invariant-loop
 invariant-loop part₀ text order odd₀ prev₀ j₀ i₀ part odd prev j i = Pairing order text part (length part₀) odd prev j i

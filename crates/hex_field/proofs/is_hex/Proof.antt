@@ -2,8 +2,8 @@ use mathlib.Core.Path.{ap}
 use Prim.Native.Nat.{ℕ, ◌-◌}
 use lib.Dec.{ltb}
 use borrow.Author.Rules.{rules}
-use Rattle.hex.proofs.is_hex.Statement.{statement}
-use Rattle.hex.proofs.is_hex.Tie as tie
+use Rattle.hex_field.proofs.is_hex.Statement.{statement}
+use Rattle.hex_field.proofs.is_hex.Tie as tie
 
 nibble-in-requires : tie.Need-nibble-in-requires
 nibble-in-requires c κs = search rules

@@ -15,7 +15,7 @@ use Rattle.lists.proofs.Lists.{drop-replicate, behind}
 use Rattle.value.specs.Digits.{spread}
 use Rattle.value.proofs.Digits.{spread-more}
 use Rattle.numerals.specs.Numerals.{is_blank}
-use Rattle.hex.specs.Hex.{hex_digit, hex_pair, hex_of, is_hex, digits_in, pair_of, pair_up, judged_of, bytes_of}
+use Rattle.hex_field.specs.Hex.{hex_digit, hex_pair, hex_of, is_hex, digits_in, pair_of, pair_up, judged_of, bytes_of}
 
 -- ---- digits from bytes
 

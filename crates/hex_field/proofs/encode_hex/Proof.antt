@@ -3,10 +3,10 @@ use Prim.Native.Nat.{◌-◌}
 use borrow.Author.Tests.{ne_eqb}
 use lib.Dec.{eqb}
 use lib.ListN.{length, take}
-use Rattle.hex.specs.Hex.{judged_of}
+use Rattle.hex_field.specs.Hex.{judged_of}
 use borrow.Author.Rules.{rules}
-use Rattle.hex.proofs.encode_hex.Statement.{statement}
-use Rattle.hex.proofs.encode_hex.Tie as tie
+use Rattle.hex_field.proofs.encode_hex.Statement.{statement}
+use Rattle.hex_field.proofs.encode_hex.Tie as tie
 
 judge-hex-requires : tie.Need-judge-hex-requires
 judge-hex-requires c κs = search rules

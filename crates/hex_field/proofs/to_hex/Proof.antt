@@ -5,8 +5,8 @@ use borrow.Author.Tests.{le-leb, lt-leb}
 use lib.Dec.{leb}
 use lib.ListN.{length}
 use borrow.Author.Rules.{rules}
-use Rattle.hex.proofs.to_hex.Statement.{statement}
-use Rattle.hex.proofs.to_hex.Tie as tie
+use Rattle.hex_field.proofs.to_hex.Statement.{statement}
+use Rattle.hex_field.proofs.to_hex.Tie as tie
 
 write-hex-requires : tie.Need-write-hex-requires
 write-hex-requires c κs = search rules

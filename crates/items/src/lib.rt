@@ -14,7 +14,7 @@ use spans::end_of;
 use value::{LIMIT, Scalar, item_scalar, size_of, words_of};
 
 // An item of a value list: its name, its tag, and two words.
-#[derive(Drop)]
+#[derive(Clone, Copy)]
 pub struct Item {
     pub name: u64,
     pub tag: u64,

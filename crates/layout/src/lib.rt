@@ -14,7 +14,7 @@ use positions::larger;
 use spans::{end_of, span_ok};
 
 // The twelve words of an entry.
-#[derive(Drop)]
+#[derive(Clone, Copy)]
 pub struct Entry {
     pub name: u32,
     pub offset: u32,

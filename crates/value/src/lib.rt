@@ -32,7 +32,7 @@ pub enum Amount {
 
 // A field's value before it becomes an item: Text is a start and a length in a text buffer, Int and Decimal a sign and a size,
 // Decimal's last number its scale. A float that is a NaN is kept by its bits.
-#[derive(Drop)]
+#[derive(Clone, Copy)]
 pub enum Scalar {
     Null,
     Text(u64, u64),

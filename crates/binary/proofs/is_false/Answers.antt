@@ -1,0 +1,12 @@
+use mathlib.Core.Bool.{false}
+use Prim.Native.Nat.{◌-◌}
+use borrow.Author.Tests.{eq-eqb, ne_eqb}
+use lib.Dec.{eqb}
+use lib.ListN.{take}
+use Rattle.binary.proofs.is_false.Goals as goal
+
+pub returns-then-b-eq0 : goal.returns-then-b-eq0
+returns-then-b-eq0 c = rw (eq-eqb _ _ c.if-b-eq0.true)
+
+pub returns : goal.returns
+returns c = rw (ne_eqb _ _ c.if-b-eq0.false)

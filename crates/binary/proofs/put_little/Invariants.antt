@@ -1,0 +1,17 @@
+use mathlib.Core.Path.{◌≡◌, refl, sym, ap, ◌∙◌}
+use mathlib.Core.List.{◌++◌, append-nil}
+use Prim.Native.Nat.{ℕ, zero, ◌+◌, ◌-◌, ◌≤◌}
+use native.Mathlib.Omega.{arith}
+use lib.ListN.{length, take, set, length-set}
+use borrow.Author.Rules.{rules}
+use Rattle.binary.specs.Bytes.{little_bytes}
+use Rattle.binary.proofs.Words.{little-more}
+use native.Mathlib.Nat.{sub-zero}
+use lib.Seq.{take_all}
+use Rattle.binary.proofs.put_little.Given as goal
+
+abbrev pub invariant-loop-i : goal.invariant-loop-i
+invariant-loop-i l = (l.i ≤ length l.initial.part) × ((length l.part ≡ length l.initial.part) × (little_bytes (length l.initial.part) l.w ≡ take l.i l.part ++ little_bytes (length l.initial.part - l.i) l.rest))
+
+abbrev pub decreases-loop-i : goal.decreases-loop-i
+decreases-loop-i l = length l.initial.part - l.i

@@ -1,0 +1,15 @@
+use Prim.Native.Nat.{◌-◌}
+use borrow.Author.Tests.{le-leb, lt-leb}
+use lib.Dec.{leb}
+use lib.ListN.{take}
+use Rattle.display.specs.Display.{decimal_fits}
+use borrow.Author.Rules.{rules}
+use Rattle.display.proofs.fits_decimal.Goals as goal
+
+pub returns-then-precision-width : goal.returns-then-precision-width
+unfolding decimal_fits
+returns-then-precision-width c = rw (lt-leb c.args.precision c.args.width c.if-precision-width.true)
+
+pub returns : goal.returns
+unfolding decimal_fits
+returns c = rw (le-leb c.args.precision c.args.width c.if-precision-width.false, ← c.has_sign.ensures) c.fits_int.ensures

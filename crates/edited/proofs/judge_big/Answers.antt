@@ -1,0 +1,10 @@
+use Prim.Native.Nat.{◌-◌}
+use lib.ListN.{take}
+use borrow.Author.Rules.{rules}
+use Rattle.edited.proofs.judge_big.Goals as goal
+
+pub returns-then-any_floating : goal.returns-then-any_floating
+returns-then-any_floating c = rw (← c.any_floating.ensures, c.if-any_floating.true)
+
+pub returns : goal.returns
+returns c = rw (← c.any_floating.ensures, c.if-any_floating.false)

@@ -1,0 +1,10 @@
+use Prim.Native.Nat.{◌-◌}
+use lib.ListN.{take}
+use borrow.Author.Rules.{rules}
+use Rattle.edited.proofs.suppressed.Goals as goal
+
+pub returns-then-still : goal.returns-then-still
+returns-then-still c = rw (← c.still.ensures, c.if-still.true)
+
+pub returns : goal.returns
+returns c = rw (← c.still.ensures, c.if-still.false)

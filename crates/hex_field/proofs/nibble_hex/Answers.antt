@@ -1,0 +1,12 @@
+use Prim.Native.Nat.{◌-◌}
+use borrow.Author.Tests.{lt-ltb, le-ltb}
+use lib.Dec.{ltb}
+use lib.ListN.{take}
+use borrow.Author.Rules.{rules}
+use Rattle.hex_field.proofs.nibble_hex.Goals as goal
+
+pub returns-then-n-lt10 : goal.returns-then-n-lt10
+returns-then-n-lt10 c = rw (lt-ltb _ _ c.if-n-lt10.true)
+
+pub returns : goal.returns
+returns c = rw (le-ltb _ _ c.if-n-lt10.false)

@@ -1,0 +1,6 @@
+use Prim.Native.Nat.{◌-◌}
+use borrow.Author.Rules.{rules}
+use Rattle.items.proofs.item_end.Goals as goal
+
+pub returns : goal.returns
+returns c = rw (← c.fetch.ensures, ← c.span_of.ensures) c.end_of.ensures

@@ -1,0 +1,7 @@
+use Prim.Native.Nat.{◌-◌}
+use Rattle.items.proofs.Words.{item-is}
+use borrow.Author.Rules.{rules}
+use Rattle.items.proofs.item_of.Goals as goal
+
+pub returns : goal.returns
+returns c = item-is c.args.name c.args.v c.words_of-w.result c.words_of-w.ensures

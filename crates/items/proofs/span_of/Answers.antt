@@ -1,0 +1,10 @@
+use Prim.Native.Nat.{◌-◌}
+use lib.ListN.{take}
+use borrow.Author.Rules.{rules}
+use Rattle.items.proofs.span_of.Goals as goal
+
+pub returns-then-holding : goal.returns-then-holding
+returns-then-holding c = rw (← c.holding.ensures, c.if-holding.true)
+
+pub returns : goal.returns
+returns c = rw (← c.holding.ensures, c.if-holding.false)

@@ -1,0 +1,14 @@
+use mathlib.Core.Path.{◌≡◌, refl, sym, ◌∙◌}
+use Prim.Native.Nat.{◌-◌, ◌≤◌}
+use native.Mathlib.Omega.{arith}
+use lib.ListN.{length, take, drop}
+use borrow.Author.Rules.{rules}
+use Rattle.lines.specs.Names.{same_name}
+use Rattle.lines.proofs.Sight.{same-short, same-go, same_stop, same_end}
+use Rattle.lines.proofs.same_name.Given as goal
+
+abbrev pub invariant-loop-i : goal.invariant-loop-i
+invariant-loop-i l = (l.i ≤ length l.a) × ((length l.a ≡ length l.b) × (same_name l.a l.b ≡ same_name (drop l.i l.a) (drop l.i l.b)))
+
+abbrev pub decreases-loop-i : goal.decreases-loop-i
+decreases-loop-i l = length l.a - l.i

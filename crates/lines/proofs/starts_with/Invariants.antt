@@ -1,0 +1,14 @@
+use mathlib.Core.Path.{◌≡◌, refl, sym, ◌∙◌}
+use Prim.Native.Nat.{◌-◌, ◌≤◌}
+use native.Mathlib.Omega.{arith}
+use lib.ListN.{length, take, drop}
+use borrow.Author.Rules.{rules}
+use Rattle.lines.specs.Lines.{starts_with}
+use Rattle.lines.proofs.Laws.{starts-short, starts-go, starts-stop, starts-end}
+use Rattle.lines.proofs.starts_with.Given as goal
+
+abbrev pub invariant-loop-i : goal.invariant-loop-i
+invariant-loop-i l = (l.i ≤ length l.word) × ((length l.word ≤ length l.s) × (starts_with l.word l.s ≡ starts_with (drop l.i l.word) (drop l.i l.s)))
+
+abbrev pub decreases-loop-i : goal.decreases-loop-i
+decreases-loop-i l = length l.word - l.i

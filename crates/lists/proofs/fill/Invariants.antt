@@ -1,0 +1,15 @@
+use mathlib.Core.Path.{◌≡◌, refl, ◌∙◌}
+use mathlib.Core.List.{◌++◌}
+use Prim.Native.Nat.{◌+◌, ◌-◌, ◌≤◌, ◌<◌}
+use native.Mathlib.Omega.{arith}
+use lib.ListN.{length, drop, set, replicate, length-set}
+use borrow.Author.Rules.{rules}
+use borrow.Author.Fill.{fill_more}
+use Rattle.lists.proofs.Lists.{fill_end}
+use Rattle.lists.proofs.fill.Given as goal
+
+abbrev pub invariant-loop-i : goal.invariant-loop-i
+invariant-loop-i l = (l.i ≤ length l.initial.s) × ((l.s ≡ replicate l.i l.v ++ drop l.i l.initial.s) × (length l.s ≡ length l.initial.s))
+
+abbrev pub decreases-loop-i : goal.decreases-loop-i
+decreases-loop-i l = length l.initial.s - l.i

@@ -1,0 +1,14 @@
+use mathlib.Core.Path.{◌≡◌, refl, ap, ◌∙◌}
+use mathlib.Core.List.{◌++◌}
+use Prim.Native.Nat.{zero, ◌+◌, ◌-◌, ◌≤◌}
+use native.Mathlib.Omega.{arith}
+use lib.ListN.{length, drop, set, replicate, length-set}
+use lib.IntN.{pos}
+use Rattle.zeros.proofs.Zeros.{zeros-more, zeros-end}
+use Rattle.zeros.proofs.clear_counts.Given as goal
+
+abbrev pub invariant-loop-i : goal.invariant-loop-i
+invariant-loop-i l = (l.i ≤ length l.initial.counts) × ((l.counts ≡ replicate (l.i - 0) (pos 0) ++ drop l.i l.initial.counts) × (length l.counts ≡ length l.initial.counts))
+
+abbrev pub decreases-loop-i : goal.decreases-loop-i
+decreases-loop-i l = length l.initial.counts - l.i

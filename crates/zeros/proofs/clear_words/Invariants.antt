@@ -1,0 +1,13 @@
+use mathlib.Core.Path.{◌≡◌, refl, ap, ◌∙◌}
+use mathlib.Core.List.{◌++◌}
+use Prim.Native.Nat.{zero, ◌+◌, ◌-◌, ◌≤◌}
+use native.Mathlib.Omega.{arith}
+use lib.ListN.{length, drop, set, replicate, length-set}
+use Rattle.zeros.proofs.Zeros.{zeros-more, zeros-end}
+use Rattle.zeros.proofs.clear_words.Given as goal
+
+abbrev pub invariant-loop-i : goal.invariant-loop-i
+invariant-loop-i l = (l.i ≤ length l.initial.words) × ((l.words ≡ replicate (l.i - 0) 0 ++ drop l.i l.initial.words) × (length l.words ≡ length l.initial.words))
+
+abbrev pub decreases-loop-i : goal.decreases-loop-i
+decreases-loop-i l = length l.initial.words - l.i

@@ -1,4 +1,4 @@
--- from-Every one layout to another: when two values are the same, the call, and what both mean.
+-- From one layout to another: when two values are the same, the call, and what both mean.
 pub mod Same
 pub mod Exact
 pub mod Calls

@@ -1,4 +1,4 @@
-// from-Every one layout to another: a record read, written and read back, and whether every value came back the same.
+// From one layout to another: a record read, written and read back, and whether every value came back the same.
 
 #![tactic(auto)]
 

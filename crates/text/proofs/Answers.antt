@@ -1,4 +1,4 @@
--- from-Every a scalar's text to what display_scalar answers and leaves, and back.
+-- From a scalar's text to what display_scalar answers and leaves, and back.
 use mathlib.Core.Path.{◌≡◌, refl, sym, ap, ◌∙◌, subst}
 use mathlib.Core.Bool.{Bool, true, false, cond}
 use mathlib.Core.List.{List}

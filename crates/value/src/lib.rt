@@ -236,7 +236,7 @@ pub fn rescale(negative: bool, size: u64, from: u64, to: u64) -> Amount
     scale_down(negative, size, from - to)
 }
 
-// A size without k digits, to the nearest. from-Every k = 20 on no size comes to a half.
+// A size without k digits, to the nearest. From k = 20 on no size comes to a half.
 fn scale_down(negative: bool, size: u64, k: u64) -> Amount
     ensures { amount_as result ≡ amount_of negative (rounded size (10 ^ k)) }
 {

@@ -1,4 +1,4 @@
--- What holds of any run of records and changeovers. 02, S-2: "from-Every a start that zeroes it, with only these calls writing it under one W and pair, the two sums equal
+-- What holds of any run of records and changeovers. 02, S-2: "From a start that zeroes it, with only these calls writing it under one W and pair, the two sums equal
 -- after each record those of the last W values, or of all while there are fewer." S-7: "Values already inside keep what they contributed; later ones come in by the
 -- new rule. After every record the sums equal those of a fresh window that was told, value by value, which rule applied. A second changeover has no effect."
 use Rattle.std.specs.Prelude.{◌≡◌, ℕ, ◌+◌, ◌-◌, ◌*◌, ◌^◌, ◌<◌, ◌≤◌, true, cond, ◌↔◌, List, [], ◌∷◌, ◌++◌, map, length, ◌==◌, ◌≢◌, slice_index}

@@ -268,7 +268,7 @@ fn push(window: &mut [u64], w: usize, a: u64, b: u64)
 
 // ---- what a value contributes
 
-// A size without k digits: cut, or, where the changeover is passed, to the nearest. from-Every k = 20 on no size comes to a half.
+// A size without k digits: cut, or, where the changeover is passed, to the nearest. From k = 20 on no size comes to a half.
 fn without_digits(size: u64, k: u64, passed: bool) -> u64
     ensures { result ≡ ruled (rule_of passed) size (10 ^ k) }
 {

@@ -1,4 +1,4 @@
--- from-Every the right: the bytes from i on hold their digits by place, and rest is what is left of the size.
+-- From the right: the bytes from i on hold their digits by place, and rest is what is left of the size.
 use mathlib.Core.Path.{◌≡◌}
 use Prim.Native.Nat.{◌-◌, ◌<◌}
 use native.Mathlib.Omega.{arith}

@@ -1,4 +1,4 @@
--- from-Every what the reader leaves and what is taken out of its list: `pair_read_lem`.
+-- From what the reader leaves and what is taken out of its list: `pair_read_lem`.
 use Rattle.std.proofs.Common.{◌-◌, length, rules}
 use Rattle.window.proofs.Parts.{pair_read_lem}
 use Rattle.window.proofs.read_pair.Statement.{statement}

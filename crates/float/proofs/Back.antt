@@ -1,7 +1,7 @@
 -- What is written and read again is the same: patterns of 32 and 16 bits through an f64's word, and a word through a field's bytes.
 use Rattle.std.proofs.Common.{◌≡◌, ℕ, ◌+◌, ◌-◌, ◌*◌, ◌/◌, ◌%◌, ◌^◌, ◌<◌, ◌≤◌, Bool, true, false, cond, not, ◌&&◌, T, eqb, ltb, leb, sym, refl, ap, ◌∙◌, subst, mod-lt, mod-eq_of_lt, mul-one, arith, lit<, pow_pos, ltb-false, ltb-true, lt-ltb, eq-eqb, ne_eqb, eqb-true, leb-false, leb-true}
 use native.Mathlib.Decide.{dec_lt}
-use lib.Ieee.{Float, nan, inf, fin, Format, binary32, binary64, up, down, round, is_nan, nan_bits, fits, top, of_bits, to_bits}
+use lib.Ieee.{Float, nan, inf, fin, Format, binary32, binary64, up, down, round, is_nan, nan_bits, fits, of_bits, to_bits}
 use lib.Ieee.Bits.{of_bits-to_bits, to_bits-of_bits, to_bits-lt, of_bits-fits, nan_bits_is}
 use lib.Ieee.Exact.{HasValue}
 use lib.Ieee.Fits.{fits_widens, round-fits, inf-fits}

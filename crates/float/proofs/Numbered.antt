@@ -1,5 +1,5 @@
 -- What refuses a Float field, or a value in a Float or a Decimal field, is a question.
-use Rattle.std.proofs.Common.{ℕ, ◌*◌, ◌^◌, Bool, ltb, List, length, pos, arith}
+use Rattle.std.proofs.Common.{ℕ, ◌*◌, ◌^◌, ltb, List, length, pos, arith}
 use lib.Ieee.{Float, nan, inf, fin, binary64, up, down, of_int, mul, to_bits}
 use Rattle.value.specs.declared.Scalar.{Scalar}
 use Rattle.value.specs.declared.Scalar.TheVariants.{Null, Text, Int, Decimal, Float as FloatV, FloatBits, Bool as BoolV}

@@ -1,5 +1,5 @@
 -- A fraction as a size, and a float's decimal by any fraction that it equals.
-use Rattle.std.proofs.Common.{◌≡◌, ℕ, ◌+◌, ◌-◌, ◌*◌, ◌^◌, ◌<◌, ◌≤◌, Bool, pos, sym, ap, ◌∙◌, lt_of_lt_of_le, zero-lt-suc, mul_assoc, mul-le-mul_left, mul-one, arith, pow_pos, pow-add, le-ltb, lt-ltb}
+use Rattle.std.proofs.Common.{◌≡◌, ℕ, ◌+◌, ◌*◌, ◌^◌, ◌<◌, ◌≤◌, Bool, pos, sym, ap, ◌∙◌, lt_of_lt_of_le, zero-lt-suc, mul_assoc, mul-le-mul_left, mul-one, arith, pow_pos, pow-add, le-ltb, lt-ltb}
 use lib.Ieee.{Float, nan, inf, fin, binary64, up, down, mul, of_int}
 use lib.Ieee.Fits.{down_pos}
 use lib.Ieee.Exact.{HasValue}

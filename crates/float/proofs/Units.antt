@@ -1,5 +1,5 @@
 -- What the patterns of a narrow format stand for grows with the pattern: within a field by the digits, and a field's sizes end below the first size of the next.
-use Rattle.std.proofs.Common.{◌≡◌, ℕ, zero, suc, ◌+◌, ◌-◌, ◌*◌, ◌/◌, ◌%◌, ◌^◌, ◌<◌, ◌≤◌, Bool, cond, eqb, sym, refl, ap, ◌∙◌, subst, le_trans, le_of_eq, lt_of_lt_of_le, lt_of_le_of_lt, add-zero, le_of_lt, mul-le-mul_right, mod-lt, mod-eq_of_lt, zero-lt-suc, mul_assoc, suc-mul, mul_comm, mul-le-mul_left, mul-lt-mul_of_pos_right, div-add-mod', le-div_iff_mul-le, mul-one, mul_left_comm, arith, pow_pos, pow_mono, pow-add}
+use Rattle.std.proofs.Common.{◌≡◌, ℕ, zero, suc, ◌+◌, ◌-◌, ◌*◌, ◌/◌, ◌%◌, ◌^◌, ◌<◌, ◌≤◌, Bool, cond, sym, refl, ap, ◌∙◌, subst, le_trans, le_of_eq, lt_of_lt_of_le, lt_of_le_of_lt, add-zero, le_of_lt, mul-le-mul_right, mod-lt, mod-eq_of_lt, zero-lt-suc, mul_assoc, suc-mul, mul_comm, mul-le-mul_left, mul-lt-mul_of_pos_right, div-add-mod', le-div_iff_mul-le, mul-one, mul_left_comm, arith, pow_pos, pow_mono, pow-add}
 use native.Mathlib.Nat.{div-eq_of_lt, pow-succ'}
 use native.Mathlib.Decide.{dec_lt}
 use lib.Dec.{eqb-suc-zero}

@@ -1,4 +1,4 @@
-use Rattle.std.proofs.Common.{◌∙◌, rules}
+use Rattle.std.proofs.Common.{◌∙◌}
 use Rattle.float.specs.Convert.{decimal_for}
 use Rattle.float.proofs.Scalars.{decimal-at}
 use Rattle.float.proofs.as_decimal.Goals as goal

@@ -1,4 +1,4 @@
-use Rattle.std.proofs.Common.{sym, ap, ◌∙◌, rules}
+use Rattle.std.proofs.Common.{sym, ap, ◌∙◌}
 use lib.Ieee.{binary64, to_bits}
 use Rattle.value.specs.Answer.{given}
 use Rattle.float.specs.Convert.{floated_of}

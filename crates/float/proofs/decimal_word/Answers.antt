@@ -1,4 +1,4 @@
-use Rattle.std.proofs.Common.{ap, ◌∙◌, rules, le-ltb, lt-ltb}
+use Rattle.std.proofs.Common.{ap, ◌∙◌, le-ltb, lt-ltb}
 use lib.Ieee.{binary64, to_bits}
 use Rattle.value.specs.Answer.{given}
 use Rattle.float.proofs.decimal_word.Goals as goal

@@ -1,4 +1,4 @@
-use Rattle.std.proofs.Common.{◌≡◌, ◌-◌, true, false, length, sym, refl, ap, ◌∙◌, rules}
+use Rattle.std.proofs.Common.{◌≡◌, true, false, length, sym, refl, ap, ◌∙◌}
 use Rattle.binary.specs.Bytes.{bytes_of}
 use Rattle.float.specs.Field.{field_ok, float_bytes}
 use Rattle.float.proofs.encode_float.Goals as goal

@@ -1,4 +1,4 @@
-use Rattle.std.proofs.Common.{◌-◌, ◌^◌, eqb, ltb, sym, arith, rules, lt-ltb, ne_eqb}
+use Rattle.std.proofs.Common.{◌^◌, sym, arith, lt-ltb, ne_eqb}
 use Rattle.float.specs.Field.{exact_in}
 use Rattle.float.proofs.exact.Goals as goal
 

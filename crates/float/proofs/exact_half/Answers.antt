@@ -1,5 +1,5 @@
 -- `float::exact_half` meets its contract: of the half that is written, a NaN is not exact, and any other is where it reads as the word.
-use Rattle.std.proofs.Common.{◌≡◌, ℕ, ◌<◌, true, false, not, ◌&&◌, eqb, sym, subst, rules, le-ltb, lt-ltb}
+use Rattle.std.proofs.Common.{◌≡◌, ℕ, ◌<◌, true, false, not, ◌&&◌, eqb, sym, subst, le-ltb, lt-ltb}
 use Rattle.float.specs.Narrow.{half_pattern}
 use Rattle.float.specs.Half.{half_word}
 use Rattle.float.specs.Field.{nan_half}

@@ -1,4 +1,4 @@
-use Rattle.std.proofs.Common.{◌≡◌, ℕ, ◌-◌, ◌<◌, true, false, not, ◌&&◌, eqb, take, sym, subst, rules}
+use Rattle.std.proofs.Common.{◌≡◌, ℕ, ◌<◌, true, false, not, ◌&&◌, eqb, sym, subst}
 use lib.Ieee.{binary32, nan_bits}
 use Rattle.value.proofs.Nans.{nan_pattern, no-nan-pattern}
 use Rattle.float.specs.Single.{single_pattern, wide_word}

@@ -1,4 +1,4 @@
-use Rattle.std.proofs.Common.{◌-◌, ne_eqb}
+use Rattle.std.proofs.Common.{ne_eqb}
 use Rattle.float.proofs.field_ok.Goals as goal
 
 pub returns-in-16 : goal.returns-in-16

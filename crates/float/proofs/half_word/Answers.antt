@@ -1,5 +1,5 @@
 -- `float::half_word` meets its contract.
-use Rattle.std.proofs.Common.{◌≡◌, ℕ, ◌+◌, ◌-◌, ◌*◌, ◌/◌, ◌%◌, ◌^◌, ◌<◌, Bool, true, false, cond, eqb, leb, sym, refl, ◌∙◌, subst, mul-one, arith, pow_pos, rules, eq-eqb, ne_eqb, le-leb}
+use Rattle.std.proofs.Common.{◌≡◌, ℕ, ◌+◌, ◌-◌, ◌*◌, ◌/◌, ◌%◌, ◌^◌, ◌<◌, Bool, true, false, cond, eqb, leb, sym, refl, ◌∙◌, subst, mul-one, arith, pow_pos, eq-eqb, ne_eqb, le-leb}
 use lib.Ieee.{Float, nan, inf, binary64, to_bits, neg}
 use lib.Ieee.Exact.{HasValue}
 use borrow.Author.Tests.{lt-leb}
@@ -30,9 +30,13 @@ small e t h = go (eqb e 0)
 below : (h : ℕ) → (h % 32768 / 1024 ≡ 31 → ⊥) → h % 32768 / 1024 < 31
 below h n = omega arith
 
+-- what the product is, with the significand by its definition
+value : (h : ℕ) (x : Float) {m : ℕ} → m ≡ sig 1024 (h % 32768 / 1024) (h % 1024) → HasValue x false (m * 2 ^ (h % 32768 / 1024 - 1)) (2 ^ 24)
+    → HasValue x false (sig 1024 (h % 32768 / 1024) (h % 1024) * 2 ^ (h % 32768 / 1024 - 1)) (2 ^ 24)
+value h x e v = subst (λ (m : ℕ). HasValue x false (m * 2 ^ (h % 32768 / 1024 - 1)) (2 ^ 24)) e v
+
 pub scaled-x-requires : goal.scaled-x-requires
-scaled-x-requires c =
-    (
+scaled-x-requires c = (
   subst (λ (m : ℕ). m < 2048) (sym c.significand.ensures) (small (c.args.h % 32768 / 1024) (c.args.h % 1024) (omega arith)),
   below c.args.h c.if-e-eq31.false,
 )
@@ -56,12 +60,8 @@ unfolding to_bits
 returns-else-t-eq0 c = word c.args.h refl (eq-eqb _ _ c.if-e-eq31.true) (ne_eqb _ _ c.if-t-eq0.false)
 
 pub returns-then-h-lt32768-2 : goal.returns-then-h-lt32768-2
-returns-then-h-lt32768-2 c = number c.args.h false c.scaled-x.result (lt-leb _ _ c.if-h-lt32768-2.true) c.if-e-eq31.false (value c.before)
+returns-then-h-lt32768-2 c = number c.args.h false c.scaled-x.result (lt-leb _ _ c.if-h-lt32768-2.true) c.if-e-eq31.false (value c.args.h c.scaled-x.result c.significand.ensures c.scaled-x.ensures)
 
 pub returns-else-h-lt32768-2 : goal.returns-else-h-lt32768-2
 returns-else-h-lt32768-2 c =
-    number c.args.h true (neg c.scaled-x.result) (le-leb _ _ c.if-h-lt32768-2.false) c.if-e-eq31.false (neg_value _ _ _ _ (value c.before))
-
--- LEFT -- what the product is, with the significand by its definition
--- LEFT value : (c : tie.After-scaled) → let h = c.before.before.before.args.h in HasValue c.scaled.result false (sig 1024 (h % 32768 / 1024) (h % 1024) * 2 ^ (h % 32768 / 1024 - 1)) (2 ^ 24)
--- LEFT value c = subst (λ (m : ℕ). HasValue c.scaled.result false (m * 2 ^ (c.before.before.before.args.h % 32768 / 1024 - 1)) (2 ^ 24)) c.before.significand.ensures c.scaled.ensures
+    number c.args.h true (neg c.scaled-x.result) (le-leb _ _ c.if-h-lt32768-2.false) c.if-e-eq31.false (neg_value _ _ _ _ (value c.args.h c.scaled-x.result c.significand.ensures c.scaled-x.ensures))

@@ -1,5 +1,5 @@
 -- `float::leading` meets its contract: a shift by at most 23 loses nothing (`bit`).
-use Rattle.std.proofs.Common.{ℕ, ◌-◌, ◌^◌, ◌≤◌, sym, subst, arith, pow_mono, rules}
+use Rattle.std.proofs.Common.{ℕ, ◌-◌, ◌^◌, ◌≤◌, sym, subst, arith, pow_mono}
 use Rattle.float.proofs.Rule.{bit}
 use Rattle.float.proofs.leading.Goals as goal
 

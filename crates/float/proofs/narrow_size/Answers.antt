@@ -1,100 +1,89 @@
 -- `float::narrow_size` meets its contract: below the smallest normal number no digit is dropped (`low-way`), from there on k of them, up to the infinity (`high-size`, `high-over`).
-use Rattle.std.proofs.Common.{◌≡◌, ℕ, ◌+◌, ◌-◌, ◌*◌, ◌^◌, ◌<◌, ◌≤◌, ap, ◌∙◌, arith, rules}
+use Rattle.std.proofs.Common.{◌≡◌, ℕ, ◌+◌, ◌-◌, ◌*◌, ◌^◌, ◌<◌, ◌≤◌, ap, ◌∙◌, arith}
 use Rattle.value.specs.Rounding.{rounded}
-use Rattle.float.specs.Narrow.{narrowed, infinity_at}
+use Rattle.float.specs.Half.{sig}
+use Rattle.float.specs.Narrow.{NarrowFormat, narrowed, infinity_at}
 use Rattle.float.proofs.Fields.{m-lt, m-ge}
 use Rattle.float.proofs.Narrow.{size_at, low-way, digits_le, high-size, high-over, weight-le}
 use Rattle.float.proofs.narrow_size.Goals as goal
 
+-- m is what a call answered for the significand
+module _ {m : ℕ} (p low ones x t : ℕ) (F : NarrowFormat p low ones) (l : t < 2 ^ 52) (e : m ≡ sig (2 ^ 52) x t) where
+  done : {r : ℕ} → r ≡ narrowed p (infinity_at p ones) (m * 2 ^ (x - 1) * 2 ^ low) (2 ^ 1074) → r ≡ size_at p low ones x t
+  done f = f ∙ ap (λ (n : ℕ). narrowed p (infinity_at p ones) (n * 2 ^ (x - 1) * 2 ^ low) (2 ^ 1074)) e
+
+  of_low : (j : ℕ) {r : ℕ} → r ≡ rounded m (2 ^ j) → x - 1 + low + j ≡ 1074 → 53 ≤ p + j → r ≡ size_at p low ones x t
+  of_low j f g h = done (f ∙ low-way p low ones m (x - 1) (omega arith) (omega arith) (omega arith) (m-lt x t e l) j g h)
+
+  -- from the smallest normal number on, k being how many digits are dropped, and h what a call answered for the leading one's weight
+  module _ {h : ℕ} (n : x ≡ 0 → ⊥) (a : 1022 + p - low ≤ x) (q : h ≡ 2 ^ (p - 1)) where
+    abbrev k : ℕ
+    k = x - (1022 + p - low)
+
+    G : x - 1 + low ≡ k + 1021 + p
+    G = omega arith
+
+    digits : {r : ℕ} → r ≡ rounded m (2 ^ (53 - p)) → r ≤ 2 * h
+    digits f = rw (f, q) (digits_le p low ones m (x - 1) (omega arith) (omega arith) (omega arith) (m-lt x t e l) k (m-ge x t e n) G)
+
+    of_high : {r : ℕ} → r ≡ rounded m (2 ^ (53 - p)) → k + 1 < ones → k * h + r ≡ size_at p low ones x t
+    of_high {r} f b =
+        done
+        (ap (λ (h : ℕ). k * h + r) q
+        ∙ ap (λ (n : ℕ). k * 2 ^ (p - 1) + n) f
+        ∙ high-size p low ones m (x - 1) (omega arith) (omega arith) (omega arith) (m-lt x t e l) k (m-ge x t e n) G b)
+
+    of_over : ones ≤ k + 1 → ones * h ≡ size_at p low ones x t
+    of_over b =
+        done
+        (ap (λ (h : ℕ). ones * h) q
+        ∙ high-over p low ones m (x - 1) (omega arith) (omega arith) (omega arith) (m-lt x t e l) k (m-ge x t e n) G b)
+
 pub nearest_even-requires : goal.nearest_even-requires
-nearest_even-requires c = M c.before
+nearest_even-requires c = m-lt c.args.x c.args.t c.significand-m.ensures c.requires.1
 
 pub returns-then-x-eq0 : goal.returns-then-x-eq0
-returns-then-x-eq0 c = of_low z (1074 - low z) _ c.nearest_even.ensures (omega arith) (omega arith)
+returns-then-x-eq0 c =
+    let a = c.args in
+    of_low a.p a.low a.ones a.x a.t c.requires.0 c.requires.1 c.significand-m.ensures (1074 - a.low) c.nearest_even.ensures (omega arith) (omega arith)
 
 pub nearest_even-requires-then-x-normal : goal.nearest_even-requires-then-x-normal
-nearest_even-requires-then-x-normal c = M c.before.before
+nearest_even-requires-then-x-normal c = m-lt c.args.x c.args.t c.significand-m.ensures c.requires.1
 
 pub returns-then-x-normal : goal.returns-then-x-normal
-returns-then-x-normal c = of_low z (1075 - low z - x z) _ c.nearest_even-then-x-normal.ensures (omega arith) (omega arith)
+returns-then-x-normal c =
+    let a = c.args in
+    of_low a.p a.low a.ones a.x a.t c.requires.0 c.requires.1 c.significand-m.ensures (1075 - a.low - a.x) c.nearest_even-then-x-normal.ensures (omega arith) (omega arith)
 
 pub overflow_mul-result : goal.overflow_mul-result
-overflow_mul-result c = let r = room c.before (k c.before) (omega arith) in omega arith
+overflow_mul-result c =
+    let a = c.args in
+    let r = weight-le a.p a.ones (omega arith) (omega arith) c.leading-h.ensures.0 c.leading-h.ensures.1 (a.x - (1022 + a.p - a.low)) (omega arith) in
+    omega arith
 
 pub nearest_even-requires-then-k-ones : goal.nearest_even-requires-then-k-ones
-nearest_even-requires-then-k-ones c = M (start c.before)
+nearest_even-requires-then-k-ones c = m-lt c.args.x c.args.t c.significand-m.ensures c.requires.1
 
 pub overflow_add-result : goal.overflow_add-result
 overflow_add-result c =
-    let s = start z in
-    let r = room z (k z) (omega arith) in
-    let d = digits_le (p s) (low s) (ones s) (m s) (x s - 1) (P s) (Q s) (O s) (M s) (k z) (L z) (G z) in
-    let e : c.nearest_even-then-k-ones.result ≤ 2 * c.leading-h.result = rw (c.nearest_even-then-k-ones.ensures, c.leading-h.ensures.0) d in
-    omega (arith, c.leading-h.ensures.1)
+    let a = c.args in
+    let h = c.leading-h.ensures in
+    let r = weight-le a.p a.ones (omega arith) (omega arith) h.0 h.1 (a.x - (1022 + a.p - a.low)) (omega arith) in
+    let d = digits a.p a.low a.ones a.x a.t c.requires.0 c.requires.1 c.significand-m.ensures c.if-x-eq0.false c.if-x-normal.false h.0 c.nearest_even-then-k-ones.ensures in
+    omega (arith, h.1)
 
 pub returns-then-k-ones : goal.returns-then-k-ones
 returns-then-k-ones c =
-    let s = start z in
-    done s
-    (ap (λ (h : ℕ). k z * h + c.nearest_even-then-k-ones.result) c.leading-h.ensures.0
-    ∙ ap (λ (n : ℕ). k z * 2 ^ (p s - 1) + n) c.nearest_even-then-k-ones.ensures
-    ∙ high-size (p s) (low s) (ones s) (m s) (x s - 1) (P s) (Q s) (O s) (M s) (k z) (L z) (G z) (omega arith))
+    let a = c.args in
+    of_high a.p a.low a.ones a.x a.t c.requires.0 c.requires.1 c.significand-m.ensures c.if-x-eq0.false c.if-x-normal.false c.leading-h.ensures.0 c.nearest_even-then-k-ones.ensures c.if-k-ones.true
 
 pub overflow_mul-result-2 : goal.overflow_mul-result-2
-overflow_mul-result-2 c = let r = room c.before (ones (start c.before)) (omega arith) in omega arith
+overflow_mul-result-2 c =
+    let a = c.args in
+    let r = weight-le a.p a.ones (omega arith) (omega arith) c.leading-h.ensures.0 c.leading-h.ensures.1 a.ones (omega arith) in
+    omega arith
 
 pub returns : goal.returns
 returns c =
-    let s = start z in
-    done s
-    (ap (λ (h : ℕ). ones s * h) c.leading-h.ensures.0
-    ∙ high-over (p s) (low s) (ones s) (m s) (x s - 1) (P s) (Q s) (O s) (M s) (k z) (L z) (G z) (omega arith))
-
--- LEFT module _ (c : tie.After-significand) where
--- LEFT   abbrev p : ℕ
--- LEFT   p = c.before.args.p
--- LEFT 
--- LEFT   abbrev low : ℕ
--- LEFT   low = c.before.args.low
--- LEFT 
--- LEFT   abbrev ones : ℕ
--- LEFT   ones = c.before.args.ones
--- LEFT 
--- LEFT   abbrev x : ℕ
--- LEFT   x = c.before.args.x
--- LEFT 
--- LEFT   abbrev m : ℕ
--- LEFT   m = c.significand.result
--- LEFT 
--- LEFT   P : 1 < p
--- LEFT   P = omega arith
--- LEFT 
--- LEFT   Q : p ≤ 24
--- LEFT   Q = omega arith
--- LEFT 
--- LEFT   O : 1 < ones
--- LEFT   O = omega arith
--- LEFT 
--- LEFT   M : m < 2 ^ 53
--- LEFT   M = m-lt x c.before.args.t c.significand.ensures c.before.requires.1
--- LEFT 
--- LEFT   done : {r : ℕ} → r ≡ narrowed p (infinity_at p ones) (m * 2 ^ (x - 1) * 2 ^ low) (2 ^ 1074) → r ≡ size_at p low ones x c.before.args.t
--- LEFT   done e = e ∙ ap (λ (n : ℕ). narrowed p (infinity_at p ones) (n * 2 ^ (x - 1) * 2 ^ low) (2 ^ 1074)) c.significand.ensures
--- LEFT 
--- LEFT   of_low : (e r : ℕ) → r ≡ rounded m (2 ^ e) → x - 1 + low + e ≡ 1074 → 53 ≤ p + e → r ≡ size_at p low ones x c.before.args.t
--- LEFT   of_low e r f g l = done (f ∙ low-way p low ones m (x - 1) P Q O M e g l)
--- LEFT module _ (c : tie.After-leading) where
--- LEFT   abbrev start : tie.After-significand
--- LEFT   start = c.before.before.before
--- LEFT 
--- LEFT   abbrev k : ℕ
--- LEFT   k = x start - (1022 + p start - low start)
--- LEFT 
--- LEFT   L : 2 ^ 52 ≤ m start
--- LEFT   L = m-ge (x start) start.before.args.t start.significand.ensures c.before.before.if1.false
--- LEFT 
--- LEFT   G : x start - 1 + low start ≡ k + 1021 + p start
--- LEFT   G = let s = start.before.pre in omega arith
--- LEFT 
--- LEFT   room : (n : ℕ) → n ≤ 256 → n * c.leading.result ≤ 2 ^ 31
--- LEFT   room = weight-le (p start) (ones start) (P start) (omega arith) c.leading.ensures.0 c.leading.ensures.1
+    let a = c.args in
+    of_over a.p a.low a.ones a.x a.t c.requires.0 c.requires.1 c.significand-m.ensures c.if-x-eq0.false c.if-x-normal.false c.leading-h.ensures.0 c.if-k-ones.false

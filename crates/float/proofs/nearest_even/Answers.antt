@@ -1,20 +1,24 @@
 -- `float::nearest_even` meets its contract: the divisor is 2^k (`bit`), and the quotient goes up as the definition's does (`rounded-up`, `rounded-down`).
-use Rattle.std.proofs.Common.{ℕ, ◌*◌, ◌%◌, ◌^◌, ◌<◌, sym, ◌∙◌, subst, mod-lt, div-le_self, arith, pow_pos, rules}
+use Rattle.std.proofs.Common.{ℕ, ◌*◌, ◌%◌, ◌^◌, ◌<◌, ◌≤◌, sym, ◌∙◌, subst, mod-lt, div-le_self, arith, pow_pos}
 use Rattle.value.proofs.Nearest.{rounded-up, rounded-down}
 use Rattle.float.proofs.Rule.{bit, none_left}
 use Rattle.float.proofs.nearest_even.Goals as goal
+
+-- the divisor
+some : (k : ℕ) → k ≤ 60 → 0 < 1 * 2 ^ k % 2 ^ 64
+some k h = subst (λ (u : ℕ). 0 < u) (sym (bit k h)) (pow_pos k)
 
 pub returns-then-k-gt60 : goal.returns-then-k-gt60
 returns-then-k-gt60 c = none_left c.args.m c.args.k c.requires c.if-k-gt60.true
 
 pub nonzero_div-q : goal.nonzero_div-q
-nonzero_div-q c = subst (λ (u : ℕ). 0 < u) (sym (bit c.args.k c.if-k-gt60.false)) (pow_pos c.args.k)
+nonzero_div-q c = some c.args.k c.if-k-gt60.false
 
 pub nonzero_rem-rest : goal.nonzero_rem-rest
-nonzero_rem-rest c = div-q c
+nonzero_rem-rest c = some c.args.k c.if-k-gt60.false
 
 pub overflow_sub-u : goal.overflow_sub-u
-overflow_sub-u c = omega (arith, mod-lt c.args.m (div-q c))
+overflow_sub-u c = omega (arith, mod-lt c.args.m (some c.args.k c.if-k-gt60.false))
 
 pub overflow_add-result : goal.overflow_add-result
 overflow_add-result c = let a = c.args in omega (arith, div-le_self a.m (1 * 2 ^ a.k % 2 ^ 64))

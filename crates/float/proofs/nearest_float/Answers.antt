@@ -1,4 +1,4 @@
-use Rattle.std.proofs.Common.{◌≡◌, ℕ, ◌-◌, Bool, true, false, sym, ap, ◌∙◌, rules}
+use Rattle.std.proofs.Common.{◌≡◌, ℕ, Bool, true, false, sym, ap, ◌∙◌}
 use lib.Ieee.{binary64, neg, of_int, of_bits}
 use Rattle.value.specs.Digits.{signed_of}
 use Rattle.float.proofs.Values.{neg-int}

@@ -1,4 +1,4 @@
-use Rattle.std.proofs.Common.{◌-◌, ap, ◌∙◌, rules}
+use Rattle.std.proofs.Common.{ap, ◌∙◌}
 use lib.Ieee.{Float, binary64, of_int, div}
 use Rattle.value.specs.Digits.{signed_of}
 use Rattle.float.proofs.of_decimal.Goals as goal

@@ -1,4 +1,4 @@
-use Rattle.std.proofs.Common.{◌-◌, sym, ◌∙◌, arith, rules}
+use Rattle.std.proofs.Common.{sym, ◌∙◌, arith}
 use Rattle.float.proofs.Bytes.{word_small, read-value, read-bad}
 use Rattle.float.proofs.parse_float.Goals as goal
 

@@ -1,5 +1,5 @@
 -- `float::pattern_for` meets its contract: at 16 and at 32 bits the call's own promise is the answer, and at any other number both tests of `pattern_for` fail.
-use Rattle.std.proofs.Common.{◌-◌, rules, ne_eqb}
+use Rattle.std.proofs.Common.{ne_eqb}
 use Rattle.float.specs.Field.{pattern_for}
 use Rattle.float.proofs.pattern_for.Goals as goal
 

@@ -1,5 +1,5 @@
 -- `float::scaled` meets its contract: the table's rule is tested at each entry, and the product is exact.
-use Rattle.std.proofs.Common.{ℕ, zero, suc, ◌+◌, ◌^◌, List, [], ◌∷◌, get_or, arith, le→leb, rules}
+use Rattle.std.proofs.Common.{ℕ, zero, suc, ◌+◌, ◌^◌, List, [], ◌∷◌, get_or, arith, le→leb}
 use lib.Ieee.{Float, nan, binary64, of_bits, in_float}
 use Rattle.float.proofs.Powers.{at, power, product-exact}
 use Rattle.float.proofs.scaled.Goals as goal

@@ -1,5 +1,5 @@
 -- `float::significand` meets its contract.
-use Rattle.std.proofs.Common.{rules, eq-eqb, ne_eqb}
+use Rattle.std.proofs.Common.{eq-eqb, ne_eqb}
 use Rattle.float.proofs.significand.Goals as goal
 
 pub returns-then-e-eq0 : goal.returns-then-e-eq0

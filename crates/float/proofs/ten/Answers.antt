@@ -1,5 +1,5 @@
 -- `float::ten` meets its contract: each entry of the table is the f64 nearest to its power of ten, which antt computes.
-use Rattle.std.proofs.Common.{◌≡◌, ℕ, ◌^◌, List, [], ◌∷◌, pos, refl, rules}
+use Rattle.std.proofs.Common.{◌≡◌, ℕ, ◌^◌, List, [], ◌∷◌, pos, refl}
 use lib.Ieee.{Float, binary64, of_bits, of_int}
 use Rattle.float.proofs.Powers.{entry}
 use Rattle.float.proofs.ten.Goals as goal

@@ -1,4 +1,4 @@
-use Rattle.std.proofs.Common.{◌-◌, sym, ap, rules}
+use Rattle.std.proofs.Common.{sym, ap}
 use lib.Ieee.{binary32, binary64, to_bits}
 use Rattle.value.proofs.Nans.{from_bits, no_nan, widens, is-nan}
 use Rattle.float.proofs.wide_word.Goals as goal

@@ -1,4 +1,4 @@
-use Rattle.std.proofs.Common.{ℕ, ◌-◌, ◌^◌, ◌<◌, subst, ne_eqb}
+use Rattle.std.proofs.Common.{ℕ, ◌^◌, ◌<◌, subst, ne_eqb}
 use Rattle.float.specs.Field.{word_for}
 use Rattle.float.proofs.word_for.Goals as goal
 

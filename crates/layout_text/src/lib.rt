@@ -166,7 +166,7 @@ fn mask_in(text: &[u8], part: Part, kind: u32) -> Part
 // ---- one entry
 
 // What eleven lines say: where the name, the name depended on (0: none) and the mask start, the mask's length, the numbers, and where the next line starts.
-#[derive(Drop)]
+#[derive(Clone, Copy)]
 pub struct Said {
     pub name: usize,
     pub offset: u32,

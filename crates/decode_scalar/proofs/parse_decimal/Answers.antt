@@ -1,0 +1,15 @@
+use Prim.Native.Nat.{◌-◌}
+use borrow.Author.Tests.{eq-eqb, ne_eqb}
+use lib.Dec.{eqb}
+use lib.ListN.{take}
+use borrow.Author.Rules.{rules}
+use Rattle.decode_scalar.proofs.parse_decimal.Goals as goal
+
+pub returns-then-p-eq0 : goal.returns-then-p-eq0
+returns-then-p-eq0 c = rw (eq-eqb _ _ c.if-p-eq0.true) c.parse_display_decimal.ensures
+
+pub returns-then-p-eq1 : goal.returns-then-p-eq1
+returns-then-p-eq1 c = rw (ne_eqb _ _ c.if-p-eq0.false, eq-eqb _ _ c.if-p-eq1.true) c.decode.ensures
+
+pub returns : goal.returns
+returns c = rw (ne_eqb _ _ c.if-p-eq0.false, ne_eqb _ _ c.if-p-eq1.false) c.decode-2.ensures

@@ -1,0 +1,37 @@
+use mathlib.Core.Path.{refl}
+use Prim.Native.Nat.{◌-◌}
+use borrow.Author.Tests.{ne_eqb}
+use lib.Dec.{eqb}
+use lib.ListN.{length}
+use Rattle.encode_scalar.proofs.Parts.{nothing}
+use Rattle.encode_scalar.specs.Encode.{number_judged, number_bytes}
+use borrow.Author.Rules.{rules}
+use Rattle.encode_scalar.proofs.write_number.Goals as goal
+
+pub returns-in-1 : goal.returns-in-1
+unfolding number_judged number_bytes
+returns-in-1 c = rw (c.in-1.is, ← c.as_i128.ensures) c.write_int.ensures
+
+pub returns-in-2 : goal.returns-in-2
+unfolding number_judged number_bytes
+returns-in-2 c = rw (c.in-2.is, ← c.as_i128-in-2.ensures) c.write_binary.ensures
+
+pub returns-in-3 : goal.returns-in-3
+unfolding number_judged number_bytes
+returns-in-3 c = rw (c.in-3.is, ← c.as_f64.ensures) c.write_float.ensures
+
+pub returns-in-4 : goal.returns-in-4
+unfolding number_judged number_bytes
+returns-in-4 c = rw c.in-4.is c.write_hex.ensures
+
+pub returns-in-8 : goal.returns-in-8
+unfolding number_judged number_bytes
+returns-in-8 c = rw (c.in-8.is, ← c.as_decimal.ensures) c.write_edited.ensures
+
+pub returns-in_default : goal.returns-in_default
+unfolding number_judged number_bytes
+returns-in_default c =
+    rw (ne_eqb _ _ c.in_default.in_default-own.rest.0.0.0.0.1, ne_eqb _ _ c.in_default.in_default-own.rest.0.0.0.1, ne_eqb _ _ c.in_default.in_default-own.rest.0.0.1, ne_eqb _ _ c.in_default.in_default-own.rest.0.1, c.requires, ne_eqb _ _ c.in_default.in_default-own.rest.1) (record {
+      value = refl;
+      part_after = nothing 0 c.args.part.now;
+    })

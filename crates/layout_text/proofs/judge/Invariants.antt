@@ -1,0 +1,12 @@
+use mathlib.Core.Path.{sym, ◌∙◌}
+use Prim.Native.Nat.{◌-◌}
+use lib.ListN.{length, take}
+use borrow.Author.Rules.{rules}
+use Rattle.layout_text.proofs.Judging.{Going, going_start, going-room, going-inside, going_on, going_next, going-stop, going_end, none_found}
+use Rattle.layout_text.proofs.judge.Given as goal
+
+abbrev pub invariant-loop-at : goal.invariant-loop-at
+invariant-loop-at l = Going l.text l.at l.count l.fine l.masks l.spans l.groups
+
+abbrev pub decreases-loop-at : goal.decreases-loop-at
+decreases-loop-at l = length l.text - l.at

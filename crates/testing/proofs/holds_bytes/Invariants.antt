@@ -1,0 +1,11 @@
+-- `testing::holds_bytes` meets its contract. The invariant: the first i cells hold what they should (`holds-go`). The cells left fall.
+use Rattle.std.proofs.Common.{◌≡◌, ◌-◌, ◌≤◌, true, length, take, arith, rules}
+use Rattle.testing.specs.Holds.{holds_below}
+use Rattle.testing.proofs.Laws.{holds-start, holds-go, holds_not, holds-all}
+use Rattle.testing.proofs.holds_bytes.Given as goal
+
+abbrev pub invariant-loop-i : goal.invariant-loop-i
+invariant-loop-i l = (l.i ≤ length l.buffer) × (holds_below l.buffer l.bytes l.i ≡ true)
+
+abbrev pub decreases-loop-i : goal.decreases-loop-i
+decreases-loop-i l = length l.buffer - l.i

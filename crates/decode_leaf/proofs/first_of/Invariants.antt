@@ -1,0 +1,14 @@
+use mathlib.Core.Path.{◌≡◌, sym, ◌∙◌}
+use Prim.Native.Nat.{◌-◌, ◌≤◌}
+use native.Mathlib.Omega.{arith}
+use lib.ListN.{length, take}
+use Prim.Native.Nat.{◌/◌}
+use Rattle.decode_leaf.specs.Counts.{first, first_in}
+use Rattle.decode_leaf.proofs.Runs.{first-starts, first-hit, first_next, first-end}
+use Rattle.decode_leaf.proofs.first_of.Given as goal
+
+abbrev pub invariant-loop-i : goal.invariant-loop-i
+invariant-loop-i l = (l.i ≤ l.n) × (first l.layout l.name ≡ first_in (l.n - l.i) l.layout l.name l.i)
+
+abbrev pub decreases-loop-i : goal.decreases-loop-i
+decreases-loop-i l = l.n - l.i

@@ -1,0 +1,8 @@
+use Prim.Native.Nat.{◌-◌}
+use mir.Syntax.{w64}
+use mir.Facts.{to_z_pos}
+use borrow.Author.Rules.{rules}
+use Rattle.decode_leaf.proofs.signed.Goals as goal
+
+pub returns : goal.returns
+returns c = to_z_pos w64 c.requires

@@ -1,0 +1,18 @@
+-- The invariant: the elements that are left, in the buffer as it is now, come to what all come to, and leave the buffer that all leave; the elements left fall.
+use mathlib.Core.Path.{refl, ◌∙◌}
+use Prim.Native.Nat.{◌-◌}
+use lib.ListN.{length, take, set}
+use borrow.Author.Rules.{rules}
+use Rattle.items.specs.Items.{values}
+use Rattle.encode_leaf.specs.Laying.{leaves, elements}
+use Rattle.encode_leaf.specs.Machine.{buffer_behind, codec, room_in}
+use Rattle.encode_leaf.proofs.Meets.{refuse, fine}
+use Rattle.encode_leaf.proofs.Elements.{BufferInv, buffer-done, buffer-stops, buffer-settles, buffer-goes, ElementsInv, elements-starts, elements-stops, elements-settles, elements-goes, elements-done, leaf-here}
+use Rattle.encode_leaf.proofs.encode_table.Given as goal
+
+abbrev pub invariant-loop-left : goal.invariant-loop-left
+invariant-loop-left l = ElementsInv (elements (leaves (codec l.masks l.page l.text) (room_in l.initial.record) l.e) l.n (values l.items l.from l.end) l.at 0 0 l.initial.record) (leaves (codec l.masks l.page l.text) (room_in l.initial.record) l.e) l.items l.initial.record l.end l.record l.j l.left l.place l.taken l.past
+    × BufferInv (buffer_behind (leaves (codec l.masks l.page l.text) (room_in l.initial.record) l.e) l.n (values l.items l.from l.end) l.at l.initial.record) (leaves (codec l.masks l.page l.text) (room_in l.initial.record) l.e) l.items l.end l.record l.j l.left l.place
+
+abbrev pub decreases-loop-left : goal.decreases-loop-left
+decreases-loop-left l = l.left

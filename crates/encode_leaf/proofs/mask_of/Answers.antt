@@ -1,0 +1,11 @@
+use Prim.Native.Nat.{◌-◌}
+use lib.ListN.{take}
+use Rattle.encode_leaf.proofs.Leaves.{mask-none, mask_is}
+use borrow.Author.Rules.{rules}
+use Rattle.encode_leaf.proofs.mask_of.Goals as goal
+
+pub returns-then-e-ne-KIND_EDITED : goal.returns-then-e-ne-KIND_EDITED
+returns-then-e-ne-KIND_EDITED c = mask-none c.args.masks.now c.args.e c.if-e-ne-KIND_EDITED.true
+
+pub returns : goal.returns
+returns c = mask_is _ c.args.e c.if-e-ne-KIND_EDITED.false _ _ c.clip-m.ensures c.clip-n.ensures

@@ -1,0 +1,14 @@
+use mathlib.Core.Path.{◌≡◌, refl, sym, ◌∙◌}
+use Prim.Native.Nat.{◌-◌}
+use lib.ListN.{length, take, drop}
+use borrow.Author.Rules.{rules}
+use Rattle.lists.specs.Scan.{every_by}
+use Rattle.lists.proofs.Scan.{every-go, every-stop, every-end}
+use Rattle.hex_field.specs.Hex.{is_lower}
+use Rattle.fits.proofs.all_lower.Given as goal
+
+abbrev pub invariant-loop-i : goal.invariant-loop-i
+invariant-loop-i l = every_by is_lower l.t ≡ every_by is_lower (drop l.i l.t)
+
+abbrev pub decreases-loop-i : goal.decreases-loop-i
+decreases-loop-i l = length l.t - l.i

@@ -1,0 +1,15 @@
+use Prim.Native.Nat.{◌-◌}
+use borrow.Author.Tests.{eq-eqb, ne_eqb}
+use lib.Dec.{eqb}
+use lib.ListN.{take}
+use borrow.Author.Rules.{rules}
+use Rattle.fits.proofs.cut_end_ok.Goals as goal
+
+pub returns-then-n-eq0 : goal.returns-then-n-eq0
+returns-then-n-eq0 c = rw (eq-eqb _ _ c.if-n-eq0.true)
+
+pub returns-then-right : goal.returns-then-right
+returns-then-right c = rw (ne_eqb _ _ c.if-n-eq0.false, c.if-right.true)
+
+pub returns : goal.returns
+returns c = rw (ne_eqb _ _ c.if-n-eq0.false, c.if-right.false)

@@ -1,0 +1,12 @@
+use mathlib.Core.Path.{refl}
+use Prim.Native.Nat.{◌-◌}
+use lib.ListN.{take}
+use Rattle.fits.proofs.Steps.{go, stop}
+use borrow.Author.Rules.{rules}
+use Rattle.fits.proofs.fits_display.Goals as goal
+
+pub returns-then-fits_digits : goal.returns-then-fits_digits
+returns-then-fits_digits c = go c.fits_digits.ensures c.if-fits_digits.true refl
+
+pub returns : goal.returns
+returns c = stop _ c.fits_digits.ensures c.if-fits_digits.false

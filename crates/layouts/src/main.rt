@@ -22,7 +22,8 @@
 
 ghost use Rattle.std.specs.Prelude.{◌≤◌};
 
-use libc::STDOUT_FILENO;
+use reading::read_full;
+use std::io;
 use testing::{
     at, first_bytes, first_layout, first_words, holds_bytes, holds_layout, line_at, low_word, more,
     narrow,
@@ -397,45 +398,50 @@ struct Tally {
 }
 
 // A line that asks starts with a capital letter.
-fn judged(t: Tally, line: &[u8], words: &[u64], text: &[u8], masks: &[u8]) -> Tally {
+fn judged(
+    rt: &impl Print,
+    t: Tally,
+    line: &[u8],
+    words: &[u64],
+    text: &[u8],
+    masks: &[u8],
+) -> io::Result<Tally> {
     let asked = at(line, 0);
     if asked < b'A' {
-        return t;
+        return Ok(t);
     }
     if asked > b'Z' {
-        return t;
+        return Ok(t);
     }
     if agrees(line, words, text, masks) {
-        return Tally {
+        return Ok(Tally {
             cases: more(t.cases),
             differ: t.differ,
-        };
+        });
     }
-    io::write_all(STDOUT_FILENO, b"differs: ");
-    io::write_all(STDOUT_FILENO, line);
-    io::write_all(STDOUT_FILENO, b"\n");
-    Tally {
+    rt.write_all(b"differs: ")?;
+    rt.write_all(line)?;
+    rt.write_all(b"\n")?;
+    Ok(Tally {
         cases: more(t.cases),
         differ: more(t.differ),
-    }
+    })
 }
 
-fn ended(t: Tally, line: &[u8]) -> Tally {
+fn ended(rt: &impl Print, t: Tally, line: &[u8]) -> io::Result<Tally> {
     if at(line, 0) != b'.' {
-        return t;
+        return Ok(t);
     }
     if line.len() > 2 {
-        io::write_all(STDOUT_FILENO, &line[2..]);
+        rt.write_all(&line[2..])?;
     }
-    io::write_all(STDOUT_FILENO, b": ");
-    io::print_decimal(STDOUT_FILENO, t.cases);
-    io::write_all(STDOUT_FILENO, b" cases, ");
-    io::print_decimal(STDOUT_FILENO, t.differ);
-    io::write_all(STDOUT_FILENO, b" differ\n");
-    Tally {
+    let cases = t.cases;
+    let differ = t.differ;
+    println!(rt; ": {cases} cases, {differ} differ")?;
+    Ok(Tally {
         cases: 0,
         differ: 0,
-    }
+    })
 }
 
 // How many are gathered still.
@@ -456,31 +462,33 @@ struct State {
 }
 
 fn step(
+    rt: &impl Print,
     line: &[u8],
     words: &mut [u64; WORDS],
     text: &mut [u8; BYTES],
     masks: &mut [u8; BYTES],
     s: State,
-) -> State {
+) -> io::Result<State> {
     let w = words_step(words, kept(line, s.w), line);
     let t = bytes_step(b't', text, kept(line, s.t), line);
     let m = bytes_step(b'm', masks, kept(line, s.m), line);
     let tally = judged(
+        rt,
         s.tally,
         line,
         first_words(words, w),
         first_bytes(text, t),
         first_bytes(masks, m),
-    );
-    State {
+    )?;
+    Ok(State {
         w: w,
         t: t,
         m: m,
-        tally: ended(tally, line),
-    }
+        tally: ended(rt, tally, line)?,
+    })
 }
 
-fn run(all: &[u8]) {
+fn run(rt: &impl Print, all: &[u8]) -> io::Result<()> {
     let mut words = [0u64; WORDS];
     let mut text = [0u8; BYTES];
     let mut masks = [0u8; BYTES];
@@ -496,13 +504,14 @@ fn run(all: &[u8]) {
     let mut from = 0;
     while from < all.len() {
         let line = line_at(all, from);
-        s = step(line, &mut words, &mut text, &mut masks, s);
+        s = step(rt, line, &mut words, &mut text, &mut masks, s)?;
         from = from + line.len() + 1;
     }
+    Ok(())
 }
 
-fn main() {
+fn main(rt: HostRuntime) -> io::Result<()> {
     let mut all = [0u8; 393216];
-    let n = io::read_full(libc::STDIN_FILENO, &mut all);
-    run(&all[..n]);
+    let n = read_full(&mut rt.reader(), &mut all)?;
+    run(&rt, &all[..n])
 }

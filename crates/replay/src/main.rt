@@ -7,7 +7,8 @@
 
 #![tactic(auto)]
 
-use libc::STDOUT_FILENO;
+use reading::read_full;
+use std::io;
 use testing::{
     at, first_bytes, first_layout, first_words, holds_bytes, holds_words, line_at, more, narrow,
 };
@@ -147,39 +148,41 @@ struct Tally {
     differ: u64,
 }
 
-fn counted(t: Tally, line: &[u8], number: u64, agree: bool) -> Tally {
+fn counted(
+    rt: &impl Print,
+    t: Tally,
+    line: &[u8],
+    number: u64,
+    agree: bool,
+) -> io::Result<Tally> {
     let refused = if number == 0 {
         t.refused
     } else {
         more(t.refused)
     };
+    let cases = more(t.cases);
     if agree {
-        return Tally {
-            cases: more(t.cases),
+        return Ok(Tally {
+            cases,
             refused,
             differ: t.differ,
-        };
+        });
     }
-    io::write_all(STDOUT_FILENO, b"differs: case ");
-    io::print_decimal(STDOUT_FILENO, more(t.cases));
-    io::write_all(STDOUT_FILENO, b" ");
-    io::write_all(STDOUT_FILENO, line);
-    io::write_all(STDOUT_FILENO, b"\n");
-    Tally {
-        cases: more(t.cases),
+    print!(rt; "differs: case {cases} ")?;
+    rt.write_all(line)?;
+    rt.write_all(b"\n")?;
+    Ok(Tally {
+        cases,
         refused,
         differ: more(t.differ),
-    }
+    })
 }
 
-fn summary(name: &[u8], t: Tally) {
-    io::write_all(STDOUT_FILENO, name);
-    io::print_decimal(STDOUT_FILENO, t.cases);
-    io::write_all(STDOUT_FILENO, b" cases, ");
-    io::print_decimal(STDOUT_FILENO, t.refused);
-    io::write_all(STDOUT_FILENO, b" refused, ");
-    io::print_decimal(STDOUT_FILENO, t.differ);
-    io::write_all(STDOUT_FILENO, b" differ\n");
+fn summary(rt: &impl Print, name: &str, t: Tally) -> io::Result<()> {
+    let cases = t.cases;
+    let refused = t.refused;
+    let differ = t.differ;
+    println!(rt; "{name}{cases} cases, {refused} refused, {differ} differ")
 }
 
 fn put_layout(layout: &mut [u32; WORDS], words: &[u64; WORDS]) {
@@ -223,6 +226,7 @@ fn number_of(line: &[u8]) -> u64 {
 }
 
 fn read_case(
+    rt: &impl Print,
     t: Tally,
     line: &[u8],
     layout: &[u32],
@@ -230,16 +234,17 @@ fn read_case(
     bytes: &[u8],
     items: &[u64],
     text: &[u8],
-) -> Tally {
+) -> io::Result<Tally> {
     if at(line, 0) != b'D' {
-        return t;
+        return Ok(t);
     }
     let number = number_of(line);
     let agree = read_agrees(layout, masks, page_of(line), bytes, items, text, number);
-    counted(t, line, number, agree)
+    counted(rt, t, line, number, agree)
 }
 
 fn written_case(
+    rt: &impl Print,
     t: Tally,
     line: &[u8],
     layout: &[u32],
@@ -247,13 +252,13 @@ fn written_case(
     bytes: &[u8],
     items: &[u64],
     text: &[u8],
-) -> Tally {
+) -> io::Result<Tally> {
     if at(line, 0) != b'E' {
-        return t;
+        return Ok(t);
     }
     let number = number_of(line);
     let agree = write_agrees(layout, masks, page_of(line), bytes, items, text, number);
-    counted(t, line, number, agree)
+    counted(rt, t, line, number, agree)
 }
 
 // How much of each is gathered, and the counts of the cases read and written.
@@ -269,6 +274,7 @@ struct State {
 }
 
 fn step(
+    rt: &impl Print,
     line: &[u8],
     layout: &mut [u32; WORDS],
     masks: &mut [u8; BYTES],
@@ -276,7 +282,7 @@ fn step(
     items: &mut [u64; WORDS],
     text: &mut [u8; BYTES],
     s: State,
-) -> State {
+) -> io::Result<State> {
     let l = layout_in(layout, s.layout, line);
     let m = bytes_of(b'm', masks, s.masks, line);
     let b = bytes_of(b'r', bytes, s.bytes, line);
@@ -287,15 +293,15 @@ fn step(
     let part = first_bytes(bytes, b);
     let list = first_words(items, i);
     let list_text = first_bytes(text, t);
-    State {
+    Ok(State {
         layout: l,
         masks: m,
         bytes: b,
         items: i,
         text: t,
-        read: read_case(s.read, line, words, mask, part, list, list_text),
-        written: written_case(s.written, line, words, mask, part, list, list_text),
-    }
+        read: read_case(rt, s.read, line, words, mask, part, list, list_text)?,
+        written: written_case(rt, s.written, line, words, mask, part, list, list_text)?,
+    })
 }
 
 fn none() -> Tally {
@@ -306,7 +312,7 @@ fn none() -> Tally {
     }
 }
 
-fn run(all: &[u8]) -> State {
+fn run(rt: &impl Print, all: &[u8]) -> io::Result<State> {
     let mut layout = [0u32; WORDS];
     let mut masks = [0u8; BYTES];
     let mut bytes = [0u8; BYTES];
@@ -325,6 +331,7 @@ fn run(all: &[u8]) -> State {
     while from < all.len() {
         let line = line_at(all, from);
         s = step(
+            rt,
             line,
             &mut layout,
             &mut masks,
@@ -332,16 +339,16 @@ fn run(all: &[u8]) -> State {
             &mut items,
             &mut text,
             s,
-        );
+        )?;
         from = from + line.len() + 1;
     }
-    s
+    Ok(s)
 }
 
-fn main() {
+fn main(rt: HostRuntime) -> io::Result<()> {
     let mut all = [0u8; 393216];
-    let n = io::read_full(libc::STDIN_FILENO, &mut all);
-    let s = run(&all[..n]);
-    summary(b"read: ", s.read);
-    summary(b"written: ", s.written);
+    let n = read_full(&mut rt.reader(), &mut all)?;
+    let s = run(&rt, &all[..n])?;
+    summary(&rt, "read: ", s.read)?;
+    summary(&rt, "written: ", s.written)
 }

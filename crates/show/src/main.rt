@@ -5,8 +5,12 @@
 
 ghost use Rattle.std.specs.Prelude.{◌≡◌, true, false, ◌≤◌, length};
 
-use libc::{STDERR_FILENO, STDOUT_FILENO};
+use reading::read_full;
 use shown::show_at;
+use std::io;
+use std::io::Read;
+use std::process::ExitCode;
+use std::rt::Files;
 
 // A file's bytes at the front of a buffer: how many, and whether the file has more. Not ok: it could not be read.
 #[derive(Drop)]
@@ -26,18 +30,25 @@ fn unread() -> File
     }
 }
 
+// Tells on standard error what failed and why. Where that can't be written either, nothing is left to tell it to.
+fn fail(rt: &impl Eprint, what: &str, why: io::Error) {
+    let _ = eprintln!(rt; "{what}: {why}");
+}
+
 // What is left to read behind n bytes in a buffer of so much room: one byte more is asked for. Only a full buffer has more behind it.
-fn ended(fd: i32, path: &[u8], n: usize, room: usize) -> File
+fn ended<R: Read>(rt: &impl Eprint, file: &mut R, path: &str, n: usize, room: usize) -> File
     ensures len_le_n { result.len ≤ n }
     ensures len_value { result.ok ≡ true → result.len ≡ n }
     ensures room_le_len { result.more ≡ true → room ≤ result.len }
 {
     let mut one = [0u8; 1];
-    let got = libc::read(fd, &mut one);
-    if got < 0 {
-        os::fail(path);
-        return unread();
-    }
+    let got = match file.read(&mut one) {
+        Ok(got) => got,
+        Err(e) => {
+            fail(rt, path, e);
+            return unread();
+        }
+    };
     if got == 0 {
         return File {
             ok: true,
@@ -46,8 +57,7 @@ fn ended(fd: i32, path: &[u8], n: usize, room: usize) -> File
         };
     }
     if n < room {
-        io::write_all(STDERR_FILENO, path);
-        io::write_all(STDERR_FILENO, b": reading stopped\n");
+        let _ = eprintln!(rt; "{path}: reading stopped");
         return unread();
     }
     File {
@@ -57,61 +67,77 @@ fn ended(fd: i32, path: &[u8], n: usize, room: usize) -> File
     }
 }
 
-fn read_file(path: &[u8], buf: &mut [u8]) -> File
+fn read_file<R: Files + Eprint>(rt: &R, path: &str, buf: &mut [u8]) -> File
     ensures len_in_bounds { result.len ≤ length buf.new }
     ensures buf_len_bound { result.more ≡ true → length buf.new ≤ result.len }
 {
-    let fd = os::open_read(path);
-    if fd < 0 {
-        os::fail(path);
-        return unread();
+    let mut file = match std::fs::open(rt, path) {
+        Ok(file) => file,
+        Err(e) => {
+            fail(rt, path, e);
+            return unread();
+        }
+    };
+    match read_full(&mut file, buf) {
+        Ok(n) => ended(rt, &mut file, path, n, buf.len()),
+        Err(e) => {
+            fail(rt, path, e);
+            unread()
+        }
     }
-    let n = io::read_full(fd, buf);
-    let f = ended(fd, path, n, buf.len());
-    libc::close(fd);
-    f
 }
 
 // Writes a piece; whether another may follow.
 fn print_piece(
+    rt: &impl Print,
     layout: &[u8],
     layout_more: bool,
     record: &[u8],
     record_more: bool,
     at: usize,
-) -> bool {
-    let mut out = io::large_buffer();
+) -> io::Result<bool> {
+    let mut out = [0u8; 65536];
     let n = show_at(layout, layout_more, record, record_more, at, &mut out);
-    if !io::write_all(STDOUT_FILENO, &out[..n]) {
-        os::fail(b"standard output");
-        return false;
-    }
-    n == 65536
+    rt.write_all(&out[..n])?;
+    Ok(n == 65536)
 }
 
 // Writes piece after piece, up to the first that is shorter than a buffer. No output has so many pieces as the loop allows.
-fn print(layout: &[u8], layout_more: bool, record: &[u8], record_more: bool) {
+fn print(
+    rt: &impl Print,
+    layout: &[u8],
+    layout_more: bool,
+    record: &[u8],
+    record_more: bool,
+) -> io::Result<()> {
     let mut turn: usize = 0;
     while turn < 1000000 {
-        if !print_piece(layout, layout_more, record, record_more, turn * 65536) {
-            return;
+        if !print_piece(rt, layout, layout_more, record, record_more, turn * 65536)? {
+            return Ok(());
         }
         turn += 1;
     }
+    Ok(())
 }
 
-fn main() {
-    let mut layout = io::large_buffer();
-    let l = read_file(b"layout.txt", &mut layout);
+fn main(rt: HostRuntime) -> ExitCode {
+    let mut layout = [0u8; 65536];
+    let l = read_file(&rt, "layout.txt", &mut layout);
     if !l.ok {
-        return;
+        return ExitCode::FAILURE;
     }
-    let mut record = io::large_buffer();
-    let r = read_file(b"record.bin", &mut record);
+    let mut record = [0u8; 65536];
+    let r = read_file(&rt, "record.bin", &mut record);
     if !r.ok {
-        return;
+        return ExitCode::FAILURE;
     }
     let n = l.len;
     let m = r.len;
-    print(&layout[..n], l.more, &record[..m], r.more);
+    match print(&rt, &layout[..n], l.more, &record[..m], r.more) {
+        Ok(()) => ExitCode::SUCCESS,
+        Err(e) => {
+            fail(&rt, "standard output", e);
+            ExitCode::FAILURE
+        }
+    }
 }

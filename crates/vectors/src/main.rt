@@ -11,7 +11,8 @@ ghost use Rattle.std.specs.Prelude.{◌<◌, ◌≤◌, length};
 use codes::{KIND_INT, TAG_INT};
 use decode_scalar::Decoded;
 use float::Parsed;
-use libc::STDOUT_FILENO;
+use reading::read_full;
+use std::io;
 use testing::{at, more};
 use value::{Amount, Number, Scalar};
 
@@ -31,13 +32,8 @@ const PAGE_037: [u8; 256] = [
     56, 57, 179, 219, 220, 217, 218, 159,
 ];
 
-fn line(name: &[u8], agree: u64, all: u64) {
-    io::write_all(STDOUT_FILENO, name);
-    io::write_all(STDOUT_FILENO, b": ");
-    io::print_decimal(STDOUT_FILENO, agree);
-    io::write_all(STDOUT_FILENO, b" of ");
-    io::print_decimal(STDOUT_FILENO, all);
-    io::write_all(STDOUT_FILENO, b" agree\n");
+fn line(rt: &impl Print, name: &str, agree: u64, all: u64) -> io::Result<()> {
+    println!(rt; "{name}: {agree} of {all} agree")
 }
 
 // ---- page 037
@@ -50,7 +46,7 @@ fn page_agrees(b: u8) -> bool {
     false
 }
 
-fn page_037() {
+fn page_037(rt: &impl Print) -> io::Result<()> {
     let mut agree: u64 = 0;
     let mut b: u8 = 0;
     while b < 255 {
@@ -62,7 +58,7 @@ fn page_037() {
     if page_agrees(255) {
         agree = more(agree);
     }
-    line(b"page 037", agree, 256);
+    line(rt, "page 037", agree, 256)
 }
 
 // ---- COBOL: rows of 83 bytes, "ed + 000000000000123456 ZZ,ZZ9.99-         10 hex of the bytes"
@@ -257,7 +253,7 @@ fn departs(r: &[u8]) -> bool {
     size_in(r) == 0
 }
 
-fn cobol(all: &[u8], kind: u8, name: &[u8]) {
+fn cobol(rt: &impl Print, all: &[u8], kind: u8, name: &str) -> io::Result<()> {
     let mut agree: u64 = 0;
     let mut rows: u64 = 0;
     let mut other: u64 = 0;
@@ -276,11 +272,11 @@ fn cobol(all: &[u8], kind: u8, name: &[u8]) {
         }
         k += 1;
     }
-    line(name, agree, rows);
+    line(rt, name, agree, rows)?;
     if other > 0 {
-        io::print_decimal(STDOUT_FILENO, other);
-        io::write_all(STDOUT_FILENO, b" depart as docs/DIFFERENCES.md says\n");
+        println!(rt; "{other} depart as docs/DIFFERENCES.md says")?;
     }
+    Ok(())
 }
 
 // ---- IEEE 754
@@ -328,17 +324,16 @@ fn write_single(w: u64) -> u64 {
     write_in(&mut part, w, 32)
 }
 
-fn verdict(name: &[u8], sum: u64, right: u64) {
-    io::write_all(STDOUT_FILENO, name);
+fn verdict(rt: &impl Print, name: &str, sum: u64, right: u64) -> io::Result<()> {
     if sum == right {
-        io::write_all(STDOUT_FILENO, b": agree\n");
+        println!(rt; "{name}: agree")
     } else {
-        io::write_all(STDOUT_FILENO, b": DIFFER\n");
+        println!(rt; "{name}: DIFFER")
     }
 }
 
 // Every half, and what it was read as written again: itself, and 0x7E00 for a NaN.
-fn halves() {
+fn halves(rt: &impl Print) -> io::Result<()> {
     let mut sum: u64 = 0;
     let mut back: u64 = 0;
     let mut h: u64 = 0;
@@ -348,12 +343,13 @@ fn halves() {
         back = mixed(back, write_half(w));
         h += 1;
     }
-    verdict(b"binary16 read, all 65536", sum, 115316097024);
+    verdict(rt, "binary16 read, all 65536", sum, 115316097024)?;
     verdict(
-        b"binary16 read and written again, all 65536",
+        rt,
+        "binary16 read and written again, all 65536",
         back,
         2047377408,
-    );
+    )
 }
 
 fn next(x: u64) -> u64 {
@@ -370,7 +366,7 @@ fn near_single(x: u64) -> u64 {
     sign * 0x8000_0000_0000_0000 + power * 0x10_0000_0000_0000 + digits
 }
 
-fn random_floats() {
+fn random_floats(rt: &impl Print) -> io::Result<()> {
     let mut x: u64 = 88172645463325252;
     let mut single: u64 = 0;
     let mut wider: u64 = 0;
@@ -382,8 +378,8 @@ fn random_floats() {
         wider = mixed(wider, read_single(x % 0x1_0000_0000));
         i += 1;
     }
-    verdict(b"binary32 written, 100000", single, 88363357800);
-    verdict(b"binary32 read, 100000", wider, 23726069014);
+    verdict(rt, "binary32 written, 100000", single, 88363357800)?;
+    verdict(rt, "binary32 read, 100000", wider, 23726069014)
 }
 
 // A word whose exponent lies round that of a binary16's range.
@@ -399,7 +395,7 @@ fn near_tie(x: u64) -> u64 {
     near_half(x) / 0x200_0000_0000 * 0x200_0000_0000
 }
 
-fn random_halves() {
+fn random_halves(rt: &impl Print) -> io::Result<()> {
     let mut x: u64 = 88172645463325252;
     let mut any: u64 = 0;
     let mut tied: u64 = 0;
@@ -410,8 +406,13 @@ fn random_halves() {
         tied = mixed(tied, write_half(near_tie(x)));
         i += 1;
     }
-    verdict(b"binary16 written, 100000", any, 106349413868);
-    verdict(b"binary16 written near a tie, 100000", tied, 104130688595);
+    verdict(rt, "binary16 written, 100000", any, 106349413868)?;
+    verdict(
+        rt,
+        "binary16 written near a tie, 100000",
+        tied,
+        104130688595,
+    )
 }
 
 // Numbers whose binary16 patterns are published: 0 and -0, the smallest and the largest subnormal number, the smallest normal one, 1/3, the
@@ -437,7 +438,7 @@ const HALVES: [u64; 13] = [
     0xFC00,
 ];
 
-fn published() {
+fn published(rt: &impl Print) -> io::Result<()> {
     let mut right: u64 = 0;
     let mut i: usize = 0;
     while i < 13 {
@@ -446,23 +447,24 @@ fn published() {
         }
         i += 1;
     }
-    line(b"binary16 as published, written", right, 13);
+    line(rt, "binary16 as published, written", right, 13)
 }
 
-fn main() {
-    let mut all = io::large_buffer();
-    let n = io::read_full(libc::STDIN_FILENO, &mut all);
-    page_037();
-    cobol(&all[..n], 112, b"COBOL packed, written and read");
-    cobol(&all[..n], 122, b"COBOL zoned, written and read");
+fn main(rt: HostRuntime) -> io::Result<()> {
+    let mut all = [0u8; 65536];
+    let n = read_full(&mut rt.reader(), &mut all)?;
+    page_037(&rt)?;
+    cobol(&rt, &all[..n], 112, "COBOL packed, written and read")?;
+    cobol(&rt, &all[..n], 122, "COBOL zoned, written and read")?;
     cobol(
+        &rt,
         &all[..n],
         105,
-        b"COBOL whole numbers with an embedded sign, written and read",
-    );
-    cobol(&all[..n], 101, b"COBOL edited, written and read");
-    published();
-    halves();
-    random_halves();
-    random_floats();
+        "COBOL whole numbers with an embedded sign, written and read",
+    )?;
+    cobol(&rt, &all[..n], 101, "COBOL edited, written and read")?;
+    published(&rt)?;
+    halves(&rt)?;
+    random_halves(&rt)?;
+    random_floats(&rt)
 }

@@ -110,12 +110,10 @@ fn print(
     record: &[u8],
     record_more: bool,
 ) -> io::Result<()> {
-    let mut turn: usize = 0;
-    while turn < 1000000 {
+    for turn in 0..1000000usize {
         if !print_piece(rt, layout, layout_more, record, record_more, turn * 65536)? {
             return Ok(());
         }
-        turn += 1;
     }
     Ok(())
 }

@@ -148,13 +148,7 @@ struct Tally {
     differ: u64,
 }
 
-fn counted(
-    rt: &impl Print,
-    t: Tally,
-    line: &[u8],
-    number: u64,
-    agree: bool,
-) -> io::Result<Tally> {
+fn counted(rt: &impl Print, t: Tally, line: &[u8], number: u64, agree: bool) -> io::Result<Tally> {
     let refused = if number == 0 {
         t.refused
     } else {

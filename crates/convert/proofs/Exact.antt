@@ -3,11 +3,11 @@ use mathlib.Core.Path.{◌≡◌, refl, sym, ap, ap₂, ◌∙◌}
 use mathlib.Core.Bool.{Bool, true, false, ◌&&◌, ◌||◌, not, cond, true≢false, false≢true, or-false, and-true}
 use mathlib.Core.List.{List, [], ◌∷◌}
 use mathlib.Core.Logic.{◌↔◌}
-use Prim.Native.Nat.{ℕ, zero, suc, ◌-◌, ◌*◌, ◌^◌, ◌<◌, ◌≤◌}
+use Prim.Native.Nat.{ℕ, zero, suc, ◌*◌, ◌^◌, ◌<◌, ◌≤◌}
 use native.Mathlib.Omega.{arith}
 use native.Mathlib.Nat.{mul-le-mul_right, one-mul}
-use lib.Dec.{eqb, leb}
-use lib.IntN.{ℤ, pos, negsuc, neg_ℤ, nat_abs, ◌*ℤ◌, pos-ne-negsuc}
+use lib.Dec.{eqb}
+use lib.IntN.{pos, neg_ℤ, nat_abs, ◌*ℤ◌, pos-ne-negsuc}
 use lib.ListN.{length, take, drop}
 use lib.Ieee.{binary64, nan_bits}
 use borrow.Author.Tests.{eq-eqb, ne_eqb, eqb-true, leb-true}

@@ -2,10 +2,10 @@
 use mathlib.Core.Path.{◌≡◌, refl, sym, ap, ◌∙◌}
 use mathlib.Core.Bool.{true, false, ◌&&◌}
 use mathlib.Core.List.{List}
-use Prim.Native.Nat.{ℕ, ◌+◌, ◌-◌, ◌<◌, ◌≤◌}
+use Prim.Native.Nat.{ℕ, ◌+◌, ◌<◌, ◌≤◌}
 use lib.Dec.{eqb}
 use borrow.Author.Tests.{eq-eqb, ne_eqb}
-use Rattle.spans.specs.Tree.{none, node, end_of}
+use Rattle.spans.specs.Tree.{node, end_of}
 use Rattle.items.specs.declared.Item.{Item}
 use Rattle.items.specs.Items.{Values, values, span_of, head_of, lookup}
 use Rattle.items.proofs.Items.{values-none, values-node}

@@ -58,7 +58,7 @@ fn same_size(x: u64, k: u64, y: u64, m: u64) -> bool
 }
 
 // An exact decimal.
-#[derive(Drop)]
+#[derive(Clone, Copy)]
 struct Number {
     minus: bool,
     size: u64,

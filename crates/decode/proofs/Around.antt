@@ -22,7 +22,7 @@ use Rattle.decode_leaf.specs.declared.Out.{Out}
 use Rattle.decode_leaf.specs.declared.Count.{Count}
 use Rattle.decode_leaf.specs.Counts.{held_in}
 use Rattle.decode_leaf.specs.Machine.{Held, out, state, kept, leaf_at, bare, head_of, Listed, Counted, Fine, Met}
-use Rattle.decode_leaf.proofs.Meets.{refuse, fine}
+use Rattle.decode_leaf.proofs.Meets.{fine}
 use Rattle.decode.proofs.Steps.{inside-room, table-small, table_is, table-refused, turns, counts-to, field_is, field-refused, Capped, seq-most, one-most}
 use Rattle.decode.proofs.Tail.{back}
 use Rattle.decode.proofs.Turns.{Written, tail, returned, returned-same, room-left, TurnsInv, turns-done, header_is, header-drop}

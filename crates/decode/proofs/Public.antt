@@ -16,7 +16,6 @@ use Rattle.walks.specs.Reading as R
 use Rattle.positions.specs.Positions.{sat_sum}
 use Rattle.walks.specs.Records.{Decoded, refused, decoded, most, outcome, decode_record, RecordRead, asking, record_asks, reader_asks}
 use Rattle.walks.proofs.Asked.{asking-none, asking-some, both-passed}
-use Rattle.decode_leaf.specs.declared.Out.{Out}
 use Rattle.decode_leaf.specs.Machine.{Held, kept}
 use Rattle.decode_leaf.proofs.Stands.{stands-none}
 use Rattle.walks.proofs.Alike.{Alike, both-refused, both_read, level}

@@ -13,12 +13,12 @@ use Rattle.layout.specs.Layout.{entry_at, part, reserved_width, unrepeated}
 use Rattle.spans.specs.Tree.{end_of}
 use Rattle.walks.specs.Walk.{Codec}
 use Rattle.items.specs.Items.{item_words, item_count, words_of, header}
-use Rattle.walks.specs.Reading.{Outcome, refused, read, Reader, with_header, one, then_entry, then_element, field, seq}
+use Rattle.walks.specs.Reading.{Outcome, refused, read, Reader, with_header, then_entry, then_element, field, seq}
 use Rattle.walks.proofs.Single.{single-reserves}
 use Rattle.decode_leaf.specs.declared.Out.{Out}
 use Rattle.positions.specs.Positions.{sat_sum, sat}
 use Rattle.decode_leaf.specs.Machine.{Held, out, state, leaf_at, Fine, Met}
-use Rattle.decode_leaf.proofs.Meets.{refuse, fine}
+use Rattle.decode_leaf.proofs.Meets.{fine}
 use Rattle.decode.proofs.Steps.{follow-none, follow-end, follow-follow, behind-none, behind-end, behind-behind, seq_end, seq-refused, seq-read, turns, turns-end, turns-refused, turns-empty, turns-read, leaf-takes}
 use Rattle.lists.proofs.Part.{drop-take}
 use Rattle.lists.proofs.Scan.{tail-part}

@@ -27,7 +27,7 @@ use spans::end_of;
 use zeros::{clear_counts, clear_items, clear_text};
 
 // What reading a record answers: the number that refuses it, or 0 with the item words and the text bytes used.
-#[derive(Drop)]
+#[derive(Clone, Copy)]
 pub struct Reading {
     pub number: u32,
     pub items: usize,

@@ -1,6 +1,6 @@
 -- The walk as the code goes is the plain walk of all kinds: counts in a run, noted only where some table depends on one.
 use mathlib.Core.Path.{◌≡◌, refl, ap, ◌∙◌}
-use mathlib.Core.Bool.{Bool, true, false, ◌&&◌, ◌||◌, not, cond, false≢true}
+use mathlib.Core.Bool.{Bool, true, false, ◌&&◌, ◌||◌, cond, false≢true}
 use mathlib.Core.Logic.{inl}
 use mathlib.Core.List.{List, [], ◌∷◌, ◌++◌}
 use Prim.Native.Nat.{ℕ, zero, suc, ◌+◌, ◌-◌, ◌<◌, ◌≤◌, ◌^◌}
@@ -21,7 +21,7 @@ use Rattle.value.specs.declared.Scalar.{Scalar}
 use Rattle.value.specs.declared.Scalar.TheVariants.{Null, Text, Int, Decimal, Float as FloatV, FloatBits, Bool as BoolV}
 use Rattle.binary.specs.Binary.{integer_of}
 use Rattle.decode_scalar.specs.Decode.{Says, refused, value, text, says, flag, int_says, int_in, decimal_says, decimal_in}
-use Rattle.walks.specs.Walk.{Many, times, at_most, bad, leaf, how_many}
+use Rattle.walks.specs.Walk.{times, at_most, bad, leaf, how_many}
 use Rattle.walks.specs.Kinds as W
 use Rattle.walks.specs.Kinds.{Count, State, start, count_of, noted, kinds}
 use Rattle.walks.specs.Reading as R

@@ -4,7 +4,7 @@ use mathlib.Core.Bool.{Bool, true, false, not, cond}
 use mathlib.Core.List.{List, ◌++◌}
 use Prim.Native.Nat.{ℕ, ◌+◌, ◌-◌, ◌≤◌}
 use native.Mathlib.Omega.{arith}
-use lib.Dec.{eqb, leb}
+use lib.Dec.{leb}
 use lib.IntN.{ℤ}
 use lib.ListN.{length, take, drop}
 use borrow.Author.Tests.{le-leb, leb-true, eq-eqb, ne_eqb, not-true, not-false}
@@ -16,7 +16,7 @@ use Rattle.decode_scalar.specs.Decode.{Says, says, answer_of, decoded_as, text_a
 use Rattle.layout.specs.Layout.{is_pad, unrepeated}
 use Rattle.layout.proofs.Entries.{controls-table}
 use Rattle.walks.specs.Walk.{leaf}
-use Rattle.walks.specs.Reading.{Outcome, refused, read, placed, scalar, pad}
+use Rattle.walks.specs.Reading.{Outcome, refused, placed, scalar, pad}
 use Rattle.decode_leaf.specs.declared.Out.{Out}
 use Rattle.decode_leaf.specs.Counts.{note_in}
 use Rattle.decode_leaf.specs.Machine.{Held, out, refusing, state, leaf_of, leaf_at, dec, kept, moved_in, told_in, Met, Placed, text_in, text_behind}

@@ -22,7 +22,7 @@ use zeros::clear_counts;
 
 // What a part of the walk came to: the number that refuses it, or 0 with the item words written, how many items these are at
 // their own level, the bytes taken, and the text bytes so far.
-#[derive(Drop)]
+#[derive(Clone, Copy)]
 pub struct Out {
     pub refused: u32,
     pub used: usize,
@@ -32,7 +32,7 @@ pub struct Out {
 }
 
 // How many elements a table has, or the number that refuses it.
-#[derive(Drop)]
+#[derive(Clone, Copy)]
 pub struct Count {
     pub refused: u32,
     pub n: u64,

@@ -21,7 +21,7 @@ use text::Put;
 use value::{Number, Scalar};
 
 // What reading a scalar field answers: its value, a Text lying at the front of the text buffer; or the number of the question that refuses it.
-#[derive(Drop)]
+#[derive(Clone, Copy)]
 pub enum Decoded {
     Value(Scalar),
     Refused(u32),

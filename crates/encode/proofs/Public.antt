@@ -10,7 +10,7 @@ use lib.IntN.{ℤ, pos}
 use lib.ListN.{length, take, drop, replicate, length-replicate}
 use lib.Seq.{take-append-le}
 use borrow.Author.Tests.{leb-true}
-use Rattle.layout.specs.Layout.{part, entries, entry_count, checked_of, record_length, layout_asks}
+use Rattle.layout.specs.Layout.{entries, entry_count, checked_of, record_length, layout_asks}
 use Rattle.layout.proofs.Laws.{asked-lawful}
 use Rattle.items.specs.Items.{item_count, values, well_formed}
 use Rattle.walks.specs.Records.{most, filled, supplied, Encoded, refused, finish, writer_asks, encode_record, refusal_of, bytes_of, RecordWritten, asking, list_asks}
@@ -22,7 +22,7 @@ use Rattle.encode_leaf.specs.Laying as L
 use Rattle.encode_leaf.specs.Laying.{Laid, laid, start}
 use Rattle.encode_leaf.specs.Machine.{codec, room_in}
 use Rattle.encode.proofs.Spread.{In, lies-reach, seq_in}
-use Rattle.encode.proofs.Joined.{stretch, stretch-reach, done, start-does}
+use Rattle.encode.proofs.Joined.{stretch-reach, done, start-does}
 use Rattle.encode.proofs.Fairly.{fair-part}
 
 -- ---- puts on a longer buffer of zeros

@@ -23,7 +23,7 @@ use positions::{larger, less, sat_add, sat_mul};
 use spans::end_of;
 
 // What writing a record answers: the number that refuses it, or 0 with the record's length.
-#[derive(Drop)]
+#[derive(Clone, Copy)]
 pub struct Written {
     pub number: u32,
     pub length: usize,
@@ -44,7 +44,7 @@ fn has_name(items: &[u64], name: u64, i: usize, to: usize) -> bool
 
 // Where an entry's value is, and how far the items of its sequence were met in the entries' order: none in front of `next` has a name from
 // `low` on.
-#[derive(Drop)]
+#[derive(Clone, Copy)]
 struct Place {
     at: usize,
     next: usize,

@@ -16,7 +16,7 @@ use Rattle.items.specs.declared.Item.{Item}
 use Rattle.value.specs.declared.Scalar.{Scalar}
 use Rattle.encode_scalar.specs.Encode.{judged_of, bytes_of, number_judged, number_bytes, part_after}
 use Rattle.encode_scalar.proofs.Parts.{whole}
-use Rattle.walks.specs.Walk.{unfit, bytes}
+use Rattle.walks.specs.Walk.{bytes}
 use Rattle.walks.specs.Writing.{lay}
 use Rattle.walks.specs.Kinds.{mask_of, enc}
 use Rattle.items.specs.Items.{text_of, scalar_in}

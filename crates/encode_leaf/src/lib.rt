@@ -20,7 +20,7 @@ use zeros::clear_counts;
 
 // What a part of the walk came to: the number that refuses it, or 0 with one more than the furthest end of what was put, 0 where
 // nothing was, and the bytes taken.
-#[derive(Drop)]
+#[derive(Clone, Copy)]
 pub struct Out {
     pub refused: u32,
     pub past: u64,
@@ -60,7 +60,7 @@ fn table_length(items: &[u64], e: Entry, from: usize, to: usize) -> u64
 }
 
 // The elements of an entry: how many, and the items from..end that they are; or the number that refuses the value.
-#[derive(Drop)]
+#[derive(Clone, Copy)]
 pub struct Run {
     pub refused: u32,
     pub n: u64,

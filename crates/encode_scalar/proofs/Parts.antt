@@ -2,7 +2,7 @@
 use mathlib.Core.Path.{◌≡◌, refl, sym, ap, ◌∙◌}
 use mathlib.Core.List.{List, [], ◌∷◌, map, append-nil}
 use mathlib.Core.Bool.{Bool, true, false, cond, false≢true}
-use Prim.Native.Nat.{ℕ, ◌-◌, ◌^◌, ◌≤◌, ◌<◌}
+use Prim.Native.Nat.{ℕ, ◌^◌, ◌≤◌, ◌<◌}
 use native.Mathlib.Nat.{le_refl}
 use native.Mathlib.Omega.{arith}
 use lib.Dec.{eqb, leb, ltb}
@@ -22,8 +22,6 @@ use Rattle.display.proofs.Back.{length-bytes, decimal-fits}
 use Rattle.binary.specs.Binary.{integer_bytes}
 use Rattle.binary.proofs.Words.{bytes-length}
 use Rattle.float.specs.Field.{float_bytes}
-use Rattle.hex_field.specs.Hex as Hex
-use Rattle.hex_field.proofs.Back as HexBack
 use Rattle.packed.specs.Packed as Packed
 use Rattle.packed.proofs.Writing as PackedWriting
 use Rattle.packed.proofs.Round as PackedRound

@@ -4,7 +4,7 @@ use mathlib.Core.List.{List}
 use mathlib.Core.Bool.{Bool, true, false, ◌&&◌, cond, and-false, false≢true}
 use Prim.Native.Nat.{ℕ, ◌-◌, ◌*◌, ◌/◌, ◌%◌, ◌^◌, ◌<◌, ◌≤◌}
 use native.Mathlib.Nat.{mod-lt}
-use lib.Dec.{eqb, ltb, lit<}
+use lib.Dec.{ltb, lit<}
 use lib.Ieee.{binary64, nan_bits, of_bits}
 use lib.ListN.{length}
 use borrow.Author.Tests.{lt-ltb, eq-eqb}
@@ -34,10 +34,9 @@ use Rattle.packed.proofs.Writing as PackedWriting
 use Rattle.packed.proofs.Round as PackedRound
 use Rattle.zoned.specs.Zoned as Zoned
 use Rattle.zoned.proofs.Back as ZonedBack
-use Rattle.edited.specs.Edited as Edited
 use Rattle.edited.specs.Fits as EditedFits
 use Rattle.edited.proofs.Round as EditedRound
-use Rattle.decode_scalar.specs.Decode.{Says, value, text, says, flag, is_embedded, int_says, decimal_says}
+use Rattle.decode_scalar.specs.Decode.{value, text, says, flag, is_embedded, int_says, decimal_says}
 use Rattle.encode_scalar.specs.Encode.{number_judged, number_bytes, judged_of, bytes_of}
 use Rattle.fits.specs.Fits.{Minus, Digits, plain, separate, InRange, unsigned, plus, minus, Fits, text-fits}
 use Rattle.fits.specs.Fits.{int-fits, embedded-fits, binary-fits, float_fits, hex-fits, bool-fits, display-fits, packed-fits, zoned-fits, edited-fits, said_of}

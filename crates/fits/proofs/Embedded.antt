@@ -5,7 +5,6 @@ use mathlib.Core.Bool.{Bool, true, false}
 use Prim.Native.Nat.{ℕ, zero, suc, ◌+◌, ◌-◌, ◌/◌, ◌^◌, ◌<◌, ◌≤◌}
 use native.Mathlib.Decide.{dec_lt}
 use native.Mathlib.Omega.{arith}
-use lib.Dec.{eqb}
 use lib.ListN.{length, get_or, get_or-append}
 use lib.Seq.{get_or_at}
 use borrow.Author.Tests.{le-leb, ne_eqb}
@@ -17,7 +16,6 @@ use Rattle.value.proofs.Field.{last_snoc, front-snoc}
 use Rattle.value.proofs.Room.{room-some}
 use Rattle.ebcdic.specs.Ebcdic.{from_page, onto_page}
 use Rattle.ebcdic.proofs.Laws.{bytes_back}
-use Rattle.numerals.specs.Numerals.{trimmed}
 use Rattle.numerals.proofs.Text.{inked-digit_text, trimmed-kept, all_digits}
 use Rattle.zoned.specs.Zoned.{overpunch, encoded_of, fits_of}
 use Rattle.zoned.proofs.Back.{encoded-length, encoded-byte, within}

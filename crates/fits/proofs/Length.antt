@@ -2,7 +2,7 @@
 use mathlib.Core.Path.{◌≡◌, sym, ◌∙◌}
 use mathlib.Core.List.{List}
 use mathlib.Core.Bool.{true, ◌&&◌}
-use Prim.Native.Nat.{ℕ, ◌-◌, ◌%◌, ◌^◌}
+use Prim.Native.Nat.{ℕ, ◌%◌, ◌^◌}
 use lib.Dec.{ltb}
 use lib.ListN.{length}
 use borrow.Author.Tests.{lt-ltb}
@@ -14,9 +14,7 @@ use Rattle.display.specs.Display as Display
 use Rattle.display.proofs.Back.{fits-decimal}
 use Rattle.float.proofs.Back.{exact-lt}
 use Rattle.hex_field.proofs.Back as HexBack
-use Rattle.packed.specs.Packed as Packed
 use Rattle.packed.proofs.Writing.{fits_below}
-use Rattle.zoned.specs.Zoned as Zoned
 use Rattle.edited.proofs.Round as EditedRound
 use Rattle.decode_scalar.specs.Decode.{flag}
 use Rattle.encode_scalar.specs.Encode.{int_fit, decimal_fit, bytes_of, number_bytes}

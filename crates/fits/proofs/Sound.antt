@@ -5,7 +5,7 @@ use mathlib.Core.Bool.{Bool, true, false, not, ◌&&◌, cond, false≢true}
 use Prim.Native.Nat.{ℕ, ◌-◌, ◌*◌, ◌/◌, ◌%◌, ◌^◌, ◌<◌}
 use lib.Dec.{eqb, leb, ltb}
 use lib.ListN.{length}
-use lib.Ieee.{Float, binary64, fits, is_nan, of_bits, to_bits, nan_bits}
+use lib.Ieee.{binary64, fits, is_nan, of_bits, to_bits, nan_bits}
 use borrow.Author.Tests.{lt-ltb, le-leb, eq-eqb, eqb-true, ltb-true, leb-true}
 use Rattle.lists.proofs.Logic.{both, and, and_right}
 use Rattle.value.specs.declared.Scalar.{Scalar}

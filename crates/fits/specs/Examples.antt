@@ -1,5 +1,5 @@
 -- Worked examples, each on one side of a bound.
-use Rattle.std.specs.Prelude.{◌≡◌, refl, Bool, true, false, List, [], ◌∷◌, ℕ, ◌-◌, ◌^◌, negsuc}
+use Rattle.std.specs.Prelude.{◌≡◌, refl, Bool, true, false, List, [], ◌∷◌, ℕ, ◌^◌, negsuc}
 use Rattle.std.specs.Float.{inf, fin}
 use Rattle.std.specs.Float.Ieee.{of_bits, to_bits, nan_bits, is_nan, fits}
 use Rattle.lists.specs.Scan.{every_by}

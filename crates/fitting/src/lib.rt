@@ -23,7 +23,7 @@ use spans::end_of;
 use zeros::clear_counts;
 
 // What a part of the walk came to: whether its items fit, and the text bytes so far.
-#[derive(Drop)]
+#[derive(Clone, Copy)]
 struct Out {
     ok: bool,
     told: usize,

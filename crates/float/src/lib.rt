@@ -20,14 +20,14 @@ ghost use Rattle.float.specs.Field.{field_ok, word_for, pattern_for, float_in, p
 use value::{Amount, Scalar};
 
 // The f64 word of a value, where it has one.
-#[derive(Drop)]
+#[derive(Clone, Copy)]
 pub enum Floated {
     Word(u64),
     Refused,
 }
 
 // What reading a Float field answers.
-#[derive(Drop)]
+#[derive(Clone, Copy)]
 pub enum Parsed {
     Value(Scalar),
     Bad,

@@ -5,11 +5,10 @@ use mathlib.Core.List.{List}
 use Prim.Native.Nat.{ℕ, ◌+◌, ◌-◌, ◌*◌, ◌<◌, ◌≤◌, min}
 use native.Mathlib.Omega.{arith}
 use native.Mathlib.Decide.{dec_lt}
-use lib.Dec.{eqb}
 use lib.ListN.{get_or}
 use borrow.Author.Tests.{eq-eqb, ne_eqb}
 use Rattle.items.specs.declared.Item.{Item}
-use Rattle.spans.specs.Tree.{none, node, end_of, tree, size}
+use Rattle.spans.specs.Tree.{none, node, end_of, size}
 use Rattle.spans.proofs.Tree.{tree-none, tree-at, size-tree}
 use Rattle.items.specs.Items.{item_words, item_at, holds, span_of, values, head_of, members_of, rest_of, lookup, place_of}
 

@@ -2,14 +2,14 @@
 use mathlib.Core.Path.{◌≡◌, refl, sym, ap, ◌∙◌}
 use mathlib.Core.Bool.{Bool, true, false, ◌&&◌, cond}
 use mathlib.Core.List.{List}
-use Prim.Native.Nat.{ℕ, zero, suc, ◌+◌, ◌-◌, ◌%◌, ◌<◌, ◌≤◌}
+use Prim.Native.Nat.{ℕ, suc, ◌+◌, ◌-◌, ◌%◌, ◌<◌, ◌≤◌}
 use native.Mathlib.Omega.{arith}
 use native.Mathlib.Decide.{dec_le}
 use lib.Dec.{eqb, leb}
 use lib.ListN.{length}
 use borrow.Author.Tests.{eq-eqb, ne_eqb, eqb-true, eqb-false, le-leb, lt-leb}
 use Rattle.items.specs.declared.Item.{Item}
-use Rattle.spans.specs.Tree.{none, node, end_of, size}
+use Rattle.spans.specs.Tree.{node, end_of, size}
 use Rattle.items.specs.Items.{item_words, item_count, holds, span_of, values, text_ok, scalar_ok, name_ok, holder_ok, item_ok, count, list_ok, depth, well_formed, head_of}
 use Rattle.items.proofs.Items.{values-none, values-node, size-values}
 

@@ -2,13 +2,13 @@
 use mathlib.Core.Path.{◌≡◌, refl, sym, ap, ◌∙◌}
 use mathlib.Core.Bool.{Bool, true, false, ◌&&◌, ◌||◌, not, and-false}
 use mathlib.Core.List.{List, [], ◌∷◌}
-use Prim.Native.Nat.{ℕ, zero, suc, ◌+◌, ◌-◌, ◌≤◌, ◌<◌}
+use Prim.Native.Nat.{ℕ, zero, suc, ◌+◌, ◌≤◌, ◌<◌}
 use native.Mathlib.Omega.{arith}
-use lib.Dec.{eqb, leb}
+use lib.Dec.{eqb}
 use lib.ListN.{length}
 use borrow.Author.Tests.{le-leb, eqb-true}
 use Rattle.layout.specs.declared.Entry.{Entry}
-use Rattle.layout.specs.Layout.{absent, entry_at, all_below, up_to, plain_ok, float_ok, bool_ok, edited_ok, kind_ok, option_ok, place_ok, entry_ok, entries_ok}
+use Rattle.layout.specs.Layout.{entry_at, all_below, up_to, plain_ok, float_ok, bool_ok, edited_ok, kind_ok, option_ok, place_ok, entry_ok, entries_ok}
 use Rattle.lines.specs.Names.{distinct, number_in}
 use Rattle.lines.proofs.Sight.{index-most, distinct-few}
 use Rattle.layout_text.specs.Form.{count_of, kind_said}

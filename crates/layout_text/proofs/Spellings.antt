@@ -18,7 +18,7 @@ use Rattle.lines.specs.Names.{distinct, names_at}
 use Rattle.lines.proofs.Laws.{start-there}
 use Rattle.lines.proofs.Sight.{get_or-map-at, names-long}
 use Rattle.layout_text.specs.declared.LayoutReading.{LayoutReading}
-use Rattle.layout_text.specs.Form.{lines_of, is_none, mask_for, count_of, line_in, kind_said, all, tests, entry_lawful, lawful, mask_word}
+use Rattle.layout_text.specs.Form.{lines_of, is_none, mask_for, count_of, line_in, kind_said, all, tests, entry_lawful, mask_word}
 use Rattle.layout_text.specs.Reading.{width_said, mask_said, names_of, masks_below, masks_of, mask_long, text_checked, refusal, read_of, spelling, first_start, spelling_at, name_count}
 use Rattle.layout_text.specs.Firsts.{firsts_of, Firsts}
 use Rattle.layout_text.specs.Walk.{bare_said, fine_in, Lasts, answer_of}

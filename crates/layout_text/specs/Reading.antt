@@ -1,5 +1,5 @@
 -- What a lawful text says: its entries' words and its masks; and what a reader of it answers.
-use Rattle.std.specs.Prelude.{◌≡◌, Bool, ◌&&◌, ◌||◌, not, cond, List, [], ◌∷◌, ◌++◌, map, ℕ, zero, suc, ◌+◌, ◌/◌, ◌%◌, eqb, leb, length, drop, get_or}
+use Rattle.std.specs.Prelude.{◌≡◌, Bool, ◌&&◌, ◌||◌, not, cond, List, [], ◌∷◌, ◌++◌, map, ℕ, zero, suc, ◌/◌, ◌%◌, eqb, leb, length, drop, get_or}
 pub use Rattle.zeros.specs.Filled.{filled}
 use Rattle.codes.specs.Codes.{kind_decimal, kind_edited}
 use Rattle.layout.specs.declared.Entry.{Entry}

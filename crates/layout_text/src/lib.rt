@@ -22,14 +22,14 @@ use spans::{end_of, span_ok};
 // ---- one line. A part or a number whose `next` is 0 stands for an unlawful line.
 
 // Where a value starts and ends, and where the next line starts.
-#[derive(Drop)]
+#[derive(Clone, Copy)]
 pub struct Part {
     pub start: usize,
     pub end: usize,
     pub next: usize,
 }
 
-#[derive(Drop)]
+#[derive(Clone, Copy)]
 pub struct Number {
     pub value: u32,
     pub next: usize,
@@ -317,7 +317,7 @@ fn group_flag(kind: u32) -> u8
 }
 
 // What one pass over a text finds: whether it is lawful, its page, how many entries and mask bytes it has, and whether each entry passes question 2.
-#[derive(Drop)]
+#[derive(Clone, Copy)]
 pub struct Judged {
     pub lawful: bool,
     pub page: u32,
@@ -398,7 +398,7 @@ fn nested(spans: &[u32], groups: &[u8], lo: usize, hi: usize, levels: usize) -> 
 }
 
 // What read_layout answers: 0 or the number of the refusal, the page, and how many words and mask bytes were stored.
-#[derive(Drop)]
+#[derive(Clone, Copy)]
 pub struct LayoutReading {
     pub number: u32,
     pub page: u32,
@@ -518,7 +518,7 @@ fn put_mask(masks: &mut [u8], m: usize, part: &[u8])
 }
 
 // The numbers of an entry's names, and how many different names the table then holds.
-#[derive(Drop)]
+#[derive(Clone, Copy)]
 pub struct Sighted {
     pub name: u32,
     pub depending: u32,

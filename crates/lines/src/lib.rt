@@ -11,13 +11,13 @@ ghost use Rattle.lines.specs.Names.{fold_of, same_name, index_in, names_at, numb
 use codes::ABSENT;
 
 // Where a value starts and ends in a text, and where the next line starts.
-#[derive(Drop)]
+#[derive(Clone, Copy)]
 pub enum Found {
     At(usize, usize, usize),
     Unlawful,
 }
 
-#[derive(Drop)]
+#[derive(Clone, Copy)]
 pub enum Parsed {
     Value(u32),
     Bad,
@@ -245,7 +245,7 @@ fn find_name(text: &[u8], starts: &[u32], count: usize, name: &[u8]) -> usize
 }
 
 // A name's number, and how many different names the table then holds.
-#[derive(Drop)]
+#[derive(Clone, Copy)]
 pub struct Seen {
     pub number: usize,
     pub count: usize,

@@ -1,5 +1,5 @@
 -- The starred records of the format, by computation.
-use Rattle.std.specs.Prelude.{◌≡◌, refl, [], ◌∷◌, true, false, ◌+◌, ◌-◌, ◌*◌, ◌^◌, pos, negsuc}
+use Rattle.std.specs.Prelude.{◌≡◌, refl, [], ◌∷◌, true, false, ◌+◌, ◌-◌, ◌*◌, ◌^◌, negsuc}
 use Rattle.value.specs.Answer.{refused}
 use Rattle.value.specs.Digits.{digit_at, signed_of}
 use Rattle.value.specs.Field.{field_of}

@@ -11,7 +11,7 @@ use lib.ListN.{length, drop, get_or, drop_of_length-le}
 use lib.Seq.{drop-cons}
 use Rattle.layout.specs.declared.Entry.{Entry}
 use Rattle.layout.specs.Layout.{unrepeated_leaf, absent, entry_at, span_of, present, part, unrepeated, is_pad}
-use Rattle.spans.specs.Tree.{none, end_of}
+use Rattle.spans.specs.Tree.{end_of}
 use Rattle.spans.proofs.Tree.{tree-none, tree-at}
 use Rattle.walks.specs.Plain.{is_in, pad_ok, width_ok, some, sure, group_ok}
 

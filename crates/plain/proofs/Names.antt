@@ -10,7 +10,7 @@ use borrow.Author.Tests.{eq-eqb, ne_eqb}
 use lib.Dec.{eqb}
 use Rattle.layout.specs.declared.Entry.{Entry}
 use Rattle.layout.specs.Layout.{entry_at, entry_count, span_of, part, entries}
-use Rattle.spans.specs.Tree.{none, end_of}
+use Rattle.spans.specs.Tree.{end_of}
 use Rattle.spans.proofs.Tree.{tree-none, tree-at}
 use Rattle.walks.specs.Plain.{is_in, names_of, distinct}
 use Rattle.plain.specs.Ways.{names_from}

@@ -178,7 +178,7 @@ fn put_known(known: &mut [u32], top: usize, e: Entry) -> usize
 // ---- the tree
 
 // Whether a sequence meets the clauses, and the height of the stack behind it.
-#[derive(Drop)]
+#[derive(Clone, Copy)]
 pub struct Step {
     pub fine: bool,
     pub top: usize,

@@ -11,7 +11,7 @@ use zeros::{clear_items, clear_text};
 
 // What writing and reading back answer: the number that refuses to write, or 0 with the record's length; then the number that refuses to read,
 // or 0 with the item words and the text bytes used. All are 0 behind a refusal.
-#[derive(Drop)]
+#[derive(Clone, Copy)]
 pub struct Trip {
     pub written: u32,
     pub length: usize,

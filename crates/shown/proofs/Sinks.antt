@@ -6,8 +6,7 @@ use native.Mathlib.Omega.{arith}
 use native.Mathlib.Nat.{not-suc-le-zero, le_of_suc-le-suc}
 use native.Mathlib.Numerals.{add-one}
 use borrow.Author.Tests.{lt-ltb, le-ltb, ne_eqb, eq-eqb}
-use lib.Dec.{eqb, ltb}
-use lib.ListN.{length, take, drop, get_or, set}
+use lib.ListN.{length, drop, get_or, set}
 use Rattle.value.specs.Digits.{spread}
 use Rattle.shown.specs.declared.Sink.{Sink}
 use Rattle.shown.specs.Sink.{State, state, sink_at, one, all, Took}

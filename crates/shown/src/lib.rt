@@ -24,7 +24,7 @@ use value::Scalar;
 // ---- a buffer that takes bytes from a place on
 
 // How many bytes are still passed over, and how many the buffer holds.
-#[derive(Drop)]
+#[derive(Clone, Copy)]
 pub struct Sink {
     pub skip: usize,
     pub used: usize,

@@ -11,7 +11,7 @@ use borrow.Author.Tests.{eqb-true, eqb-false, ne_eqb, eq-eqb}
 use Rattle.lists.specs.Scan.{join_by, right_by, before_by}
 use Rattle.lists.proofs.Scan.{right-pads}
 use Rattle.text.specs.Text.{is_byte, cut}
-use Rattle.text.specs.Changed.{pad_first, Changed, Exactly, ExactlyThese}
+use Rattle.text.specs.Changed.{pad_first, Changed, ExactlyThese}
 
 module _ (pad : ℕ) where
   abbrev new_cut : List ℕ → List ℕ

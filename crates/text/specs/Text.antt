@@ -1,5 +1,5 @@
 -- Text fields and Pads: the text of a field's bytes, a field's bytes for a text, and the texts that come back.
-use Rattle.std.specs.Prelude.{ℕ, ◌+◌, ◌-◌, ◌≤◌, ◌<◌, ◌≡◌, Bool, true, false, cond, List, ◌++◌, map, length, drop, replicate, get_or, eqb, leb}
+use Rattle.std.specs.Prelude.{ℕ, ◌-◌, ◌≤◌, ◌<◌, ◌≡◌, Bool, true, false, cond, List, ◌++◌, map, length, drop, replicate, get_or, eqb, leb}
 use Rattle.lists.specs.Scan.{left_by, left_count, right_by, before_by}
 use Rattle.ebcdic.specs.Ebcdic.{from_page, onto_page}
 use Rattle.value.specs.Answer.{Answer, refused, given}

@@ -14,14 +14,14 @@ ghost use Rattle.text.specs.Shown.{shows, is_text, shown_of, text_in, answer_of,
 use value::Scalar;
 
 // What put_text answers: the length of the text that it put, or that it had no room.
-#[derive(Drop)]
+#[derive(Clone, Copy)]
 pub enum Put {
     Length(usize),
     Full,
 }
 
 // What display_scalar answers: the length of the text, or that the scalar has none.
-#[derive(Drop)]
+#[derive(Clone, Copy)]
 pub enum Shown {
     Length(usize),
     Refused,

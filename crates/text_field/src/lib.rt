@@ -12,7 +12,7 @@ use codes::{ABSENT, KIND_TEXT, MAX_RECORD};
 use layout::Entry;
 
 // What translate_text answers: 0 or the number it refuses by, and how many bytes it translated.
-#[derive(Drop)]
+#[derive(Clone, Copy)]
 pub struct Translated {
     pub number: u32,
     pub length: usize,
@@ -158,7 +158,7 @@ fn start_in(e: Entry, at: usize, s: &[u8]) -> usize
 }
 
 // Where a field's text stands: 0 or the number it is refused by, its start and its length.
-#[derive(Drop)]
+#[derive(Clone, Copy)]
 pub struct TextPlace {
     pub number: u32,
     pub start: usize,

@@ -1,5 +1,5 @@
 -- How a size is brought to another scale.
-use Rattle.std.proofs.Common.{◌≡◌, ℕ, zero, suc, ◌+◌, ◌-◌, ◌*◌, ◌^◌, ◌<◌, ◌≤◌, ltb, sym, ap, ◌∙◌, subst, le_trans, mul-le-mul_right, mul-lt-mul_of_pos_right, arith, lit<, pow-add, le-ltb, lt-ltb}
+use Rattle.std.proofs.Common.{◌≡◌, ℕ, zero, suc, ◌+◌, ◌-◌, ◌*◌, ◌^◌, ◌<◌, ◌≤◌, sym, ap, ◌∙◌, subst, le_trans, mul-le-mul_right, mul-lt-mul_of_pos_right, arith, lit<, pow-add, le-ltb, lt-ltb}
 use native.Mathlib.Nat.{pow-le-pow_right}
 use Rattle.value.specs.Digits.{limit}
 use Rattle.value.specs.Rounding.{rounded, rescaled}

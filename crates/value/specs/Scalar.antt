@@ -1,5 +1,5 @@
 -- "a scalar is Null, Text, Int, Decimal, Float or Bool (tags 0 to 5)", with its tag and its two words.
-use Rattle.std.specs.Prelude.{ℕ, Bool, cond, ◌==◌, from_bits, to_bits, Float}
+use Rattle.std.specs.Prelude.{ℕ, Bool, cond, ◌==◌, from_bits, to_bits}
 use Rattle.std.specs.Float.{binary64}
 use Rattle.std.specs.Float.Ieee.{nan_bits}
 use Rattle.codes.specs.Codes.{tag_null, tag_text, tag_int, tag_decimal, tag_float, tag_bool}

@@ -15,7 +15,7 @@ use codes::{TAG_BOOL, TAG_DECIMAL, TAG_FLOAT, TAG_INT, TAG_NULL, TAG_TEXT};
 
 // What is answered for a number that is read, or for the integer that a value stands for: whether it is negative, and its size; 0 is never negative.
 // Bad: an unlawful byte, or no integer. Big: out of range.
-#[derive(Drop)]
+#[derive(Clone, Copy)]
 pub enum Number {
     Of(bool, u64),
     Bad,
@@ -23,7 +23,7 @@ pub enum Number {
 }
 
 // The same for a value that is to be written into a Decimal or an Edited field. Bad: a value that is no number there. Big: a size from 10^18.
-#[derive(Drop)]
+#[derive(Clone, Copy)]
 pub enum Amount {
     Of(bool, u64),
     Bad,
@@ -322,7 +322,7 @@ fn bool_word(b: bool) -> u64
 }
 
 // An item's words behind its name.
-#[derive(Drop)]
+#[derive(Clone, Copy)]
 pub struct Words {
     pub tag: u64,
     pub a: u64,

@@ -2,11 +2,11 @@
 use mathlib.Core.Path.{◌≡◌, refl, sym, ap, ◌∙◌}
 use mathlib.Core.Bool.{Bool, true, false, ◌&&◌, ◌||◌, cond, false≢true}
 use mathlib.Core.List.{List, [], ◌++◌, append-nil}
-use Prim.Native.Nat.{ℕ, zero, ◌+◌, ◌-◌, ◌≤◌, min, max}
+use Prim.Native.Nat.{ℕ, ◌+◌, ◌≤◌, min, max}
 use native.Mathlib.Omega.{arith}
 use lib.ListN.{length, take, replicate, length-append, length-replicate}
 use lib.Seq.{take_at}
-use lib.Dec.{leb, eqb}
+use lib.Dec.{eqb}
 use borrow.Author.Tests.{le-leb}
 use Rattle.lists.proofs.Logic.{or_right}
 use Rattle.layout.specs.declared.Entry.{Entry}
@@ -14,17 +14,17 @@ use Rattle.layout.proofs.Laws.{lawful-asked}
 use Rattle.layout.specs.Layout.{work_for, entries, record_length, depends_in, is_pad}
 use Rattle.spans.specs.Tree.{Tree, none, node}
 use Rattle.items.specs.declared.Item.{Item}
-use Rattle.items.specs.Items.{item_count, Values, values, count, well_formed, lookup}
+use Rattle.items.specs.Items.{item_count, Values, values, count, lookup}
 use Rattle.items.proofs.Exact.{whole-count}
 use Rattle.walks.specs.Walk.{Codec}
-use Rattle.walks.specs.Kinds.{State, start, held, kinds}
+use Rattle.walks.specs.Kinds.{State, start, kinds}
 use Rattle.walks.specs.Reading as R
 use Rattle.walks.specs.Writing as W
 use Rattle.walks.specs.Writing.{reach, apply}
 use Rattle.walks.specs.Records.{most, decode_record, decoded, found, supplied, writer_asks, encode_record, encoded}
 use Rattle.walks.specs.Plain.{plain}
 use Rattle.walks.specs.Fitting.{holder, sequence, Fits, done, pads, scalar, group, table, Fitting}
-use Rattle.walks.specs.Needs as goal
+use Rattle.walks.specs.Needs as N
 use Rattle.walks.specs.Needs.{needed}
 use Rattle.walks.specs.Demand.{Kept, Demand3}
 use Rattle.walks.proofs.Puts.{Held, apply-length, apply-held, held-front}
@@ -86,7 +86,7 @@ module _ (l masks : List ℕ) (page : ℕ) (items text : List ℕ) (p : plain l 
     abbrev kr : Codec State
     kr = kinds masks page [] text_room
 
-    goes : Goes (λ room. W.seq kw room (entries l) vs 0 0) (λ r room. R.seq ◌+◌ kr r (entries l) 0 0 room start) (goal.seq (entries l) vs 0 0) (0 + (0 + 0)) 0 (least (entries l)) (flat vs) (count vs) f.counts
+    goes : Goes (λ room. W.seq kw room (entries l) vs 0 0) (λ r room. R.seq ◌+◌ kr r (entries l) 0 0 room start) (N.seq (entries l) vs 0 0) (0 + (0 + 0)) 0 (least (entries l)) (flat vs) (count vs) f.counts
     goes = trip kw kr (pad-law masks page text 0 text_room enough) (λ e s. refl) masks text (λ e it s g. scalar-law masks page text 0 text_room enough e it s g)
         f.fits 0 0 0 vs (plain-tree l masks page p) (looks-self (entries l) vs)
 

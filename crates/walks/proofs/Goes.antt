@@ -5,7 +5,6 @@ use mathlib.Core.List.{List, [], ◌∷◌, ◌++◌}
 use Prim.Native.Nat.{ℕ, suc, ◌+◌, ◌-◌, ◌*◌, ◌≤◌, max}
 use native.Mathlib.Omega.{arith}
 use lib.ListN.{length, take, drop, length-append}
-use lib.Dec.{leb, eqb}
 use borrow.Author.Tests.{le-leb, ne_eqb}
 use Rattle.lists.proofs.Logic.{or-true}
 use Rattle.items.proofs.Flat.{flat-long}
@@ -14,12 +13,12 @@ use Rattle.layout.specs.Layout.{is_group, present, reserved_width, unrepeated, i
 use Rattle.spans.specs.Tree.{Tree, none, node, size}
 use Rattle.items.specs.declared.Item.{Item}
 use Rattle.items.specs.Items.{header, item_words, item_count, flat, words_of, item_of, scalar_in, Values, count, head_of, rest_of, lookup}
-use Rattle.walks.specs.Walk.{Many, times, at_most, how_many, leaf, bytes, Codec}
+use Rattle.walks.specs.Walk.{times, at_most, how_many, leaf, bytes, Codec}
 use Rattle.walks.specs.Reading as R
 use Rattle.walks.specs.Reading.{Outcome, read, Reader}
 use Rattle.walks.specs.Writing as W
 use Rattle.walks.specs.Writing.{Put, reach, Wrote, wrote, Writer}
-use Rattle.walks.specs.Needs as goal
+use Rattle.walks.specs.Needs as N
 use Rattle.walks.specs.Needs.{Extent, Measure}
 use Rattle.walks.specs.Fitting.{holder}
 use Rattle.walks.proofs.Puts.{Asc, Held, asc-from, asc-append, reach-append, held-left, held-right}
@@ -72,9 +71,9 @@ PadLaw kw = (e : Entry) → is_pad e ≡ true → (it : Item) → (bs : List ℕ
 module _ {S : Type 0} (kw kr : Codec S) where
   pub scalar-goes : (e : Entry) (inw : ℕ → Writer) (inr : List ℕ → Reader S) (inm : Measure) (name : ℕ) (it : Item) (vs : Values) (once : Bool) (s s' : S) (at : ℕ)
       → it.name ≡ name → is_pad e ≡ false → is_group e ≡ false → 1 ≤ e.width → Law kw kr e it s s'
-      → Goes (λ room. W.one kw room e (inw room) (node it none vs) at) (λ r room. R.one kr r e (inr r) name once at room s) (goal.one e inm (node it none vs) at)
+      → Goes (λ room. W.one kw room e (inw room) (node it none vs) at) (λ r room. R.one kr r e (inr r) name once at room s) (N.one e inm (node it none vs) at)
       at at 1 (words_of it) 1 s'
-  unfolding R.one R.scalar W.one goal.one
+  unfolding R.one R.scalar W.one N.one
   scalar-goes e inw inr inm name it vs once s s' at n p g wide l =
       record {
         puts = record { at = at; bs = l.0 } ∷ [];
@@ -98,8 +97,8 @@ module _ {S : Type 0} (kw kr : Codec S) where
 
   pub pad-goes : PadLaw kw → (e : Entry) (inw : ℕ → Writer) (inr : List ℕ → Reader S) (inm : Measure) (name : ℕ) (vs : Values) (once : Bool) (s : S) (at : ℕ)
       → is_pad e ≡ true → is_group e ≡ false → 1 ≤ e.width
-      → Goes (λ room. W.one kw room e (inw room) vs at) (λ r room. R.one kr r e (inr r) name once at room s) (goal.one e inm vs at) at at 1 [] 0 s
-  unfolding R.one R.pad W.one goal.one
+      → Goes (λ room. W.one kw room e (inw room) vs at) (λ r room. R.one kr r e (inr r) name once at room s) (N.one e inm vs at) at at 1 [] 0 s
+  unfolding R.one R.pad W.one N.one
   pad-goes law e inw inr inm name vs once s at p g wide =
       let l : (bs : List ℕ) × (kw.enc e (head_of vs) ≡ bytes bs) × (length bs ≡ e.width) = law e p (head_of vs) in
       record {
@@ -131,16 +130,16 @@ inside-goes name tag w f x lo base least ns s s' at g =
 
 -- no elements, and one more element
 pub elements-none : {S : Type 0} (g : ℕ → Writer) (f : List ℕ → Reader S) (i : Measure) (vs : Values) (s : S) (at : ℕ)
-    → Goes (λ room. W.elements (g room) 0 vs at) (λ r room. R.elements ◌+◌ (f r) 0 at room s) (goal.elements i 0 vs at) at at 0 [] 0 s
-unfolding W.elements R.elements goal.elements
+    → Goes (λ room. W.elements (g room) 0 vs at) (λ r room. R.elements ◌+◌ (f r) 0 at room s) (N.elements i 0 vs at) at at 0 [] 0 s
+unfolding W.elements R.elements N.elements
 elements-none g f i vs s at = record { puts = []; writes = λ room h. refl; far = refl; above = tt; below = omega arith; some = omega arith; reads = λ r room h l. refl }
 
 pub elements-more : {S : Type 0} (g : ℕ → Writer) (f : List ℕ → Reader S) (i : Measure) (n : ℕ) (vs : Values) (ws ws' : List ℕ) (m m' : ℕ) (s s₁ s' : S) (at : ℕ)
     → Goes (λ room. g room vs at) (λ r room. f r at room s) (i vs at) at at 1 ws m s₁
     → Goes (λ room. W.elements (g room) n (rest_of vs) (at + (i vs at).taken)) (λ r room. R.elements ◌+◌ (f r) n (at + (i vs at).taken) room s₁)
-    (goal.elements i n (rest_of vs) (at + (i vs at).taken)) (at + (i vs at).taken) (at + (i vs at).taken) 0 ws' m' s'
-    → Goes (λ room. W.elements (g room) (suc n) vs at) (λ r room. R.elements ◌+◌ (f r) (suc n) at room s) (goal.elements i (suc n) vs at) at at 0 (ws ++ ws') (m + m') s'
-unfolding W.elements R.elements goal.elements
+    (N.elements i n (rest_of vs) (at + (i vs at).taken)) (at + (i vs at).taken) (at + (i vs at).taken) 0 ws' m' s'
+    → Goes (λ room. W.elements (g room) (suc n) vs at) (λ r room. R.elements ◌+◌ (f r) (suc n) at room s) (N.elements i (suc n) vs at) at at 0 (ws ++ ws') (m + m') s'
+unfolding W.elements R.elements N.elements
 elements-more g f i n vs ws ws' m m' s s₁ s' at x y =
     let ra : reach (x.puts ++ y.puts) ≡ max (reach x.puts) (reach y.puts) = reach-append x.puts y.puts in
     let la : length (ws ++ ws') ≡ length ws + length ws' = length-append ws ws' in
@@ -163,15 +162,15 @@ module _ {S : Type 0} (kw kr : Codec S) where
   -- one more entry of a sequence
   pub entry-goes : (e : Entry) (ms rest : Tree Entry) (all : Values) (lo base shift least₁ least : ℕ) (ws ws' : List ℕ) (m m' : ℕ) (s s₁ s' : S)
       → lo ≤ e.offset
-      → (y : Extent) → y ≡ goal.field e (λ vs b. goal.seq ms vs b 0) (lookup e.name all) (base + (e.offset + shift))
+      → (y : Extent) → y ≡ N.field e (λ vs b. N.seq ms vs b 0) (lookup e.name all) (base + (e.offset + shift))
       → Goes (λ room. W.field kw room e (λ vs b. W.seq kw room ms vs b 0) (lookup e.name all) (base + (e.offset + shift)))
       (λ r room. R.field ◌+◌ kr r e (λ b n c. R.seq ◌+◌ kr r ms b 0 n c) (base + (e.offset + shift)) room s) y (base + (e.offset + shift)) (base + (e.offset + shift)) least₁ ws m s₁
       → Goes (λ room. W.seq kw room rest all base (shift + (y.taken - reserved_width e))) (λ r room. R.seq ◌+◌ kr r rest base (shift + (y.taken - reserved_width e)) room s₁)
-      (goal.seq rest all base (shift + (y.taken - reserved_width e)))
+      (N.seq rest all base (shift + (y.taken - reserved_width e)))
       (base + (e.offset + reserved_width e + (shift + (y.taken - reserved_width e)))) base least ws' m' s'
-      → Goes (λ room. W.seq kw room (node e ms rest) all base shift) (λ r room. R.seq ◌+◌ kr r (node e ms rest) base shift room s) (goal.seq (node e ms rest) all base shift)
+      → Goes (λ room. W.seq kw room (node e ms rest) all base shift) (λ r room. R.seq ◌+◌ kr r (node e ms rest) base shift room s) (N.seq (node e ms rest) all base shift)
       (base + (lo + shift)) base (max least₁ least) (ws ++ ws') (m + m') s'
-  unfolding W.seq R.seq goal.seq
+  unfolding W.seq R.seq N.seq
   entry-goes e ms rest all lo base shift least₁ least ws ws' m m' s s₁ s' from y ey x z =
       let ra : reach (x.puts ++ z.puts) ≡ max (reach x.puts) (reach z.puts) = reach-append x.puts z.puts in
       let la : length (ws ++ ws') ≡ length ws + length ws' = length-append ws ws' in
@@ -191,17 +190,17 @@ module _ {S : Type 0} (kw kr : Codec S) where
   pub group-goes : (e : Entry) (inw : ℕ → Writer) (inr : List ℕ → Reader S) (inm : Measure) (name : ℕ) (ns vs : Values) (once : Bool) (s s' : S) (lo at least : ℕ)
       → is_group e ≡ true → at ≤ lo → Goes (λ room. inw room ns at) (λ r room. inr r at room s) (inm ns at) lo at least (flat ns) (count ns) s'
       → Goes (λ room. W.one kw room e (inw room) (node (holder name 7 ns) ns vs) at) (λ r room. R.one kr r e (inr r) name once at room s)
-      (goal.one e inm (node (holder name 7 ns) ns vs) at) at at least (words_of (holder name 7 ns) ++ flat ns) 1 s'
-  unfolding R.one W.one goal.one
+      (N.one e inm (node (holder name 7 ns) ns vs) at) at at least (words_of (holder name 7 ns) ++ flat ns) 1 s'
+  unfolding R.one W.one N.one
   group-goes e inw inr inm name ns vs once s s' lo at least g h x =
       along lo at at least least (λ room. rw g refl) (λ r room. rw g refl) (rw g refl) h (omega arith)
       (inside-goes name 7 (λ room. inw room ns at) inr (inm ns at) lo at least ns s s' at x)
 
   pub field-one : (e : Entry) (inw : ℕ → Writer) (inr : List ℕ → Reader S) (inm : Measure) (v v' : Values) (s s' : S) (at least least' : ℕ) (ws : List ℕ) (m : ℕ)
       → unrepeated e ≡ true → v' ≡ v → least' ≤ least
-      → Goes (λ room. W.one kw room e (inw room) v at) (λ r room. R.one kr r e (inr r) e.name true at room s) (goal.one e inm v at) at at least ws m s'
-      → Goes (λ room. W.field kw room e (inw room) v' at) (λ r room. R.field ◌+◌ kr r e (inr r) at room s) (goal.field e inm v' at) at at least' ws m s'
-  unfolding R.field W.field goal.field
+      → Goes (λ room. W.one kw room e (inw room) v at) (λ r room. R.one kr r e (inr r) e.name true at room s) (N.one e inm v at) at at least ws m s'
+      → Goes (λ room. W.field kw room e (inw room) v' at) (λ r room. R.field ◌+◌ kr r e (inr r) at room s) (N.field e inm v' at) at at least' ws m s'
+  unfolding R.field W.field N.field
   field-one e inw inr inm v v' s s' at least least' ws m o q l x =
       along at at at least least' (λ room. rw (o, q) refl) (λ r room. rw o refl) (rw (o, q) refl) (omega arith) l x
 
@@ -217,16 +216,16 @@ module _ {S : Type 0} (kw kr : Codec S) where
   pub field-table : (e : Entry) (inw : ℕ → Writer) (inr : List ℕ → Reader S) (inm : Measure) (ns vs v' : Values) (s s' : S) (at least' : ℕ)
       → is_pad e ≡ false → unrepeated e ≡ false → how_many kr.held e s ≡ times (count ns) → v' ≡ node (holder e.name 6 ns) ns vs → least' ≤ 0
       → Goes (λ room. W.elements (W.one kw room e (inw room)) (count ns) ns at) (λ r room. R.elements ◌+◌ (R.one kr r e (inr r) 65536 false) (count ns) at room s)
-      (goal.elements (goal.one e inm) (count ns) ns at) at at 0 (flat ns) (count ns) s'
-      → Goes (λ room. W.field kw room e (inw room) v' at) (λ r room. R.field ◌+◌ kr r e (inr r) at room s) (goal.field e inm v' at) at at least'
+      (N.elements (N.one e inm) (count ns) ns at) at at 0 (flat ns) (count ns) s'
+      → Goes (λ room. W.field kw room e (inw room) v' at) (λ r room. R.field ◌+◌ kr r e (inr r) at room s) (N.field e inm v' at) at at least'
       (words_of (holder e.name 6 ns) ++ flat ns) 1 s'
-  unfolding R.field W.field W.table goal.field goal.long
+  unfolding R.field W.field W.table N.field N.long
   field-table e inw inr inm ns vs v' s s' at least' p o n q l x =
       along at at at 0 least' (λ room. rw (o, q, same-many e s (count ns) ns n refl) refl) (λ r room. rw (o, n, p) refl) (rw (o, q, p) refl) (omega arith) l
       (inside-goes e.name 6 (λ room. W.elements (W.one kw room e (inw room)) (count ns) ns at) (λ r. R.elements ◌+◌ (R.one kr r e (inr r) 65536 false) (count ns))
-      (goal.elements (goal.one e inm) (count ns) ns at) at at 0 ns s s' at x)
+      (N.elements (N.one e inm) (count ns) ns at) at at 0 ns s s' at x)
 
   pub seq-none : (all : Values) (lo base shift : ℕ) (s : S)
-      → Goes (λ room. W.seq kw room none all base shift) (λ r room. R.seq ◌+◌ kr r none base shift room s) (goal.seq none all base shift) lo base 0 [] 0 s
-  unfolding W.seq R.seq goal.seq
+      → Goes (λ room. W.seq kw room none all base shift) (λ r room. R.seq ◌+◌ kr r none base shift room s) (N.seq none all base shift) lo base 0 [] 0 s
+  unfolding W.seq R.seq N.seq
   seq-none all lo base shift s = record { puts = []; writes = λ room h. refl; far = refl; above = tt; below = omega arith; some = omega arith; reads = λ r room h l. refl }

@@ -2,7 +2,7 @@
 use mathlib.Core.Path.{◌≡◌, refl, sym, ap, ◌∙◌}
 use mathlib.Core.Bool.{Bool, true, false, cond, false≢true}
 use mathlib.Core.List.{List, [], ◌++◌}
-use Prim.Native.Nat.{ℕ, zero, suc, ◌+◌, ◌-◌, ◌≤◌}
+use Prim.Native.Nat.{ℕ, zero, suc, ◌+◌, ◌≤◌}
 use native.Mathlib.Omega.{arith}
 use lib.Dec.{eqb}
 use borrow.Author.Tests.{ne_eqb, eq-eqb}
@@ -11,13 +11,13 @@ use Rattle.layout.specs.Layout.{unrepeated_leaf, is_group, present, unrepeated, 
 use Rattle.spans.specs.Tree.{Tree, none, node}
 use Rattle.items.specs.declared.Item.{Item}
 use Rattle.items.specs.Items.{words_of, Values, count, lookup}
-use Rattle.walks.specs.Walk.{Many, how_many, Codec}
+use Rattle.walks.specs.Walk.{how_many, Codec}
 use Rattle.walks.specs.Kinds.{State, held}
 use Rattle.walks.specs.Reading as R
 use Rattle.walks.specs.Reading.{read, Reader}
 use Rattle.walks.specs.Writing as W
 use Rattle.walks.specs.Writing.{Writer}
-use Rattle.walks.specs.Needs as goal
+use Rattle.walks.specs.Needs as N
 use Rattle.walks.specs.Needs.{Measure}
 use Rattle.walks.specs.Fitting.{after, Good, holder, Sort, sequence, elements, Fits, done, pads, scalar, group, table, last, scalars, groups}
 use Rattle.walks.proofs.Plainly.{Fresh, least, Sound, Plain}
@@ -77,8 +77,8 @@ read_of : {S : Type 0} (kr : Codec S) (r : List ℕ) (e : Entry) (inr : Reader S
 unfolding R.field how_many
 read_of kr r e inr at room s o d p = rw (o, d, p) refl
 
-extent-of : (e : Entry) (inm : Measure) (v : Values) (at : ℕ) → unrepeated e ≡ false → is_pad e ≡ true → v ≡ none → goal.field e inm v at ≡ goal.elements (goal.one e inm) e.occurs none at
-unfolding goal.field goal.long
+extent-of : (e : Entry) (inm : Measure) (v : Values) (at : ℕ) → unrepeated e ≡ false → is_pad e ≡ true → v ≡ none → N.field e inm v at ≡ N.elements (N.one e inm) e.occurs none at
+unfolding N.field N.long
 extent-of e inm v at o p q = rw (o, p, q) refl
 
 module _ (kw kr : Codec State) (pad_law : PadLaw kw) (holds : (e : Entry) (s : State) → how_many kr.held e s ≡ how_many held e s) where
@@ -86,21 +86,21 @@ module _ (kw kr : Codec State) (pad_law : PadLaw kw) (holds : (e : Entry) (s : S
   pads-go : (e : Entry) (inw : ℕ → Writer) (inr : List ℕ → Reader State) (inm : Measure) (n : ℕ) (s : State) (at : ℕ)
       → is_pad e ≡ true → 1 ≤ e.width
       → Goes (λ room. W.elements (W.one kw room e (inw room)) n none at) (λ r room. R.elements ◌+◌ (R.one kr r e (inr r) 65536 false) n at room s)
-      (goal.elements (goal.one e inm) n none at) at at 0 [] 0 s
-  pads-go e inw inr inm zero s at p w = elements-none (λ room. W.one kw room e (inw room)) (λ r. R.one kr r e (inr r) 65536 false) (goal.one e inm) none s at
+      (N.elements (N.one e inm) n none at) at at 0 [] 0 s
+  pads-go e inw inr inm zero s at p w = elements-none (λ room. W.one kw room e (inw room)) (λ r. R.one kr r e (inr r) 65536 false) (N.one e inm) none s at
   pads-go e inw inr inm (suc n) s at p w =
-      elements-more (λ room. W.one kw room e (inw room)) (λ r. R.one kr r e (inr r) 65536 false) (goal.one e inm) n none [] [] 0 0 s s s at
+      elements-more (λ room. W.one kw room e (inw room)) (λ r. R.one kr r e (inr r) 65536 false) (N.one e inm) n none [] [] 0 0 s s s at
       (pad-goes kw kr pad_law e inw inr inm 65536 none false s at p (pad-alone e p) w)
-      (pads-go e inw inr inm n s (at + (goal.one e inm none at).taken) p w)
+      (pads-go e inw inr inm n s (at + (N.one e inm none at).taken) p w)
 
   -- a Pad, single or in a table
   pad-field : (e : Entry) (inw : ℕ → Writer) (inr : List ℕ → Reader State) (inm : Measure) (v : Values) (s : State) (at : ℕ)
       → is_pad e ≡ true → 1 ≤ e.width → present e.depending ≡ false → v ≡ none
-      → Goes (λ room. W.field kw room e (inw room) v at) (λ r room. R.field ◌+◌ kr r e (inr r) at room s) (goal.field e inm v at) at at
+      → Goes (λ room. W.field kw room e (inw room) v at) (λ r room. R.field ◌+◌ kr r e (inr r) at room s) (N.field e inm v at) at at
       (cond (unrepeated_leaf e) 1 0) [] 0 s
   pad-field e inw inr inm v s at p w d q = go (unrepeated e) refl
     where
-      once : unrepeated e ≡ true → Goes (λ room. W.field kw room e (inw room) v at) (λ r room. R.field ◌+◌ kr r e (inr r) at room s) (goal.field e inm v at) at at
+      once : unrepeated e ≡ true → Goes (λ room. W.field kw room e (inw room) v at) (λ r room. R.field ◌+◌ kr r e (inr r) at room s) (N.field e inm v at) at at
           (cond (unrepeated_leaf e) 1 0) [] 0 s
       once o = field-one kw kr e inw inr inm v v s s at 1 (cond (unrepeated_leaf e) 1 0) [] 0 o refl (rw (o, pad-alone e p) (omega arith))
           (pad-goes kw kr pad_law e inw inr inm e.name v true s at p (pad-alone e p) w)
@@ -111,15 +111,15 @@ module _ (kw kr : Codec State) (pad_law : PadLaw kw) (holds : (e : Entry) (s : S
       reads : (o : unrepeated e ≡ false) (r : List ℕ) (room : ℕ) → R.field ◌+◌ kr r e (inr r) at room s ≡ R.elements ◌+◌ (R.one kr r e (inr r) 65536 false) e.occurs at room s
       reads o r room = read_of kr r e (inr r) at room s o d p
 
-      measures : (o : unrepeated e ≡ false) → goal.field e inm v at ≡ goal.elements (goal.one e inm) e.occurs none at
+      measures : (o : unrepeated e ≡ false) → N.field e inm v at ≡ N.elements (N.one e inm) e.occurs none at
       measures o = extent-of e inm v at o p q
 
-      many : unrepeated e ≡ false → Goes (λ room. W.field kw room e (inw room) v at) (λ r room. R.field ◌+◌ kr r e (inr r) at room s) (goal.field e inm v at) at at
+      many : unrepeated e ≡ false → Goes (λ room. W.field kw room e (inw room) v at) (λ r room. R.field ◌+◌ kr r e (inr r) at room s) (N.field e inm v at) at at
           (cond (unrepeated_leaf e) 1 0) [] 0 s
       many o = along at at at 0 (cond (unrepeated_leaf e) 1 0) (writes o) (reads o) (measures o) (omega arith) (rw o (omega arith))
           (pads-go e inw inr inm e.occurs s at p w)
 
-      go : (b : Bool) → unrepeated e ≡ b → Goes (λ room. W.field kw room e (inw room) v at) (λ r room. R.field ◌+◌ kr r e (inr r) at room s) (goal.field e inm v at) at at
+      go : (b : Bool) → unrepeated e ≡ b → Goes (λ room. W.field kw room e (inw room) v at) (λ r room. R.field ◌+◌ kr r e (inr r) at room s) (N.field e inm v at) at at
           (cond (unrepeated_leaf e) 1 0) [] 0 s
       go true o = once o
       go false o = many o
@@ -132,14 +132,14 @@ module _ (kw kr : Codec State) (pad_law : PadLaw kw) (holds : (e : Entry) (s : S
     inr ms r b n c = R.seq ◌+◌ kr r ms b 0 n c
 
     abbrev inm : Tree Entry → Measure
-    inm ms vs b = goal.seq ms vs b 0
+    inm ms vs b = N.seq ms vs b 0
 
     abbrev Claim : Sort → Values → State → State → Type 0
     Claim (sequence t) vs s s' = (lo base shift : ℕ) (all : Values) → Plain lo t → Looks t all vs
-        → Goes (λ room. W.seq kw room t all base shift) (λ r room. R.seq ◌+◌ kr r t base shift room s) (goal.seq t all base shift) (base + (lo + shift)) base (least t) (flat vs) (count vs) s'
+        → Goes (λ room. W.seq kw room t all base shift) (λ r room. R.seq ◌+◌ kr r t base shift room s) (N.seq t all base shift) (base + (lo + shift)) base (least t) (flat vs) (count vs) s'
     Claim (elements e ms) vs s s' = (at : ℕ) → is_pad e ≡ false → Sound e ms → Plain 0 ms → unrepeated e ≡ false
         → Goes (λ room. W.elements (W.one kw room e (inw ms room)) (count vs) vs at) (λ r room. R.elements ◌+◌ (R.one kr r e (inr ms r) 65536 false) (count vs) at room s)
-        (goal.elements (goal.one e (inm ms)) (count vs) vs at) at at 0 (flat vs) (count vs) s'
+        (N.elements (N.one e (inm ms)) (count vs) vs at) at at 0 (flat vs) (count vs) s'
 
     pub trip : {o : Sort} {vs : Values} {s s' : State} → Fits masks source o vs s s' → Claim o vs s s'
     unfolding count
@@ -168,14 +168,14 @@ module _ (kw kr : Codec State) (pad_law : PadLaw kw) (holds : (e : Entry) (s : S
         (l.0 ∙ self-found (holder e.name 6 ns) e.name ns vs refl) (rw o (omega arith))
         (trip x (base + (e.offset + shift)) p q.2 q.3 o))
         (trip y _ _ _ all q.4 (looks-next rest e.name (holder e.name 6 ns) ns all vs refl q.1 l.1)))
-    trip (last {e} {ms} {s}) = λ at p o q c. elements-none (λ room. W.one kw room e (inw ms room)) (λ r. R.one kr r e (inr ms r) 65536 false) (goal.one e (inm ms)) none s at
+    trip (last {e} {ms} {s}) = λ at p o q c. elements-none (λ room. W.one kw room e (inw ms room)) (λ r. R.one kr r e (inr ms r) 65536 false) (N.one e (inm ms)) none s at
     trip (scalars {e} {ms} {it} {vs} {s} {s'} g n k x) = λ at p o q c.
-        counted (1 + count vs) (suc (count vs)) (omega arith) (elements-more (λ room. W.one kw room e (inw ms room)) (λ r. R.one kr r e (inr ms r) 65536 false) (goal.one e (inm ms)) (count vs) (node it none vs)
+        counted (1 + count vs) (suc (count vs)) (omega arith) (elements-more (λ room. W.one kw room e (inw ms room)) (λ r. R.one kr r e (inr ms r) 65536 false) (N.one e (inm ms)) (count vs) (node it none vs)
         (words_of it) (flat vs) 1 (count vs) s (after source e it s) s' at
         (scalar-goes kw kr e (inw ms) (inr ms) (inm ms) 65536 it vs false s (after source e it s) at n p g (o.wide g) (law e it s k))
         (trip x _ p o q c))
     trip (groups {e} {ms} {ns} {vs} {s} {s₁} {s'} g x y) = λ at p o q c.
-        counted (1 + count vs) (suc (count vs)) (omega arith) (elements-more (λ room. W.one kw room e (inw ms room)) (λ r. R.one kr r e (inr ms r) 65536 false) (goal.one e (inm ms)) (count vs) (node (holder 65536 7 ns) ns vs)
+        counted (1 + count vs) (suc (count vs)) (omega arith) (elements-more (λ room. W.one kw room e (inw ms room)) (λ r. R.one kr r e (inr ms r) 65536 false) (N.one e (inm ms)) (count vs) (node (holder 65536 7 ns) ns vs)
         (words_of (holder 65536 7 ns) ++ flat ns) (flat vs) 1 (count vs) s s₁ s' at
         (along at at at (least ms) 1 (λ room. refl) (λ r room. refl) refl (omega arith) (o.solid c g)
         (group-goes kw kr e (inw ms) (inr ms) (inm ms) 65536 ns vs false s s₁ (at + (0 + 0)) at (least ms) g (omega arith) (trip x 0 at 0 ns q (looks-self ms ns))))

@@ -7,7 +7,7 @@ use Rattle.spans.specs.Tree.{Tree, none, node, size}
 use Rattle.items.specs.declared.Item.{Item}
 use Rattle.items.specs.Items.{Values, item_count, header, scalar_in, text_of, values, count, scalar_ok, well_formed}
 use Rattle.fits.specs.Fits as Scalar
-use Rattle.walks.specs.Walk.{Many, times, how_many}
+use Rattle.walks.specs.Walk.{times, how_many}
 use Rattle.walks.specs.Kinds.{State, start, noted, said, held, mask_of}
 
 -- the state behind a fitting item: a text stands behind the texts so far, and a number may set a count

@@ -16,19 +16,15 @@ use Rattle.zoned.specs.Zoned as Zoned
 use Rattle.edited.specs.Edited as Edited
 use Rattle.binary.specs.Binary.{integer_of}
 use Rattle.binary.specs.Bytes.{word_in}
-use Rattle.binary.specs.Bytes as Bytes
 use Rattle.float.specs.Convert.{decimal_for}
-use Rattle.hex_field.specs.Hex as Hex
 use Rattle.text.specs.Text as Text
 use Rattle.decode_scalar.specs.Decode.{says, embedded_of}
 use Rattle.encode_scalar.specs.Encode.{number_judged, number_bytes, judged_of, bytes_of}
-use Rattle.fits.specs.Decide as Scalar
 use Rattle.walks.specs.Walk.{how_many}
 use Rattle.walks.specs.Kinds.{look, enc, dec}
 use Rattle.walks.specs.Reading as R
 use Rattle.walks.specs.Writing as W
 use Rattle.walks.specs.Records.{decode_record, number_of, supplied, writer_asks, encode_record, refusal_of}
-use Rattle.walks.specs.Plain.{plain}
 use Rattle.walks.specs.Worked.{entry, once}
 
 -- ---- the reader's refusals, in the order of the questions; then two at once

@@ -12,13 +12,10 @@ use Rattle.value.specs.Scalar.{scalar_of}
 use Rattle.ebcdic.specs.Ebcdic.{from_page, onto_page}
 use Rattle.display.specs.Display as Display
 use Rattle.packed.specs.Packed as Packed
-use Rattle.zoned.specs.Zoned as Zoned
 use Rattle.edited.specs.Edited as Edited
-use Rattle.binary.specs.Bytes as Bytes
 use Rattle.float.specs.Single.{narrow}
 use Rattle.float.specs.Field.{exact_in}
 use Rattle.float.specs.Convert.{decimal_for}
-use Rattle.hex_field.specs.Hex as Hex
 use Rattle.text.specs.Text as Text
 use Rattle.decode_scalar.specs.Decode.{says}
 use Rattle.encode_scalar.specs.Encode.{number_judged, number_bytes, judged_of, bytes_of}

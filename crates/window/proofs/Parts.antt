@@ -1,5 +1,5 @@
 -- What the calls leave, from what their parts leave: each law takes the facts of one way out of a function and makes the record that its contract cites.
-use Rattle.std.proofs.Common.{◌≡◌, ℕ, ◌+◌, ◌-◌, ◌/◌, ◌<◌, ◌≤◌, true, false, cond, eqb, List, ◌++◌, length, get_or, take, drop, set, replicate, ℤ, pos, sym, ap, ◌∙◌, subst, ap₂, arith, length-append, length-take, eq-eqb, ne_eqb}
+use Rattle.std.proofs.Common.{◌≡◌, ℕ, ◌-◌, ◌/◌, ◌<◌, ◌≤◌, true, false, List, ◌++◌, length, get_or, take, drop, set, replicate, ℤ, pos, sym, ap, ◌∙◌, subst, ap₂, arith, length-append, length-take, eq-eqb, ne_eqb}
 use lib.ListN.{length-replicate}
 use Rattle.layout.specs.Layout.{entries}
 use Rattle.items.specs.Items.{item_words, values, head_of}
@@ -8,7 +8,7 @@ use Rattle.walks.specs.Records as Records
 use Rattle.window.specs.Window.{Pair, pair, firsts, seconds, whole_of, sum_of, held_in, display_in, window_words, small_pair, lawful_in, started, accepted, rule_in, contributed_pair}
 use Rattle.window.specs.Pair.{scale_at, items_before, values_from, pair_in}
 use Rattle.window.specs.Steps.{pushed}
-use Rattle.window.specs.Calls.{before_asks, Added, refused, added, judged, pair_given, add_record, added_to, number_of, window_after, sum_after, WindowWritten, WindowAdded}
+use Rattle.window.specs.Calls.{before_asks, Added, refused, judged, pair_given, add_record, added_to, number_of, window_after, sum_after, WindowWritten, WindowAdded}
 use Rattle.window.specs.Parts.{PairRead, PairTaken}
 use Rattle.window.proofs.Laws.{pushed-accepted}
 use Rattle.window.proofs.Steps.{start-put}

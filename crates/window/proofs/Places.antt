@@ -1,5 +1,5 @@
 -- The two entries and their items: the walk over the top-level entries, and over the top-level items, one turn at a time.
-use Rattle.std.proofs.Common.{◌≡◌, ℕ, zero, suc, ◌+◌, ◌-◌, ◌*◌, ◌<◌, ◌≤◌, Bool, true, false, cond, not, ◌&&◌, eqb, leb, List, ◌++◌, replicate, sym, refl, ap, ◌∙◌, subst, ap₂, arith, eq-eqb, ne_eqb, le-leb}
+use Rattle.std.proofs.Common.{◌≡◌, ℕ, suc, ◌+◌, ◌-◌, ◌*◌, ◌<◌, ◌≤◌, Bool, true, false, cond, not, ◌&&◌, eqb, leb, List, ◌++◌, replicate, sym, refl, ap, ◌∙◌, subst, ap₂, arith, eq-eqb, ne_eqb, le-leb}
 use native.Mathlib.Decide.{dec_le}
 use borrow.Author.Tests.{lt-leb}
 use Rattle.lists.proofs.Lists.{zeros-behind}

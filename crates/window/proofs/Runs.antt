@@ -1,12 +1,12 @@
 -- Windows after runs: from pairs laid into a fresh window under a rule, a record and a changeover make such a one again, so the run is an induction over its events.
-use Rattle.std.proofs.Common.{◌≡◌, ℕ, zero, suc, ◌+◌, ◌-◌, ◌*◌, ◌≤◌, Bool, true, false, cond, ◌&&◌, eqb, leb, List, [], ◌∷◌, ◌++◌, map, length, get_or, drop, replicate, sym, refl, ap, ◌∙◌, subst, ap₂, append_assoc, append-nil, arith, length-append, length-drop, get_or-set_other, drop-drop, eq-eqb, eqb-true, le-leb}
+use Rattle.std.proofs.Common.{◌≡◌, ℕ, zero, suc, ◌+◌, ◌-◌, ◌*◌, ◌≤◌, Bool, true, false, cond, ◌&&◌, eqb, List, [], ◌∷◌, ◌++◌, map, length, get_or, drop, replicate, sym, refl, ap, ◌∙◌, subst, ap₂, append_assoc, append-nil, arith, length-append, length-drop, get_or-set_other, drop-drop, eq-eqb, eqb-true, le-leb}
 use native.Mathlib.Decide.{dec_le}
 use lib.ListN.{length-replicate}
 use lib.Seq.{drop-append-le, drop-append-add}
 use Rattle.lists.proofs.Logic.{and, and_left, and_right}
 use Rattle.walks.specs.Records.{first_of, decode_record, items_of}
 use Rattle.walks.specs.Records as Records
-use Rattle.window.specs.Window.{Pair, pair, firsts, seconds, flat, last_of, sum_in, sum_of, window_words, held_in, display_in, laid, small_pair, all_small, words_ok, lawful_in, started, changed, accepted}
+use Rattle.window.specs.Window.{Pair, firsts, seconds, flat, last_of, sum_in, sum_of, window_words, held_in, display_in, laid, small_pair, all_small, words_ok, lawful_in, started, changed, accepted}
 use Rattle.window.specs.Window.{Rule, cutting, half_even, rule_in, contributed_pair}
 use Rattle.window.specs.Pair.{scale_at, pair_in}
 use Rattle.window.specs.Calls.{window_asks, before_asks, Added, refused, added, add_record, window_after, sum_after}
@@ -322,7 +322,7 @@ runs-kept l masks page w first second display work lent es passed =
 -- ---- without a display scale
 
 pub without-display : WithoutDisplay
-without-display l masks page w first second [] m rule = refl
+without-display l masks page w first second [] m _ = refl
 without-display l masks page w first second (e ∷ es) m rule =
     ap₂ (λ ps qs. ps ++ qs) (map-itself (brings l masks page w first second e m))
     (without-display l masks page w first second es (behind l masks page w first second e m) (rule_behind l masks page w first second e m rule))

@@ -1,5 +1,5 @@
 -- What the code does, one store and one turn at a time: each law says what is left to show where a branch ends.
-use Rattle.std.proofs.Common.{◌≡◌, ℕ, zero, suc, ◌+◌, ◌-◌, ◌*◌, ◌%◌, ◌^◌, ◌<◌, ◌≤◌, true, false, cond, eqb, ltb, leb, List, [], ◌∷◌, ◌++◌, length, get_or, take, drop, set, replicate, sym, refl, ap, ◌∙◌, add-one, arith, length-drop, get_or-drop, drop-drop, get_or-append-add, le-ltb, lt-ltb, eq-eqb, ne_eqb, le-leb}
+use Rattle.std.proofs.Common.{◌≡◌, ℕ, zero, suc, ◌+◌, ◌-◌, ◌*◌, ◌%◌, ◌^◌, ◌<◌, ◌≤◌, true, false, eqb, List, [], ◌∷◌, ◌++◌, length, get_or, take, drop, set, replicate, sym, refl, ap, ◌∙◌, add-one, arith, length-drop, get_or-drop, drop-drop, get_or-append-add, le-ltb, lt-ltb, eq-eqb, ne_eqb, le-leb}
 use lib.Seq.{paste, paste-suc, length_paste_head}
 use borrow.Author.Tests.{lt-leb}
 use Rattle.window.specs.Window.{pair, firsts, seconds, pairs_of, total, sum_in, window_words, held_in, display_in, small, all_small, words_ok, lawful_in, started, changed}

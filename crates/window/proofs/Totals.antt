@@ -1,5 +1,5 @@
 -- Sums of words are sums of whole numbers: a word is the difference of what it adds and what it takes away, and such differences add up.
-use Rattle.std.proofs.Common.{◌≡◌, ℕ, zero, suc, ◌+◌, ◌-◌, ◌*◌, ◌%◌, ◌^◌, ◌<◌, ◌≤◌, Bool, true, false, cond, eqb, ltb, leb, List, [], ◌∷◌, length, get_or, drop, ℤ, pos, negsuc, ◌+ℤ◌, neg_ℤ, sym, refl, ap, ◌∙◌, ap₂, arith, w64, to_z, of_z, ltb-true, le-ltb, lt-ltb, eq-eqb, eqb-true, le-leb}
+use Rattle.std.proofs.Common.{◌≡◌, ℕ, zero, suc, ◌+◌, ◌-◌, ◌*◌, ◌%◌, ◌^◌, ◌<◌, ◌≤◌, Bool, true, false, cond, eqb, ltb, List, [], ◌∷◌, length, get_or, drop, ℤ, pos, negsuc, ◌+ℤ◌, neg_ℤ, sym, refl, ap, ◌∙◌, ap₂, arith, w64, to_z, of_z, ltb-true, le-ltb, lt-ltb, eq-eqb, eqb-true, le-leb}
 use native.Mathlib.Decide.{dec_le, dec_lt}
 use lib.IntN.{sub_ℕ, +ℤ_assoc, +ℤ_comm, neg_ℤ-+ℤ}
 use borrow.Author.Tests.{lt-leb}

@@ -33,7 +33,7 @@ fn items_for(e: Entry) -> usize
 }
 
 // Where the entry of a number stands: whether at the top level, and how many items of the top level stand before its own.
-#[derive(Drop)]
+#[derive(Clone, Copy)]
 pub struct Place {
     pub top: bool,
     pub before: usize,
@@ -327,7 +327,7 @@ fn int_of(x: u64) -> i64
 }
 
 // The number of the question answered no, or 0 and both sums.
-#[derive(Drop)]
+#[derive(Clone, Copy)]
 pub struct Sums {
     pub number: u32,
     pub first: i64,
@@ -383,7 +383,7 @@ fn word_at(items: &[u64], k: usize, to: usize) -> u64
 }
 
 // The number by which the reader refuses a record, or 0; and the words of its pair.
-#[derive(Drop)]
+#[derive(Clone, Copy)]
 pub struct Read {
     pub number: u32,
     pub first: u64,

@@ -1,13 +1,8 @@
-use mathlib.Core.Path.{◌≡◌, refl, ap, ◌∙◌}
-use mathlib.Core.List.{List}
-use Prim.Native.Nat.{ℕ, ◌-◌, ◌≤◌}
-use native.Mathlib.Omega.{arith}
+use mathlib.Core.Path.{◌≡◌}
+use Prim.Native.Nat.{◌-◌, ◌≤◌}
 use lib.ListN.{length, take}
-use borrow.Author.Rules.{rules}
 use Prim.Native.Nat.{◌%◌, ◌^◌}
 use Rattle.binary.specs.Bytes.{big_from}
-use Rattle.binary.proofs.Words.{big-go}
-use lib.Seq.{take_all}
 use Rattle.binary.proofs.big_word.Given as goal
 
 abbrev pub invariant-loop-i : goal.invariant-loop-i

@@ -1,10 +1,8 @@
 use mathlib.Core.Path.{◌≡◌, refl, sym, ap, ◌∙◌}
 use mathlib.Core.Bool.{true, false}
-use Prim.Native.Nat.{◌-◌}
-use lib.ListN.{length, take}
+use lib.ListN.{length}
 use Rattle.binary.specs.Bytes.{bytes_of}
 use Rattle.binary.specs.Binary.{width_ok, integer_bytes}
-use borrow.Author.Rules.{rules}
 use Rattle.binary.proofs.encode_binary_int.Goals as goal
 
 pub returns-then-width_ok : goal.returns-then-width_ok

@@ -1,8 +1,6 @@
 use mathlib.Core.Path.{refl, sym, ap}
-use Prim.Native.Nat.{◌-◌}
 use native.Mathlib.Omega.{arith}
 use borrow.Author.Tests.{le-leb, lt-leb}
-use lib.Dec.{leb}
 use Rattle.lists.proofs.Keys.{past}
 use Rattle.binary.specs.Binary.{half_of}
 use Rattle.binary.proofs.half_of.Goals as goal

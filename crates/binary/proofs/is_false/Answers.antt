@@ -1,8 +1,4 @@
-use mathlib.Core.Bool.{false}
-use Prim.Native.Nat.{◌-◌}
 use borrow.Author.Tests.{eq-eqb, ne_eqb}
-use lib.Dec.{eqb}
-use lib.ListN.{take}
 use Rattle.binary.proofs.is_false.Goals as goal
 
 pub returns-then-b-eq0 : goal.returns-then-b-eq0

@@ -1,13 +1,8 @@
-use mathlib.Core.Path.{◌≡◌, sym, ap, ◌∙◌}
-use mathlib.Core.List.{List}
-use Prim.Native.Nat.{ℕ, ◌-◌, ◌≤◌}
-use native.Mathlib.Omega.{arith}
-use lib.ListN.{length, take, drop}
-use borrow.Author.Rules.{rules}
+use mathlib.Core.Path.{◌≡◌}
+use Prim.Native.Nat.{◌≤◌}
+use lib.ListN.{length, drop}
 use Prim.Native.Nat.{◌%◌, ◌^◌}
 use Rattle.binary.specs.Bytes.{little_of}
-use Rattle.binary.proofs.Words.{little-go}
-use lib.Seq.{drop-length}
 use Rattle.binary.proofs.little_word.Given as goal
 
 abbrev pub invariant-loop-i : goal.invariant-loop-i

@@ -1,10 +1,7 @@
 use mathlib.Core.Path.{sym, ◌∙◌}
-use Prim.Native.Nat.{◌-◌}
 use native.Mathlib.Omega.{arith}
-use lib.ListN.{take}
 use Rattle.value.specs.Number.{read_as}
 use Rattle.binary.proofs.Integers.{word_small, read-signed, read_plain, read-big, read-bad}
-use borrow.Author.Rules.{rules}
 use Rattle.binary.proofs.parse_binary_int.Goals as goal
 
 pub signed_word-requires : goal.signed_word-requires

@@ -1,10 +1,5 @@
-use mathlib.Core.Path.{◌≡◌, refl, sym, ap, ◌∙◌}
-use mathlib.Core.Bool.{false}
-use Prim.Native.Nat.{◌-◌, ◌≤◌}
+use mathlib.Core.Path.{refl, sym, ap, ◌∙◌}
 use native.Mathlib.Omega.{arith}
-use lib.ListN.{length, take, drop}
-use borrow.Author.Rules.{rules}
-use Rattle.lists.specs.Scan.{every_by}
 use Rattle.lists.proofs.Scan.{every-go, every-stop, every-end}
 use Rattle.binary.specs.Binary.{is_false, bool_of}
 use mathlib.Core.Bool.{not}

@@ -1,13 +1,8 @@
-use mathlib.Core.Path.{◌≡◌, refl, sym, ap, ◌∙◌}
-use mathlib.Core.Bool.{false}
+use mathlib.Core.Path.{◌≡◌}
 use Prim.Native.Nat.{◌-◌, ◌≤◌}
-use native.Mathlib.Omega.{arith}
-use lib.ListN.{length, take, drop}
-use borrow.Author.Rules.{rules}
+use lib.ListN.{length, drop}
 use Rattle.lists.specs.Scan.{every_by}
-use Rattle.lists.proofs.Scan.{every-go, every-stop, every-end}
-use Rattle.binary.specs.Binary.{is_false, bool_of}
-use mathlib.Core.Bool.{not}
+use Rattle.binary.specs.Binary.{is_false}
 use Rattle.binary.proofs.parse_bool.Given as goal
 
 abbrev pub invariant-loop-i : goal.invariant-loop-i

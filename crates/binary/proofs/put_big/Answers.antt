@@ -1,10 +1,9 @@
 use mathlib.Core.Path.{◌≡◌, refl, sym, ap, ◌∙◌}
-use Prim.Native.Nat.{ℕ, zero, ◌-◌, ◌≤◌}
+use Prim.Native.Nat.{ℕ, ◌-◌}
 use native.Mathlib.Omega.{arith}
-use lib.ListN.{length, take, drop, set, length-set}
-use borrow.Author.Rules.{rules}
+use lib.ListN.{length, drop, length-set}
 use Rattle.binary.specs.Bytes.{big_bytes}
-use Rattle.binary.proofs.Words.{Put, put-none, put-more}
+use Rattle.binary.proofs.Words.{put-none, put-more}
 use native.Mathlib.Nat.{sub-zero}
 use Rattle.binary.proofs.put_big.Goals as goal
 

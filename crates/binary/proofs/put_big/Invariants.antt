@@ -1,11 +1,7 @@
-use mathlib.Core.Path.{◌≡◌, refl, sym, ap, ◌∙◌}
-use Prim.Native.Nat.{ℕ, zero, ◌-◌, ◌≤◌}
-use native.Mathlib.Omega.{arith}
-use lib.ListN.{length, take, drop, set, length-set}
-use borrow.Author.Rules.{rules}
-use Rattle.binary.specs.Bytes.{big_bytes}
-use Rattle.binary.proofs.Words.{Put, put-none, put-more}
-use native.Mathlib.Nat.{sub-zero}
+use mathlib.Core.Path.{◌≡◌}
+use Prim.Native.Nat.{◌≤◌}
+use lib.ListN.{length}
+use Rattle.binary.proofs.Words.{Put}
 use Rattle.binary.proofs.put_big.Given as goal
 
 abbrev pub invariant-loop-i : goal.invariant-loop-i

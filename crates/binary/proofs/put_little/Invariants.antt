@@ -1,13 +1,8 @@
-use mathlib.Core.Path.{◌≡◌, refl, sym, ap, ◌∙◌}
-use mathlib.Core.List.{◌++◌, append-nil}
-use Prim.Native.Nat.{ℕ, zero, ◌+◌, ◌-◌, ◌≤◌}
-use native.Mathlib.Omega.{arith}
-use lib.ListN.{length, take, set, length-set}
-use borrow.Author.Rules.{rules}
+use mathlib.Core.Path.{◌≡◌}
+use mathlib.Core.List.{◌++◌}
+use Prim.Native.Nat.{◌-◌, ◌≤◌}
+use lib.ListN.{length, take}
 use Rattle.binary.specs.Bytes.{little_bytes}
-use Rattle.binary.proofs.Words.{little-more}
-use native.Mathlib.Nat.{sub-zero}
-use lib.Seq.{take_all}
 use Rattle.binary.proofs.put_little.Given as goal
 
 abbrev pub invariant-loop-i : goal.invariant-loop-i

@@ -1,9 +1,5 @@
-use Prim.Native.Nat.{◌-◌}
 use borrow.Author.Tests.{eq-eqb, ne_eqb}
-use lib.Dec.{eqb}
-use lib.ListN.{length, take}
 use Rattle.binary.specs.Bytes.{bytes_of}
-use borrow.Author.Rules.{rules}
 use Rattle.binary.proofs.put_word.Goals as goal
 
 pub returns-then-order-eq0 : goal.returns-then-order-eq0

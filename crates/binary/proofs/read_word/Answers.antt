@@ -1,9 +1,5 @@
-use Prim.Native.Nat.{◌-◌}
 use borrow.Author.Tests.{eq-eqb, ne_eqb}
-use lib.Dec.{eqb}
-use lib.ListN.{take}
 use Rattle.binary.specs.Bytes.{word_in}
-use borrow.Author.Rules.{rules}
 use Rattle.binary.proofs.read_word.Goals as goal
 
 pub returns-then-order-eq0 : goal.returns-then-order-eq0

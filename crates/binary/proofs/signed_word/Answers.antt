@@ -2,11 +2,9 @@ use mathlib.Core.Path.{ap, ◌∙◌}
 use mathlib.Core.Bool.{true}
 use Prim.Native.Nat.{◌-◌}
 use native.Mathlib.Omega.{arith}
-use lib.ListN.{take}
 use Rattle.value.specs.Answer.{given}
 use Rattle.value.specs.Number.{number}
 use Rattle.binary.proofs.Integers.{width_low, width-high, half_twice, half-known, below_half, from-half}
-use borrow.Author.Rules.{rules}
 use Rattle.binary.proofs.signed_word.Goals as goal
 
 pub returns-then-v-half : goal.returns-then-v-half

@@ -1,9 +1,6 @@
 use mathlib.Core.Path.{◌≡◌}
-use Prim.Native.Nat.{◌-◌}
 use native.Mathlib.Omega.{arith}
 use borrow.Author.Tests.{le-leb}
-use lib.Dec.{leb}
-use lib.ListN.{take}
 use Rattle.binary.proofs.width_ok.Goals as goal
 
 pub returns-then-width-eq0 : goal.returns-then-width-eq0

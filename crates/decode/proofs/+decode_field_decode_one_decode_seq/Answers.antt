@@ -5,32 +5,21 @@
 -- The bytes left and the elements left fall together: an element of a group may lie past the record's end by gaps alone, so that the bytes left stand still at 0.
 -- One group: the item of a Struct around the sequence of its members, which is read behind the item's words.
 -- The entries of a sequence. The loop's invariant: what the whole comes to is what the entries that are left come to, behind those read. The entries left fall.
-use Prim.Native.Nat.{ℕ, ◌<◌}
-use Prim.Native.Nat.{◌+◌, ◌-◌, ◌*◌}
 use lib.ListN.{length}
-use Prim.Native.Nat.{ℕ}
 use mathlib.Core.Path.{◌∙◌}
-use mathlib.Core.Bool.{cond}
-use Prim.Native.Nat.{◌-◌, ◌+◌, ◌≤◌}
 use native.Mathlib.Omega.{arith}
-use borrow.Author.Rules.{rules}
-use lib.ListN.{length, take}
-use Rattle.layout.specs.Layout.{part}
-use Rattle.walks.specs.Reading.{one, seq}
-use Rattle.positions.specs.Positions.{sat_sum}
-use Rattle.decode_leaf.specs.Machine.{kept}
+use lib.ListN.{length}
 use Rattle.decode_leaf.proofs.Meets.{refuse, same-as}
 use Rattle.decode.proofs.Steps.{field-never, field-small}
-use Rattle.decode.proofs.Turns.{TurnsInv, turns-starts, turns-stop, turns-nothing, turns_go, returned-same, returned-written}
+use Rattle.decode.proofs.Turns.{turns-starts, turns-stop, turns-nothing, turns_go, returned-same, returned-written}
 use Rattle.decode.proofs.Around.{listed-met, head-group, counted_is, entry-is, entry-refused, one-group, not-lone, scalars-table}
 use mathlib.Core.Path.{◌∙◌, refl}
-use Prim.Native.Nat.{◌-◌}
 use Rattle.decode_leaf.proofs.Meets.{refuse}
 use Rattle.decode.proofs.Steps.{inside-small}
 use Rattle.decode.proofs.Around.{header-same, used-fits, inside-stops, inside-done}
 use mathlib.Core.Path.{◌∙◌, sym}
 use Rattle.decode.proofs.Steps.{left_behind, fewer}
-use Rattle.decode.proofs.Turns.{returned-same, returned-written, SeqInv, seq-starts, seq_stops, seq-goes, seq-passes, seq-done}
+use Rattle.decode.proofs.Turns.{returned-same, returned-written, seq-starts, seq_stops, seq-goes, seq-passes, seq-done}
 use Rattle.decode.proofs.Around.{field-lone, lone_is, lone-kind}
 use Rattle.decode.proofs.+decode_field_decode_one_decode_seq.Goals as goal
 

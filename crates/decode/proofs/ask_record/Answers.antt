@@ -1,8 +1,5 @@
 -- `decode::ask_record` meets its contract: each way out by the law of that name.
-use Prim.Native.Nat.{◌-◌}
-use lib.ListN.{length, take}
 use Rattle.decode.proofs.Asks.{asks-long, asks-depends, asks-short, asks-all}
-use borrow.Author.Rules.{rules}
 use Rattle.decode.proofs.ask_record.Goals as goal
 
 pub returns-then-bytes-gt-MAX_RECORD : goal.returns-then-bytes-gt-MAX_RECORD

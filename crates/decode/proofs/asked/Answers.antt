@@ -1,8 +1,5 @@
 -- `decode::asked` meets its contract: the questions on the layout, then the one on the record.
-use Prim.Native.Nat.{◌-◌}
-use lib.ListN.{take}
 use Rattle.decode.proofs.Asks.{asked-layout, asked-record}
-use borrow.Author.Rules.{rules}
 use Rattle.decode.proofs.asked.Goals as goal
 
 pub returns-then-number-ne0 : goal.returns-then-number-ne0

@@ -1,11 +1,9 @@
 -- The questions first; then the counts are started, the entries are read, and what was not read is cleared, after a refusal all of it.
 use mathlib.Core.Path.{refl, ap, ◌∙◌}
-use Prim.Native.Nat.{◌-◌}
 use native.Mathlib.Omega.{arith}
-use lib.ListN.{length, take, replicate}
+use lib.ListN.{length, replicate}
 use lib.IntN.{pos}
 use Rattle.decode.proofs.Public.{not-long, Whole, not-asked, walk_refused, walk-read, refused_all, read_all}
-use borrow.Author.Rules.{rules}
 use Rattle.decode.proofs.decode_record.Goals as goal
 
 pub returns-then-number-ne0 : goal.returns-then-number-ne0

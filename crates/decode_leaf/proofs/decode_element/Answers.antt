@@ -1,17 +1,13 @@
 use mathlib.Core.Path.{refl}
 use mathlib.Core.Bool.{false}
 use mathlib.Core.List.{[]}
-use Prim.Native.Nat.{◌-◌}
-use lib.ListN.{length, take}
+use lib.ListN.{length}
 use Rattle.decode_leaf.proofs.Scalars.{text-outside, text-pad, text-scalar}
 use mathlib.Core.Path.{refl}
 use mathlib.Core.Bool.{false}
 use mathlib.Core.List.{[]}
-use Prim.Native.Nat.{◌-◌}
-use lib.ListN.{length, take}
+use lib.ListN.{length}
 use Rattle.decode_leaf.proofs.Scalars.{leaf-outside, leaf-inside, leaf-pad, leaf-scalar}
-use borrow.Author.Rules.{rules}
-use borrow.Author.Rules.{rules}
 use mathlib.Core.Path.{ap}
 use mathlib.Core.Bool.{not}
 use Rattle.decode_leaf.proofs.decode_element.Goals as goal

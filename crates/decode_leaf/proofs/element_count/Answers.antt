@@ -1,8 +1,5 @@
 use mathlib.Core.Path.{sym, ◌∙◌}
-use Prim.Native.Nat.{◌-◌}
-use lib.ListN.{take}
 use Rattle.decode_leaf.proofs.Leaves.{counted-once, counted-table}
-use borrow.Author.Rules.{rules}
 use Rattle.decode_leaf.proofs.element_count.Goals as goal
 
 pub returns-then-unrepeated : goal.returns-then-unrepeated

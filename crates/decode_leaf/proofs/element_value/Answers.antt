@@ -2,11 +2,9 @@
 use mathlib.Core.Path.{refl}
 use mathlib.Core.Bool.{false}
 use mathlib.Core.List.{[]}
-use Prim.Native.Nat.{◌-◌}
 use native.Mathlib.Omega.{arith}
 use lib.ListN.{length}
 use Rattle.decode_leaf.proofs.Scalars.{value-refuses, value_read, value-reads, note-none}
-use borrow.Author.Rules.{rules}
 use Rattle.decode_leaf.proofs.element_value.Goals as goal
 
 pub place_element-requires : goal.place_element-requires

@@ -1,9 +1,7 @@
-use mathlib.Core.Path.{◌≡◌, sym, ◌∙◌}
-use Prim.Native.Nat.{◌-◌, ◌≤◌}
+use mathlib.Core.Path.{sym, ◌∙◌}
 use native.Mathlib.Omega.{arith}
-use lib.ListN.{length, take}
+use lib.ListN.{length}
 use Prim.Native.Nat.{◌/◌}
-use Rattle.decode_leaf.specs.Counts.{first, first_in}
 use Rattle.decode_leaf.proofs.Runs.{first-starts, first-hit, first_next, first-end}
 use Rattle.decode_leaf.proofs.first_of.Goals as goal
 

@@ -1,10 +1,6 @@
-use mathlib.Core.Path.{◌≡◌, sym, ◌∙◌}
+use mathlib.Core.Path.{◌≡◌}
 use Prim.Native.Nat.{◌-◌, ◌≤◌}
-use native.Mathlib.Omega.{arith}
-use lib.ListN.{length, take}
-use Prim.Native.Nat.{◌/◌}
 use Rattle.decode_leaf.specs.Counts.{first, first_in}
-use Rattle.decode_leaf.proofs.Runs.{first-starts, first-hit, first_next, first-end}
 use Rattle.decode_leaf.proofs.first_of.Given as goal
 
 abbrev pub invariant-loop-i : goal.invariant-loop-i

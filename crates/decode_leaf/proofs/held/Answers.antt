@@ -1,8 +1,5 @@
 -- By the first of the two words: no count yet, a negative number, or the second word.
-use Prim.Native.Nat.{◌-◌}
-use lib.ListN.{take}
 use Rattle.decode_leaf.proofs.Runs.{held_none, held-minus, held-count}
-use borrow.Author.Rules.{rules}
 use Rattle.decode_leaf.proofs.held.Goals as goal
 
 pub returns-then-s-eq0 : goal.returns-then-s-eq0

@@ -1,8 +1,5 @@
 -- By occurs where there is no controller, else by what it holds, unless that is above occurs.
-use Prim.Native.Nat.{◌-◌}
-use lib.ListN.{take}
 use Rattle.decode_leaf.proofs.Runs.{many-occurs, many-refused, many-free, many-within, many-above}
-use borrow.Author.Rules.{rules}
 use Rattle.decode_leaf.proofs.how_many.Goals as goal
 
 pub returns-then-e-eq-ABSENT : goal.returns-then-e-eq-ABSENT

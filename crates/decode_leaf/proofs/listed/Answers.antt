@@ -1,8 +1,5 @@
-use Prim.Native.Nat.{◌-◌}
 use native.Mathlib.Omega.{arith}
-use lib.ListN.{length, take}
 use Rattle.decode_leaf.proofs.Leaves.{has-head, listed-pads, listed-items}
-use borrow.Author.Rules.{rules}
 use Rattle.decode_leaf.proofs.listed.Goals as goal
 
 pub returns-then-head-eq0 : goal.returns-then-head-eq0

@@ -2,11 +2,9 @@
 use borrow.Author.Tests.{eq-eqb, ne_eqb}
 use mathlib.Core.Path.{refl, ◌∙◌}
 use mathlib.Core.Bool.{true}
-use Prim.Native.Nat.{◌-◌}
 use native.Mathlib.Omega.{arith}
 use lib.ListN.{length}
 use Rattle.decode_leaf.proofs.Scalars.{value-refuses, value_read, value-reads}
-use borrow.Author.Rules.{rules}
 use Rattle.decode_leaf.proofs.lone_value.Goals as goal
 
 pub place_lone-requires : goal.place_lone-requires

@@ -1,5 +1,3 @@
-use Prim.Native.Nat.{◌-◌}
-use lib.ListN.{take}
 use Rattle.decode_leaf.proofs.Runs.{nat-cast, nat-neg, nat-pos}
 use Rattle.decode_leaf.proofs.natural.Goals as goal
 

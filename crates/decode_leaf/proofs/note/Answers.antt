@@ -1,10 +1,7 @@
 -- `decode_leaf::note` meets its contract: a law of Runs for each way out. A number sets the count of its entry's name, by its sign and size alone.
 use mathlib.Core.Path.{sym, ap, ◌∙◌}
-use Prim.Native.Nat.{◌-◌}
-use lib.ListN.{length, take, set}
 use Rattle.walks.specs.Kinds.{count_in}
 use Rattle.decode_leaf.proofs.Runs.{note-off, note-not, note-number, note-other}
-use borrow.Author.Rules.{rules}
 use borrow.Enum.Refused.{opened}
 use mathlib.Core.Bool.{not}
 use Rattle.decode_leaf.proofs.note.Goals as goal

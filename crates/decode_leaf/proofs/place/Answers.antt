@@ -1,13 +1,9 @@
 use mathlib.Core.Path.{ap, ◌∙◌}
-use Prim.Native.Nat.{◌-◌}
 use native.Mathlib.Omega.{arith}
-use native.Mathlib.Numerals.{add-one}
-use lib.ListN.{length, take}
 use Rattle.items.specs.Items.{item_of}
 use Rattle.decode_leaf.specs.Machine.{moved_in}
 use Rattle.decode_leaf.proofs.Meets.{place-full, place-item}
 use Rattle.decode_leaf.proofs.Leaves.{text-moved, other-moved}
-use borrow.Author.Rules.{rules}
 use borrow.Enum.Refused.{opened}
 use Rattle.decode_leaf.proofs.place.Goals as goal
 

@@ -1,9 +1,7 @@
 -- An element of no width is refused; any other is placed as a single scalar is.
-use Prim.Native.Nat.{◌-◌}
-use lib.ListN.{length, take}
+use lib.ListN.{length}
 use Rattle.decode_leaf.specs.Machine.{moved_in}
 use Rattle.decode_leaf.proofs.Meets.{place-empty, place-some}
-use borrow.Author.Rules.{rules}
 use Rattle.decode_leaf.proofs.place_element.Goals as goal
 
 pub returns-then-e-eq0 : goal.returns-then-e-eq0

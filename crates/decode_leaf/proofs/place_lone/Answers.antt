@@ -1,9 +1,6 @@
 -- The item is placed; only then is the count set.
 use borrow.Author.Tests.{eq-eqb, ne_eqb}
 use mathlib.Core.Path.{refl}
-use Prim.Native.Nat.{◌-◌}
-use lib.ListN.{length, take}
-use borrow.Author.Rules.{rules}
 use Rattle.decode_leaf.proofs.place_lone.Goals as goal
 
 pub returns-then-o-ne0 : goal.returns-then-o-ne0

@@ -1,7 +1,4 @@
-use Prim.Native.Nat.{◌-◌}
-use lib.ListN.{length, set}
 use Rattle.decode_leaf.proofs.Runs.{put_is, set_past}
-use borrow.Author.Rules.{rules}
 use Rattle.decode_leaf.proofs.put_word.Goals as goal
 
 pub returns-then-at-counts : goal.returns-then-at-counts

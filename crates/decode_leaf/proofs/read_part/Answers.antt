@@ -1,7 +1,4 @@
-use Prim.Native.Nat.{◌-◌}
-use lib.ListN.{length}
 use Rattle.decode_leaf.proofs.Leaves.{read_answer, read-text}
-use borrow.Author.Rules.{rules}
 use Rattle.decode_leaf.proofs.read_part.Goals as goal
 
 pub returns : goal.returns

@@ -1,8 +1,5 @@
-use Prim.Native.Nat.{◌-◌}
 use native.Mathlib.Omega.{arith}
-use lib.ListN.{length, set}
 use Rattle.decode_leaf.proofs.Runs.{set_is, status-small}
-use borrow.Author.Rules.{rules}
 use Rattle.decode_leaf.proofs.set_count.Goals as goal
 
 pub put_word-requires : goal.put_word-requires

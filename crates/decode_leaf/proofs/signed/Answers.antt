@@ -1,7 +1,5 @@
-use Prim.Native.Nat.{◌-◌}
 use mir.Syntax.{w64}
 use mir.Facts.{to_z_pos}
-use borrow.Author.Rules.{rules}
 use Rattle.decode_leaf.proofs.signed.Goals as goal
 
 pub returns : goal.returns

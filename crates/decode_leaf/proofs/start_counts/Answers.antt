@@ -1,8 +1,5 @@
 -- By cases on whether some table depends on a count.
 use mathlib.Core.Path.{refl}
-use Prim.Native.Nat.{◌-◌}
-use lib.ListN.{length}
-use borrow.Author.Rules.{rules}
 use Rattle.decode_leaf.proofs.start_counts.Goals as goal
 
 pub returns-then-deps : goal.returns-then-deps

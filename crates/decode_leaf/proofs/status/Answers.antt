@@ -1,5 +1,3 @@
-use Prim.Native.Nat.{◌-◌}
-use lib.ListN.{take}
 use Rattle.decode_leaf.proofs.Leaves.{status-none, status-minus, status-plus}
 use Rattle.decode_leaf.proofs.status.Goals as goal
 

@@ -1,5 +1,3 @@
-use Prim.Native.Nat.{◌-◌}
-use lib.ListN.{take}
 use Rattle.decode_leaf.proofs.Leaves.{none-took, once-took}
 use Rattle.decode_leaf.proofs.took_none.Goals as goal
 

@@ -1,12 +1,9 @@
 use mathlib.Core.Path.{sym, ap, ◌∙◌}
-use mathlib.Core.List.{List}
-use Prim.Native.Nat.{◌-◌}
 use lib.ListN.{get_or}
 use lib.IntN.{pos}
 use lib.ListN.{get_or-eq_default}
 use Rattle.decode_leaf.specs.Counts.{nat_of}
 use Rattle.decode_leaf.proofs.Runs.{round}
-use borrow.Author.Rules.{rules}
 use Rattle.decode_leaf.proofs.word_in.Goals as goal
 
 pub returns-then-at-counts : goal.returns-then-at-counts

@@ -1,8 +1,6 @@
 use mathlib.Core.Path.{sym, ap}
-use Prim.Native.Nat.{◌-◌}
 use Rattle.decode_scalar.specs.Decode.{answer_of, decimal_says}
 use Rattle.value.specs.Number.{read_as}
-use borrow.Author.Rules.{rules}
 use Rattle.decode_scalar.proofs.decimal_scalar.Goals as goal
 
 pub returns-in-Of : goal.returns-in-Of

@@ -1,8 +1,6 @@
 -- A part of no bytes has no last byte; of any other the last byte is looked up on its page.
 use mathlib.Core.Path.{sym, ap, ◌∙◌}
-use Prim.Native.Nat.{◌-◌}
 use native.Mathlib.Omega.{arith}
-use borrow.Author.Rules.{rules}
 use Rattle.ebcdic.specs.Ebcdic.{from_page}
 use Rattle.decode_scalar.specs.Decode.{is_overpunched}
 use Rattle.decode_scalar.proofs.Embedded.{last_none, last_some}

@@ -1,8 +1,6 @@
 use mathlib.Core.Path.{sym, ap}
-use Prim.Native.Nat.{◌-◌}
 use Rattle.decode_scalar.specs.Decode.{answer_of, float_says}
 use Rattle.float.specs.Field.{parsed_as}
-use borrow.Author.Rules.{rules}
 use Rattle.decode_scalar.proofs.float_answer.Goals as goal
 
 pub returns-in-Value : goal.returns-in-Value

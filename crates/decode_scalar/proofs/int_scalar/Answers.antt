@@ -1,8 +1,6 @@
 use mathlib.Core.Path.{sym, ap}
-use Prim.Native.Nat.{◌-◌}
 use Rattle.decode_scalar.specs.Decode.{answer_of, int_says}
 use Rattle.value.specs.Number.{read_as}
-use borrow.Author.Rules.{rules}
 use Rattle.decode_scalar.proofs.int_scalar.Goals as goal
 
 pub returns-in-Of : goal.returns-in-Of

@@ -1,6 +1,5 @@
 -- Each way fixes one of the two tests.
 use borrow.Author.Tests.{eq-eqb, ne_eqb}
-use lib.Dec.{eqb}
 use Rattle.decode_scalar.proofs.is_embedded.Goals as goal
 
 pub returns-then-p-eq0 : goal.returns-then-p-eq0

@@ -1,8 +1,4 @@
-use Prim.Native.Nat.{◌-◌}
 use borrow.Author.Tests.{eq-eqb, ne_eqb}
-use lib.Dec.{eqb}
-use lib.ListN.{take}
-use borrow.Author.Rules.{rules}
 use Rattle.decode_scalar.proofs.parse_decimal.Goals as goal
 
 pub returns-then-p-eq0 : goal.returns-then-p-eq0

@@ -2,7 +2,6 @@
 use mathlib.Core.Path.{sym, ap, ◌∙◌}
 use mathlib.Core.List.{List, map}
 use Prim.Native.Nat.{ℕ, ◌^◌}
-use borrow.Author.Rules.{rules}
 use Rattle.value.specs.Field.{last_of}
 use Rattle.value.specs.Number.{read_in, unlawful}
 use Rattle.ebcdic.specs.Ebcdic.{from_page}

@@ -1,6 +1,5 @@
 -- The test of the entry picks the side of the definition, and the callee promises it.
 use mathlib.Core.Path.{sym, ◌∙◌}
-use borrow.Author.Rules.{rules}
 use Rattle.decode_scalar.proofs.parse_int.Goals as goal
 
 pub returns-then-is_embedded : goal.returns-then-is_embedded

@@ -1,13 +1,12 @@
 use mathlib.Core.Path.{◌≡◌, refl, sym, ◌∙◌}
 use mathlib.Core.Bool.{true, false}
-use Prim.Native.Nat.{◌-◌, ◌*◌}
+use Prim.Native.Nat.{◌*◌}
 use native.Mathlib.Omega.{arith}
 use borrow.Author.Tests.{leb-true}
 use lib.Dec.{leb}
-use lib.ListN.{length, take}
+use lib.ListN.{length}
 use Rattle.hex_field.specs.Hex.{hex_of}
 use Rattle.hex_field.proofs.Laws.{hex-length}
-use borrow.Author.Rules.{rules}
 use Rattle.decode_scalar.proofs.read_hex.Goals as goal
 
 pub overflow_mul-part : goal.overflow_mul-part

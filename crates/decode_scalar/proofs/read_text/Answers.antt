@@ -1,10 +1,7 @@
 use mathlib.Core.Path.{sym, ap, ◌∙◌}
-use Prim.Native.Nat.{◌-◌}
-use lib.ListN.{length}
 use Rattle.text.specs.declared.Put.{Put}
 use Rattle.text.specs.Text.{read_text, put_as}
 use Rattle.decode_scalar.proofs.Answers.{of_put, put-answer}
-use borrow.Author.Rules.{rules}
 use Rattle.decode_scalar.proofs.read_text.Goals as goal
 
 pub returns-in-Length : goal.returns-in-Length

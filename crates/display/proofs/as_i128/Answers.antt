@@ -1,8 +1,6 @@
 use mathlib.Core.Path.{sym, ap, ◌∙◌}
-use Prim.Native.Nat.{◌-◌}
 use Rattle.value.specs.declared.Scalar.{Scalar}
 use Rattle.display.specs.Display.{whole_in}
-use borrow.Author.Rules.{rules}
 use Rattle.display.proofs.as_i128.Goals as goal
 
 pub returns-in-Null : goal.returns-in-Null

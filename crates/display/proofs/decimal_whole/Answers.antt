@@ -1,8 +1,4 @@
-use Prim.Native.Nat.{◌-◌}
 use borrow.Author.Tests.{eq-eqb, ne_eqb}
-use lib.Dec.{eqb}
-use lib.ListN.{take}
-use borrow.Author.Rules.{rules}
 use Rattle.display.proofs.decimal_whole.Goals as goal
 
 pub returns-then-scale-eq0 : goal.returns-then-scale-eq0

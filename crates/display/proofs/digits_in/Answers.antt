@@ -1,11 +1,7 @@
-use mathlib.Core.Path.{◌≡◌, refl, sym, ap, ◌∙◌}
-use mathlib.Core.List.{map}
-use Prim.Native.Nat.{◌-◌, ◌≤◌}
+use mathlib.Core.Path.{refl, sym, ap, ◌∙◌}
 use native.Mathlib.Omega.{arith}
-use lib.ListN.{length, take, drop}
-use borrow.Author.Rules.{rules}
 use Rattle.ebcdic.specs.Ebcdic.{from_page}
-use Rattle.display.proofs.Reading.{whole_from, digits-none, digits-some, whole-bad, whole-go, whole-end}
+use Rattle.display.proofs.Reading.{digits-none, digits-some, whole-bad, whole-go, whole-end}
 use Rattle.value.specs.Digits.{is_digit}
 use Rattle.display.proofs.digits_in.Goals as goal
 

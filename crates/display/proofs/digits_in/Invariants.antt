@@ -1,12 +1,9 @@
-use mathlib.Core.Path.{◌≡◌, refl, sym, ap, ◌∙◌}
+use mathlib.Core.Path.{◌≡◌}
 use mathlib.Core.List.{map}
 use Prim.Native.Nat.{◌-◌, ◌≤◌}
-use native.Mathlib.Omega.{arith}
-use lib.ListN.{length, take, drop}
-use borrow.Author.Rules.{rules}
+use lib.ListN.{length, drop}
 use Rattle.ebcdic.specs.Ebcdic.{from_page}
-use Rattle.display.proofs.Reading.{whole_from, digits-none, digits-some, whole-bad, whole-go, whole-end}
-use Rattle.value.specs.Digits.{is_digit}
+use Rattle.display.proofs.Reading.{whole_from}
 use Rattle.display.proofs.digits_in.Given as goal
 
 abbrev pub invariant-loop-i : goal.invariant-loop-i

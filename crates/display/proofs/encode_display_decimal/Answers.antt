@@ -1,11 +1,8 @@
 use mathlib.Core.Path.{◌∙◌}
-use Prim.Native.Nat.{◌-◌}
 use borrow.Author.Tests.{le-leb, lt-leb}
-use lib.Dec.{leb}
-use lib.ListN.{length, take}
+use lib.ListN.{length}
 use Rattle.display.specs.Display.{decimal_fits}
 use Rattle.display.proofs.Writing.{decimal-not, decimal-as}
-use borrow.Author.Rules.{rules}
 use Rattle.display.proofs.encode_display_decimal.Goals as goal
 
 pub returns-then-precision-w : goal.returns-then-precision-w

@@ -1,12 +1,10 @@
 use mathlib.Core.Path.{sym, ap, ◌∙◌}
-use Prim.Native.Nat.{zero, ◌-◌}
+use Prim.Native.Nat.{◌-◌}
 use native.Mathlib.Omega.{arith}
 use lib.ListN.{length, take, drop}
 use Rattle.ebcdic.specs.Ebcdic.{onto_page}
-use native.Mathlib.Nat.{sub-zero}
 use Rattle.display.proofs.Writing.{lead-separate, trail-separate, separate-width, encode-not, encode-first, encode-last, encode-plain}
 use Rattle.numerals.proofs.Writing.{text-length, last-left, last-piece, last-all}
-use borrow.Author.Rules.{rules}
 use Rattle.display.proofs.encode_display_int.Goals as goal
 
 pub bounds-part-0 : goal.bounds-part-0

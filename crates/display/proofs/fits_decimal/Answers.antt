@@ -1,9 +1,5 @@
-use Prim.Native.Nat.{◌-◌}
 use borrow.Author.Tests.{le-leb, lt-leb}
-use lib.Dec.{leb}
-use lib.ListN.{take}
 use Rattle.display.specs.Display.{decimal_fits}
-use borrow.Author.Rules.{rules}
 use Rattle.display.proofs.fits_decimal.Goals as goal
 
 pub returns-then-precision-width : goal.returns-then-precision-width

@@ -1,8 +1,5 @@
 use mathlib.Core.Path.{sym, ◌∙◌}
-use Prim.Native.Nat.{◌-◌}
-use lib.ListN.{take}
 use Rattle.display.specs.Display.{int_fits}
-use borrow.Author.Rules.{rules}
 use Rattle.display.proofs.fits_int.Goals as goal
 
 pub returns-then-width-eq0 : goal.returns-then-width-eq0

@@ -1,7 +1,5 @@
-use Prim.Native.Nat.{◌-◌}
 use native.Mathlib.Omega.{arith}
 use borrow.Author.Tests.{le-leb, lt-leb}
-use lib.Dec.{leb}
 use Rattle.display.proofs.has_sign.Goals as goal
 
 pub returns-then-sign-eq0 : goal.returns-then-sign-eq0

@@ -1,7 +1,4 @@
-use Prim.Native.Nat.{◌-◌}
 use borrow.Author.Tests.{eq-eqb, ne_eqb}
-use lib.Dec.{eqb}
-use lib.ListN.{take}
 use Rattle.display.proofs.is_separate.Goals as goal
 
 pub returns-then-sign-eq2 : goal.returns-then-sign-eq2

@@ -1,9 +1,7 @@
 use mathlib.Core.Path.{sym, ap}
-use Prim.Native.Nat.{◌-◌}
 use Rattle.value.specs.declared.Number.{Number}
 use Rattle.value.specs.Number.{read_as}
 use Rattle.display.specs.Display.{or_refused}
-use borrow.Author.Rules.{rules}
 use Rattle.display.proofs.or_refused.Goals as goal
 
 pub returns-in-Of : goal.returns-in-Of

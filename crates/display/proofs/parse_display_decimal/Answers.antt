@@ -1,8 +1,6 @@
 use mathlib.Core.Path.{◌∙◌}
-use Prim.Native.Nat.{◌-◌}
 use Rattle.ebcdic.specs.Ebcdic.{from_page}
 use Rattle.display.proofs.Signs.{decimal-is}
-use borrow.Author.Rules.{rules}
 use Rattle.display.proofs.parse_display_decimal.Goals as goal
 
 pub returns : goal.returns

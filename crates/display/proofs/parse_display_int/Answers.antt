@@ -1,10 +1,7 @@
 use mathlib.Core.Path.{sym, ap, ◌∙◌}
-use Prim.Native.Nat.{◌-◌}
-use lib.ListN.{take}
 use Rattle.ebcdic.specs.Ebcdic.{from_page}
 use Rattle.numerals.specs.Numerals.{is_sign}
 use Rattle.display.proofs.Signs.{int-empty, int-taken, int-plain}
-use borrow.Author.Rules.{rules}
 use Rattle.display.proofs.parse_display_int.Goals as goal
 
 pub returns-then-n-eq0 : goal.returns-then-n-eq0

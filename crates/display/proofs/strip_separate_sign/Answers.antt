@@ -1,10 +1,7 @@
 use mathlib.Core.Path.{sym, ap, ◌∙◌}
-use Prim.Native.Nat.{◌-◌}
-use lib.ListN.{take}
 use Rattle.ebcdic.specs.Ebcdic.{from_page}
 use Rattle.numerals.specs.Numerals.{is_sign}
 use Rattle.display.proofs.Signs.{sign-some, rest-first, rest-last, rest_all}
-use borrow.Author.Rules.{rules}
 use Rattle.display.proofs.strip_separate_sign.Goals as goal
 
 pub slice_bounds-result-count : goal.slice_bounds-result-count

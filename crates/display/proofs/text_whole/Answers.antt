@@ -1,9 +1,7 @@
 use mathlib.Core.Path.{ap, ◌∙◌}
-use Prim.Native.Nat.{◌-◌}
 use Rattle.display.specs.Display.{or_refused, whole_of}
 use Rattle.numerals.specs.Numerals.{trimmed}
 use Rattle.ebcdic.proofs.Laws.{page-zero}
-use borrow.Author.Rules.{rules}
 use Rattle.display.proofs.text_whole.Goals as goal
 
 pub returns : goal.returns

@@ -1,10 +1,7 @@
 use mathlib.Core.Path.{sym, ◌∙◌}
-use Prim.Native.Nat.{◌-◌}
 use native.Mathlib.Omega.{arith}
-use lib.ListN.{take}
 use Rattle.ebcdic.specs.Ebcdic.{from_page}
 use Rattle.display.proofs.Signs.{whole-none, whole-minus, whole-plus, whole_plain}
-use borrow.Author.Rules.{rules}
 use Rattle.display.proofs.whole_of.Goals as goal
 
 pub returns-then-n-eq0 : goal.returns-then-n-eq0

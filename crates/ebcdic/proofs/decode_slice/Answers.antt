@@ -1,6 +1,5 @@
 -- `ebcdic::decode_slice` meets its contract: on page 0 the bytes are copied, on any other they are translated by the table.
 use mathlib.Core.Path.{ap, ◌∙◌}
-use borrow.Author.Rules.{rules}
 use Rattle.ebcdic.specs.Ebcdic.{to_ascii, ascii_table, copied}
 use Rattle.ebcdic.proofs.Laws.{from-same, from-table, copied-same}
 use Rattle.ebcdic.proofs.decode_slice.Goals as goal

@@ -1,6 +1,5 @@
 -- `ebcdic::encode_slice` meets its contract: on page 0 the bytes are copied, on any other they are translated by the table.
 use mathlib.Core.Path.{ap, ◌∙◌}
-use borrow.Author.Rules.{rules}
 use Rattle.ebcdic.specs.Ebcdic.{to_ebcdic, ebcdic_table, copied}
 use Rattle.ebcdic.proofs.Laws.{onto_same, onto-table, copied-same}
 use Rattle.ebcdic.proofs.encode_slice.Goals as goal

@@ -1,6 +1,5 @@
 -- `ebcdic::from_page` meets its contract: page 0 has the byte itself; a digit, the blank and the signs are what the table has for them.
 use mathlib.Core.Path.{sym, ap}
-use borrow.Author.Rules.{rules}
 use borrow.Author.Tests.{eq-eqb, ne_eqb}
 use native.Mathlib.Omega.{arith}
 use Rattle.ebcdic.specs.Ebcdic.{from_page, to_ascii, ascii_table}

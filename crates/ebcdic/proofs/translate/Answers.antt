@@ -1,11 +1,9 @@
 -- `ebcdic::translate` meets its contract. The invariant: the first i bytes of the buffer are the table's for those of the source, the rest is as it was. The bytes left fall.
-use mathlib.Core.Path.{◌≡◌, refl, ◌∙◌}
-use mathlib.Core.List.{◌++◌, map}
-use Prim.Native.Nat.{◌-◌, ◌≤◌, ◌<◌}
+use mathlib.Core.Path.{refl, ◌∙◌}
+use Prim.Native.Nat.{◌<◌}
 use native.Mathlib.Nat.{le_antisymm}
 use native.Mathlib.Omega.{arith}
-use lib.ListN.{length, get_or, take, drop, length-set}
-use borrow.Author.Rules.{rules}
+use lib.ListN.{length, get_or, length-set}
 use Rattle.lists.proofs.Lists.{copy-go, copy-all}
 use Rattle.ebcdic.proofs.translate.Goals as goal
 

@@ -1,6 +1,3 @@
-use Prim.Native.Nat.{◌-◌}
-use lib.ListN.{take}
-use borrow.Author.Rules.{rules}
 use Rattle.edited.proofs.any_floating.Goals as goal
 
 pub returns-then-floating : goal.returns-then-floating

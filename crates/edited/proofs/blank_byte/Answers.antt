@@ -1,7 +1,4 @@
-use Prim.Native.Nat.{◌-◌}
 use borrow.Author.Tests.{eq-eqb, ne_eqb}
-use lib.Dec.{eqb}
-use lib.ListN.{take}
 use Rattle.edited.proofs.blank_byte.Goals as goal
 
 pub returns-then-prev-eq68 : goal.returns-then-prev-eq68

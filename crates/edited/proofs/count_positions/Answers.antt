@@ -1,8 +1,7 @@
 use mathlib.Core.Path.{◌≡◌, refl, ap, ◌∙◌}
-use Prim.Native.Nat.{ℕ, ◌+◌, ◌-◌, ◌≤◌}
+use Prim.Native.Nat.{ℕ}
 use native.Mathlib.Omega.{arith}
-use lib.ListN.{length, take, drop}
-use borrow.Author.Rules.{rules}
+use lib.ListN.{drop}
 use Rattle.edited.specs.Edited.{is_digit_pos, positions}
 use Rattle.edited.proofs.Turns.{count-end, count-step}
 use Rattle.edited.proofs.count_positions.Goals as goal

@@ -1,10 +1,7 @@
-use mathlib.Core.Path.{◌≡◌, refl, ap, ◌∙◌}
-use Prim.Native.Nat.{ℕ, ◌+◌, ◌-◌, ◌≤◌}
-use native.Mathlib.Omega.{arith}
-use lib.ListN.{length, take, drop}
-use borrow.Author.Rules.{rules}
-use Rattle.edited.specs.Edited.{is_digit_pos, positions}
-use Rattle.edited.proofs.Turns.{count-end, count-step}
+use mathlib.Core.Path.{◌≡◌}
+use Prim.Native.Nat.{◌+◌, ◌≤◌}
+use lib.ListN.{length, drop}
+use Rattle.edited.specs.Edited.{positions}
 use Rattle.edited.proofs.count_positions.Given as goal
 
 abbrev pub invariant-loop-i : goal.invariant-loop-i

@@ -8,7 +8,6 @@ use Rattle.ebcdic.specs.Ebcdic.{from_page}
 use Rattle.numerals.specs.Numerals.{trimmed}
 use Rattle.numerals.proofs.Reading.{kept-signed}
 use Rattle.edited.specs.Edited.{decoded_of, negative_of}
-use borrow.Author.Rules.{rules}
 use Rattle.edited.proofs.decode.Goals as goal
 
 pub returns-then-signed : goal.returns-then-signed

@@ -1,10 +1,8 @@
 use mathlib.Core.Path.{ap, ◌∙◌}
-use Prim.Native.Nat.{ℕ, ◌+◌, ◌-◌}
-use lib.ListN.{take}
+use Prim.Native.Nat.{ℕ, ◌+◌}
 use Prim.Native.Nat.{◌/◌, ◌%◌}
 use Rattle.edited.proofs.Turns.{ten-is, digit-past}
 use Rattle.value.proofs.Digits.{pow-pos10}
-use borrow.Author.Rules.{rules}
 use Rattle.edited.proofs.digit_byte.Goals as goal
 
 pub nonzero_div-size : goal.nonzero_div-size

@@ -1,8 +1,5 @@
-use Prim.Native.Nat.{◌-◌}
 use borrow.Author.Tests.{ne_eqb}
-use lib.Dec.{eqb}
 use Rattle.edited.specs.Edited.{edit_byte}
-use borrow.Author.Rules.{rules}
 use Rattle.edited.proofs.edit_byte.Goals as goal
 
 pub returns-in-57 : goal.returns-in-57

@@ -1,9 +1,6 @@
 use mathlib.Core.Path.{refl, ◌∙◌}
-use Prim.Native.Nat.{◌-◌}
-use lib.ListN.{length}
 use Rattle.edited.proofs.Turns.{answer-big}
 use Rattle.edited.specs.Edited.{judged, written_of}
-use borrow.Author.Rules.{rules}
 use Rattle.edited.proofs.encode.Goals as goal
 
 pub returns-in-Of : goal.returns-in-Of

@@ -1,11 +1,8 @@
-use mathlib.Core.Path.{sym, ap, ◌∙◌}
+use mathlib.Core.Path.{sym, ◌∙◌}
 use mathlib.Core.List.{map}
-use Prim.Native.Nat.{◌-◌}
-use lib.ListN.{length, take}
 use Rattle.edited.proofs.Turns.{encode-fits, encode-long, encode-not}
 use Rattle.edited.specs.Edited.{edited}
 use Rattle.ebcdic.specs.Ebcdic.{onto_page}
-use borrow.Author.Rules.{rules}
 use Rattle.edited.proofs.encode_size.Goals as goal
 
 pub write-requires : goal.write-requires

@@ -1,10 +1,7 @@
 use mathlib.Core.Path.{ap, ◌∙◌}
-use Prim.Native.Nat.{◌-◌}
-use lib.ListN.{take}
 use Rattle.edited.specs.Edited.{upper}
 use Rattle.edited.proofs.Ends.{ends-short, ends-go, ends-not}
 use Rattle.ebcdic.specs.Ebcdic.{from_page}
-use borrow.Author.Rules.{rules}
 use Rattle.edited.proofs.ends_in.Goals as goal
 
 pub returns-then-n-lt2 : goal.returns-then-n-lt2

@@ -1,9 +1,5 @@
-use Prim.Native.Nat.{◌-◌}
 use borrow.Author.Tests.{lt-ltb, le-ltb}
-use lib.Dec.{ltb}
-use lib.ListN.{take}
 use Rattle.value.specs.Digits.{limit}
-use borrow.Author.Rules.{rules}
 use Rattle.edited.proofs.fits_in.Goals as goal
 
 pub returns-then-size-ge-LIMIT : goal.returns-then-size-ge-LIMIT

@@ -1,7 +1,6 @@
 use mathlib.Core.Path.{ap}
-use Prim.Native.Nat.{ℕ, ◌-◌}
+use Prim.Native.Nat.{ℕ}
 use lib.Dec.{leb}
-use borrow.Author.Rules.{rules}
 use Rattle.edited.proofs.floating.Goals as goal
 
 pub returns : goal.returns

@@ -1,6 +1,4 @@
-use Prim.Native.Nat.{◌-◌}
 use borrow.Author.Tests.{ne_eqb}
-use lib.Dec.{eqb}
 use Rattle.edited.proofs.is_mark.Goals as goal
 
 pub returns-in-57 : goal.returns-in-57

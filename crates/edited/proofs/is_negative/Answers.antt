@@ -1,8 +1,5 @@
 use mathlib.Core.Path.{sym, ◌∙◌}
-use Prim.Native.Nat.{◌-◌}
-use lib.ListN.{take}
 use Rattle.edited.specs.Edited.{negative_of}
-use borrow.Author.Rules.{rules}
 use Rattle.edited.proofs.is_negative.Goals as goal
 
 pub returns-then-ends_in : goal.returns-then-ends_in

@@ -1,10 +1,8 @@
 -- By the cases of the amount.
 use mathlib.Core.Path.{sym, ap, ◌∙◌}
-use Prim.Native.Nat.{◌-◌}
 use Rattle.value.specs.declared.Amount.{Amount}
 use Rattle.value.specs.Number.{amount_as}
 use Rattle.edited.specs.Edited.{judged}
-use borrow.Author.Rules.{rules}
 use Rattle.edited.proofs.judge.Goals as goal
 
 pub returns-in-Of : goal.returns-in-Of

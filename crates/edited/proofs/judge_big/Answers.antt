@@ -1,6 +1,3 @@
-use Prim.Native.Nat.{◌-◌}
-use lib.ListN.{take}
-use borrow.Author.Rules.{rules}
 use Rattle.edited.proofs.judge_big.Goals as goal
 
 pub returns-then-any_floating : goal.returns-then-any_floating

@@ -1,7 +1,4 @@
-use Prim.Native.Nat.{◌-◌}
-use lib.ListN.{take}
 use Rattle.edited.specs.Edited.{judged}
-use borrow.Author.Rules.{rules}
 use Rattle.edited.proofs.judge_size.Goals as goal
 
 pub returns-then-any_floating : goal.returns-then-any_floating

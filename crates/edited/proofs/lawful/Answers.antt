@@ -1,11 +1,6 @@
-use mathlib.Core.Path.{◌≡◌, refl, sym, ◌∙◌}
-use Prim.Native.Nat.{◌-◌, ◌≤◌}
+use mathlib.Core.Path.{refl, sym, ◌∙◌}
 use native.Mathlib.Omega.{arith}
 use borrow.Author.Tests.{ne_eqb}
-use lib.Dec.{eqb}
-use lib.ListN.{length, take, drop}
-use borrow.Author.Rules.{rules}
-use Rattle.edited.specs.Edited.{lawful_from, is_lawful}
 use Rattle.edited.proofs.Turns.{lawful-go, lawful-stop, lawful-end}
 use Rattle.edited.proofs.lawful.Goals as goal
 

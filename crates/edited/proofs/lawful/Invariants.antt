@@ -1,12 +1,7 @@
-use mathlib.Core.Path.{◌≡◌, refl, sym, ◌∙◌}
+use mathlib.Core.Path.{◌≡◌}
 use Prim.Native.Nat.{◌-◌, ◌≤◌}
-use native.Mathlib.Omega.{arith}
-use borrow.Author.Tests.{ne_eqb}
-use lib.Dec.{eqb}
-use lib.ListN.{length, take, drop}
-use borrow.Author.Rules.{rules}
+use lib.ListN.{length, drop}
 use Rattle.edited.specs.Edited.{lawful_from, is_lawful}
-use Rattle.edited.proofs.Turns.{lawful-go, lawful-stop, lawful-end}
 use Rattle.edited.proofs.lawful.Given as goal
 
 abbrev pub invariant-loop-i : goal.invariant-loop-i

@@ -1,8 +1,6 @@
 use mathlib.Core.Path.{◌≡◌}
 use Prim.Native.Nat.{◌-◌}
 use native.Mathlib.Omega.{arith}
-use lib.ListN.{take}
-use borrow.Author.Rules.{rules}
 use Rattle.edited.proofs.left_after.Goals as goal
 
 pub returns-then-left-gt0 : goal.returns-then-left-gt0

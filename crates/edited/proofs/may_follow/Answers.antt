@@ -1,7 +1,4 @@
-use Prim.Native.Nat.{◌-◌}
 use borrow.Author.Tests.{ne_eqb}
-use lib.Dec.{eqb}
-use borrow.Author.Rules.{rules}
 use Rattle.edited.proofs.may_follow.Goals as goal
 
 pub returns-in-67 : goal.returns-in-67

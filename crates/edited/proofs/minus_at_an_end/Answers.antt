@@ -1,9 +1,8 @@
-use Prim.Native.Nat.{◌-◌, ◌<◌}
+use Prim.Native.Nat.{◌<◌}
 use native.Mathlib.Omega.{arith}
-use lib.ListN.{length, take}
+use lib.ListN.{length}
 use Rattle.edited.proofs.Ends.{minus-none, minus-go, minus-not}
 use Rattle.ebcdic.specs.Ebcdic.{from_page}
-use borrow.Author.Rules.{rules}
 use Rattle.edited.proofs.minus_at_an_end.Goals as goal
 
 pub returns-then-n-eq0 : goal.returns-then-n-eq0

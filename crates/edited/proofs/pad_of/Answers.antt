@@ -1,8 +1,4 @@
-use Prim.Native.Nat.{◌-◌}
 use borrow.Author.Tests.{lt-ltb, le-ltb}
-use lib.Dec.{ltb}
-use lib.ListN.{take}
-use borrow.Author.Rules.{rules}
 use Rattle.edited.proofs.pad_of.Goals as goal
 
 pub returns-then-n-gt0 : goal.returns-then-n-gt0

@@ -1,5 +1,3 @@
-use Prim.Native.Nat.{◌-◌}
-use lib.ListN.{take}
 use Rattle.edited.proofs.still.Goals as goal
 
 pub returns-then-sup : goal.returns-then-sup

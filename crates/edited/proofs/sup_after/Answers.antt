@@ -1,8 +1,5 @@
-use Prim.Native.Nat.{◌-◌}
 use borrow.Author.Tests.{ne_eqb}
-use lib.Dec.{eqb}
 use Rattle.edited.specs.Edited.{sup_after}
-use borrow.Author.Rules.{rules}
 use Rattle.edited.proofs.sup_after.Goals as goal
 
 pub returns-in-57 : goal.returns-in-57

@@ -1,6 +1,3 @@
-use Prim.Native.Nat.{◌-◌}
-use lib.ListN.{take}
-use borrow.Author.Rules.{rules}
 use Rattle.edited.proofs.suppressed.Goals as goal
 
 pub returns-then-still : goal.returns-then-still

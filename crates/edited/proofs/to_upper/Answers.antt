@@ -1,9 +1,5 @@
-use Prim.Native.Nat.{◌-◌}
 use native.Mathlib.Omega.{arith}
 use borrow.Author.Tests.{le-leb, lt-leb}
-use lib.Dec.{leb}
-use lib.ListN.{take}
-use borrow.Author.Rules.{rules}
 use Rattle.edited.proofs.to_upper.Goals as goal
 
 pub returns-then-b-lt97 : goal.returns-then-b-lt97

@@ -1,10 +1,9 @@
 use mathlib.Core.Path.{◌≡◌, refl, sym, ap, ◌∙◌}
 use mathlib.Core.Bool.{true}
-use mathlib.Core.List.{◌++◌, map}
-use Prim.Native.Nat.{◌+◌, ◌-◌, ◌≤◌, ◌<◌}
+use mathlib.Core.List.{map}
+use Prim.Native.Nat.{◌+◌, ◌<◌}
 use native.Mathlib.Omega.{arith}
-use lib.ListN.{length, take, drop, set, length-set}
-use borrow.Author.Rules.{rules}
+use lib.ListN.{length, drop, length-set}
 use Rattle.edited.specs.Edited.{positions, edit_from, digit_byte}
 use Rattle.edited.proofs.Turns.{left-go, edit-go, edit-end}
 use Rattle.ebcdic.specs.Ebcdic.{onto_page}

@@ -3,27 +3,13 @@
 -- An entry that is a table or a group. The loop's invariant: what all elements come to is what the elements that are left come to, in the buffer as it is. The elements left fall.
 -- One group: the sequence of its members by the members of its value.
 -- The entries of a sequence. The loop's invariant: what the whole comes to is what the entries that are left come to, in the buffer as it is. The entries left fall.
-use Prim.Native.Nat.{ℕ, ◌<◌}
 use Prim.Native.Nat.{◌+◌, ◌-◌, ◌*◌}
-use Prim.Native.Nat.{ℕ}
-use mathlib.Core.Path.{refl, ◌∙◌}
 use Prim.Native.Nat.{◌-◌}
-use native.Mathlib.Omega.{arith}
-use borrow.Author.Rules.{rules}
-use lib.ListN.{length}
-use Rattle.encode_leaf.proofs.Meets.{refuse, fine, same-as}
 use Rattle.items.specs.Items.{values}
 use Rattle.encode_leaf.specs.Laying.{elements}
-use Rattle.encode_leaf.proofs.Elements.{ElementsInv, elements-starts, elements-stops, elements-settles, elements-goes, elements-done}
-use Rattle.encode.proofs.Turns.{group_in, group-here, field-not, field-group, field-leaves, field-empty}
-use mathlib.Core.Path.{◌∙◌, sym}
-use Rattle.encode_leaf.proofs.Meets.{refuse, same-as}
-use mathlib.Core.Bool.{true, false}
-use borrow.Author.Tests.{not-true, not-false}
-use Rattle.encode_leaf.proofs.Inside.{inside-not, inside_is}
-use Rattle.encode_leaf.proofs.Meets.{refuse, fine}
-use Rattle.encode.proofs.Turns.{SeqInv, seq-starts, seq_stops, seq-goes, seq-done}
-use Rattle.encode.proofs.Steps.{lone-end, lone-field, lone-shift}
+use Rattle.encode_leaf.proofs.Elements.{ElementsInv}
+use Rattle.encode.proofs.Turns.{group_in}
+use Rattle.encode.proofs.Turns.{SeqInv}
 use Rattle.encode.proofs.+encode_field_encode_one_encode_seq.Given as goal
 
 abbrev pub decreases-encode_field : goal.decreases-encode_field

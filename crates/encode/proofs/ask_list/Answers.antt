@@ -1,10 +1,5 @@
 -- `encode::ask_list` meets its contract: each way out by the law of that name.
-use mathlib.Core.Bool.{true, false}
-use Prim.Native.Nat.{◌-◌}
-use lib.ListN.{take}
-use borrow.Author.Tests.{not-true, not-false}
 use Rattle.encode.proofs.Asking.{asks-list, asks-names, asks-room, asks-all}
-use borrow.Author.Rules.{rules}
 use Rattle.encode.proofs.ask_list.Goals as goal
 
 pub returns-then-not-check_items : goal.returns-then-not-check_items

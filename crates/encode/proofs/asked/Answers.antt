@@ -1,8 +1,5 @@
 -- `encode::asked` meets its contract: the questions on the layout, then those on the list.
-use Prim.Native.Nat.{◌-◌}
-use lib.ListN.{take}
 use Rattle.encode.proofs.Asking.{asked-layout, asked-list}
-use borrow.Author.Rules.{rules}
 use Rattle.encode.proofs.asked.Goals as goal
 
 pub returns-then-number-ne0 : goal.returns-then-number-ne0

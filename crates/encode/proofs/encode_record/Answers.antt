@@ -1,8 +1,6 @@
 use mathlib.Core.Path.{ap, ◌∙◌}
-use Prim.Native.Nat.{◌-◌}
-use lib.ListN.{length, take, replicate}
+use lib.ListN.{length, replicate}
 use Rattle.encode.proofs.Public.{with-counts, not-asked, not-walked, all-walked}
-use borrow.Author.Rules.{rules}
 use Rattle.encode.proofs.encode_record.Goals as goal
 
 pub returns-then-number-ne0 : goal.returns-then-number-ne0

@@ -1,7 +1,4 @@
-use Prim.Native.Nat.{◌-◌}
-use lib.ListN.{take}
 use Rattle.encode.proofs.Order.{heads-item, heads-none}
-use borrow.Author.Rules.{rules}
 use Rattle.encode.proofs.has_name.Goals as goal
 
 pub returns-then-i-to : goal.returns-then-i-to

@@ -1,7 +1,4 @@
-use Prim.Native.Nat.{◌-◌}
 use borrow.Author.Tests.{eq-eqb, ne_eqb}
-use lib.Dec.{eqb}
-use lib.ListN.{take}
 use Rattle.encode.proofs.has_value.Goals as goal
 
 pub returns-then-e-eq-KIND_PAD : goal.returns-then-e-eq-KIND_PAD

@@ -1,9 +1,4 @@
-use mathlib.Core.Bool.{true, false}
-use Prim.Native.Nat.{◌-◌}
-use lib.ListN.{take}
-use borrow.Author.Tests.{not-true, not-false}
 use Rattle.encode.proofs.Steps.{lone-group, lone-table, lone-span}
-use borrow.Author.Rules.{rules}
 use Rattle.encode.proofs.is_lone_leaf.Goals as goal
 
 pub returns-then-e-eq-KIND_GROUP : goal.returns-then-e-eq-KIND_GROUP

@@ -1,7 +1,4 @@
-use Prim.Native.Nat.{◌-◌}
-use lib.ListN.{take}
 use Rattle.encode.proofs.Steps.{pad-kind, pad-not}
-use borrow.Author.Rules.{rules}
 use Rattle.encode.proofs.is_lone_pad.Goals as goal
 
 pub returns-then-e-eq-KIND_PAD : goal.returns-then-e-eq-KIND_PAD

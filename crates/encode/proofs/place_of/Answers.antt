@@ -1,7 +1,4 @@
-use Prim.Native.Nat.{◌-◌}
-use lib.ListN.{take}
 use Rattle.encode.proofs.Order.{place-pad, place_here, place-there, ahead-behind}
-use borrow.Author.Rules.{rules}
 use Rattle.encode.proofs.place_of.Goals as goal
 
 pub returns-then-is_lone_pad : goal.returns-then-is_lone_pad

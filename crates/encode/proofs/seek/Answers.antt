@@ -1,7 +1,4 @@
-use Prim.Native.Nat.{◌-◌}
-use lib.ListN.{take}
 use Rattle.encode.proofs.Asking.{sought-pad, sought-here, sought-there}
-use borrow.Author.Rules.{rules}
 use Rattle.encode.proofs.seek.Goals as goal
 
 pub returns-then-e-eq-KIND_PAD : goal.returns-then-e-eq-KIND_PAD

@@ -1,15 +1,10 @@
 -- The invariant: the names of all entries are supplied if those of the entries that are left are; a name from `next` on is a name of the list. The entries left fall.
-use mathlib.Core.Path.{◌≡◌, refl, ◌∙◌}
-use mathlib.Core.Bool.{true, false}
+use mathlib.Core.Path.{◌≡◌}
 use Prim.Native.Nat.{◌-◌}
-use native.Mathlib.Omega.{arith}
-use lib.ListN.{take}
-use borrow.Author.Rules.{rules}
-use borrow.Author.Tests.{not-true, not-false}
 use Rattle.layout.specs.Layout.{part}
 use Rattle.items.specs.Items.{values}
 use Rattle.walks.specs.Records.{supplied}
-use Rattle.encode.proofs.Asking.{Within, supplied-end, supplied-not, supplied-go, supplied-is, within-behind}
+use Rattle.encode.proofs.Asking.{Within}
 use Rattle.encode.proofs.supplies.Given as goal
 
 abbrev pub invariant-loop-i : goal.invariant-loop-i

@@ -1,7 +1,5 @@
 -- By cases: one element, a value that is no List, a List or Null.
-use borrow.Author.Tests.{not-true, not-false}
 use Rattle.encode_leaf.proofs.Inside.{run-one, run-not, run-table}
-use borrow.Author.Rules.{rules}
 use Rattle.encode_leaf.proofs.elements_of.Goals as goal
 
 pub returns-then-unrepeated : goal.returns-then-unrepeated

@@ -4,17 +4,13 @@ use borrow.Author.Tests.{eq-eqb, ne_eqb}
 use mathlib.Core.List.{[]}
 use mathlib.Core.Path.{refl}
 use mathlib.Core.Path.{sym, ◌∙◌}
-use mathlib.Core.Bool.{true, false}
-use Prim.Native.Nat.{◌+◌, ◌-◌}
+use mathlib.Core.Bool.{false}
+use Prim.Native.Nat.{◌+◌}
 use native.Mathlib.Omega.{arith}
 use borrow.Author.Tests.{leb-true}
-use lib.Dec.{leb}
-use lib.ListN.{length, take}
-use borrow.Author.Tests.{not-true, not-false}
 use Rattle.encode_leaf.specs.Machine.{room_in, judged}
 use Rattle.encode_leaf.proofs.Meets.{refuse, fine}
 use Rattle.encode_leaf.proofs.Leaves.{outside-refuses, leaf-out, leaf-unfit, leaf-put}
-use borrow.Author.Rules.{rules}
 use Rattle.encode_leaf.proofs.encode_leaf.Goals as goal
 
 pub no_room-requires : goal.no_room-requires

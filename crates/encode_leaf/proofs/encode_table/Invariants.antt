@@ -1,13 +1,8 @@
 -- The invariant: the elements that are left, in the buffer as it is now, come to what all come to, and leave the buffer that all leave; the elements left fall.
-use mathlib.Core.Path.{refl, ◌∙◌}
-use Prim.Native.Nat.{◌-◌}
-use lib.ListN.{length, take, set}
-use borrow.Author.Rules.{rules}
 use Rattle.items.specs.Items.{values}
 use Rattle.encode_leaf.specs.Laying.{leaves, elements}
 use Rattle.encode_leaf.specs.Machine.{buffer_behind, codec, room_in}
-use Rattle.encode_leaf.proofs.Meets.{refuse, fine}
-use Rattle.encode_leaf.proofs.Elements.{BufferInv, buffer-done, buffer-stops, buffer-settles, buffer-goes, ElementsInv, elements-starts, elements-stops, elements-settles, elements-goes, elements-done, leaf-here}
+use Rattle.encode_leaf.proofs.Elements.{BufferInv, ElementsInv}
 use Rattle.encode_leaf.proofs.encode_table.Given as goal
 
 abbrev pub invariant-loop-left : goal.invariant-loop-left

@@ -1,6 +1,4 @@
-use Prim.Native.Nat.{◌-◌}
 use Rattle.encode_leaf.proofs.Leaves.{judge-is}
-use borrow.Author.Rules.{rules}
 use Rattle.encode_leaf.proofs.judge_leaf.Goals as goal
 
 pub returns : goal.returns

@@ -1,7 +1,4 @@
-use Prim.Native.Nat.{◌-◌}
-use lib.ListN.{take}
 use Rattle.encode_leaf.proofs.Leaves.{mask-none, mask_is}
-use borrow.Author.Rules.{rules}
 use Rattle.encode_leaf.proofs.mask_of.Goals as goal
 
 pub returns-then-e-ne-KIND_EDITED : goal.returns-then-e-ne-KIND_EDITED

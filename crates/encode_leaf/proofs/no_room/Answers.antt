@@ -1,5 +1,3 @@
-use Prim.Native.Nat.{◌-◌}
-use lib.ListN.{take}
 use Rattle.encode_leaf.proofs.Leaves.{outside-fit, outside-unfit}
 use Rattle.encode_leaf.proofs.no_room.Goals as goal
 

@@ -1,9 +1,6 @@
 -- What `encode_scalar` judges and writes, at the width that is put and with the mask of an Edited alone.
 use mathlib.Core.Path.{refl}
-use Prim.Native.Nat.{◌-◌}
-use lib.ListN.{length}
 use Rattle.encode_leaf.proofs.Leaves.{put_is}
-use borrow.Author.Rules.{rules}
 use Rattle.encode_leaf.proofs.put_leaf.Goals as goal
 
 pub returns : goal.returns

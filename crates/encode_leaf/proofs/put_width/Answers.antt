@@ -1,8 +1,4 @@
-use Prim.Native.Nat.{◌-◌}
 use borrow.Author.Tests.{le-leb, lt-leb, eq-eqb, ne_eqb}
-use lib.Dec.{eqb, leb}
-use lib.ListN.{take}
-use borrow.Author.Rules.{rules}
 use Rattle.encode_leaf.proofs.put_width.Goals as goal
 
 pub returns-then-e-eq-KIND_BOOL : goal.returns-then-e-eq-KIND_BOOL

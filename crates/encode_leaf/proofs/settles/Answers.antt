@@ -1,7 +1,4 @@
-use Prim.Native.Nat.{◌-◌}
 use borrow.Author.Tests.{le-leb, lt-leb, eq-eqb, ne_eqb}
-use lib.Dec.{eqb, leb}
-use lib.ListN.{take, set}
 use Rattle.encode_leaf.proofs.settles.Goals as goal
 
 pub returns-then-j-end : goal.returns-then-j-end

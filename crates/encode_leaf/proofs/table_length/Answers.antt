@@ -1,9 +1,5 @@
-use Prim.Native.Nat.{◌-◌}
 use borrow.Author.Tests.{eq-eqb, ne_eqb}
-use lib.Dec.{eqb}
-use lib.ListN.{length, take}
 use Rattle.walks.specs.Writing.{table_length}
-use borrow.Author.Rules.{rules}
 use Rattle.encode_leaf.proofs.table_length.Goals as goal
 
 pub returns-then-e-eq-ABSENT : goal.returns-then-e-eq-ABSENT

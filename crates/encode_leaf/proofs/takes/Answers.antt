@@ -1,7 +1,4 @@
-use Prim.Native.Nat.{◌-◌}
 use borrow.Author.Tests.{eq-eqb, ne_eqb}
-use lib.Dec.{eqb}
-use lib.ListN.{take}
 use Rattle.encode_leaf.proofs.takes.Goals as goal
 
 pub returns-then-tag-wanted : goal.returns-then-tag-wanted

@@ -1,7 +1,4 @@
-use Prim.Native.Nat.{◌-◌}
-use lib.ListN.{take}
 use Rattle.encode_leaf.proofs.Leaves.{text-none, text-is}
-use borrow.Author.Rules.{rules}
 use Rattle.encode_leaf.proofs.text_of.Goals as goal
 
 pub returns-then-it-ne-TAG_TEXT : goal.returns-then-it-ne-TAG_TEXT

@@ -1,7 +1,4 @@
-use Prim.Native.Nat.{◌-◌}
 use borrow.Author.Tests.{eq-eqb, ne_eqb}
-use lib.Dec.{eqb}
-use lib.ListN.{take}
 use Rattle.encode_leaf.proofs.text_size.Goals as goal
 
 pub returns-then-it-eq-TAG_TEXT : goal.returns-then-it-eq-TAG_TEXT

@@ -1,8 +1,5 @@
 -- A Pad has no item of its own; any other entry's item ends where the values behind it begin.
-use Prim.Native.Nat.{◌-◌}
-use lib.ListN.{take}
 use Rattle.encode_leaf.proofs.Inside.{after-pad, after-item}
-use borrow.Author.Rules.{rules}
 use Rattle.encode_leaf.proofs.values_after.Goals as goal
 
 pub returns-then-e-eq-KIND_PAD : goal.returns-then-e-eq-KIND_PAD

@@ -1,8 +1,6 @@
 -- A Decimal that has the scale is answered at once, which is what bringing it to that scale gives; any other scalar is brought to it.
 use mathlib.Core.Path.{◌∙◌}
 use borrow.Author.Tests.{le-leb, lt-leb}
-use borrow.Author.Rules.{rules}
-use lib.Dec.{leb}
 use Rattle.value.specs.Scalar.{scalar_of}
 use Rattle.value.specs.Word.{minus_in, size_in}
 use Rattle.float.proofs.Scalars.{decimal-same}

@@ -1,10 +1,6 @@
-use Prim.Native.Nat.{◌-◌}
 use borrow.Author.Tests.{eq-eqb, ne_eqb}
-use lib.Dec.{eqb}
-use lib.ListN.{length, take}
 use Rattle.packed.specs.Packed as Packed
 use Rattle.display.specs.Display as Display
-use borrow.Author.Rules.{rules}
 use Rattle.encode_scalar.proofs.encode_decimal.Goals as goal
 
 pub returns-then-p-eq0 : goal.returns-then-p-eq0

@@ -1,5 +1,4 @@
 -- A size from 2^63 on fails the first test of the definition; below it the zoned writer promises the rest.
-use borrow.Author.Rules.{rules}
 use borrow.Author.Tests.{lt-ltb, le-ltb}
 use native.Mathlib.Omega.{arith}
 use Prim.Native.Nat.{◌^◌}

@@ -1,6 +1,5 @@
 -- The test of the entry picks the side of the definition, and the callee promises it.
 use mathlib.Core.Path.{sym, ◌∙◌}
-use borrow.Author.Rules.{rules}
 use Rattle.display.specs.Display as Display
 use Rattle.encode_scalar.proofs.encode_int.Goals as goal
 

@@ -1,9 +1,8 @@
 -- A Decimal field takes its number from the item; every other kind takes the item's scalar. Each way ends in what its own writer promises.
 use mathlib.Core.Path.{refl, ap, ◌∙◌}
-use Prim.Native.Nat.{◌-◌}
 use borrow.Author.Tests.{le-leb, lt-leb, eq-eqb, ne_eqb}
-use lib.Dec.{eqb, leb}
-use lib.ListN.{length, take}
+use lib.Dec.{leb}
+use lib.ListN.{length}
 use Rattle.text.specs.Text.{padded}
 use Rattle.encode_scalar.specs.Encode.{judged_of, bytes_of, number_judged, number_bytes, decimal_judged, decimal_written, part_after}
 use Rattle.value.specs.Answer.{Answer}
@@ -12,7 +11,6 @@ use Rattle.float.specs.Convert.{decimal_for}
 use Rattle.value.specs.Scalar.{scalar_of}
 use Rattle.text.proofs.Back.{padded-length}
 use Rattle.encode_scalar.proofs.Parts.{whole, item-judged, item-after}
-use borrow.Author.Rules.{rules}
 use Rattle.encode_scalar.proofs.encode_scalar.Goals as goal
 
 pub returns-then-kind-eq-KIND_DECIMAL : goal.returns-then-kind-eq-KIND_DECIMAL

@@ -1,7 +1,6 @@
 -- A size from 2^63 on fails the first test of the definition; below it the room for the digits is the rest.
 use Prim.Native.Nat.{◌^◌}
 use native.Mathlib.Omega.{arith}
-use borrow.Author.Rules.{rules}
 use borrow.Author.Tests.{lt-ltb, le-ltb}
 use Rattle.encode_scalar.proofs.fits_embedded.Goals as goal
 

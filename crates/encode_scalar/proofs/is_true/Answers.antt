@@ -1,9 +1,5 @@
 use mathlib.Core.Path.{refl, sym, ap, ◌∙◌}
-use mathlib.Core.Bool.{true}
-use Prim.Native.Nat.{◌-◌}
-use lib.ListN.{take}
 use Rattle.encode_scalar.specs.Encode.{bool_in}
-use borrow.Author.Rules.{rules}
 use Rattle.encode_scalar.proofs.is_true.Goals as goal
 
 pub returns-then-negative : goal.returns-then-negative

@@ -1,9 +1,7 @@
 use mathlib.Core.Path.{refl, sym, ap, ◌∙◌}
-use Prim.Native.Nat.{◌-◌}
 use Rattle.encode_scalar.specs.Encode.{decimal_judged}
 use Rattle.value.specs.declared.Amount.{Amount}
 use Rattle.value.specs.Number.{amount_as}
-use borrow.Author.Rules.{rules}
 use Rattle.encode_scalar.proofs.judge_decimal.Goals as goal
 
 pub returns-in-Of : goal.returns-in-Of

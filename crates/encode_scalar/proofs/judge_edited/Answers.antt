@@ -1,9 +1,5 @@
 use mathlib.Core.Path.{refl, sym, ◌∙◌}
-use Prim.Native.Nat.{◌-◌}
 use borrow.Author.Tests.{ne_eqb}
-use lib.Dec.{eqb}
-use lib.ListN.{take}
-use borrow.Author.Rules.{rules}
 use Rattle.encode_scalar.proofs.judge_edited.Goals as goal
 
 pub returns-then-refused-eq0 : goal.returns-then-refused-eq0

@@ -1,9 +1,7 @@
 use mathlib.Core.Path.{refl, sym, ap, ◌∙◌}
-use Prim.Native.Nat.{◌-◌}
 use Rattle.encode_scalar.specs.Encode.{float_judged}
 use Rattle.float.specs.declared.Floated.{Floated}
 use Rattle.float.specs.Convert.{floated_as}
-use borrow.Author.Rules.{rules}
 use Rattle.encode_scalar.proofs.judge_float.Goals as goal
 
 pub returns-in-Word : goal.returns-in-Word

@@ -1,7 +1,5 @@
 use mathlib.Core.Path.{sym, ap, ◌∙◌}
-use Prim.Native.Nat.{◌-◌}
 use Rattle.encode_scalar.specs.Encode.{hex_text, hex_judged}
-use borrow.Author.Rules.{rules}
 use Rattle.encode_scalar.proofs.judge_hex.Goals as goal
 
 pub returns-in-Null : goal.returns-in-Null

@@ -1,9 +1,7 @@
 use mathlib.Core.Path.{refl, sym, ap, ◌∙◌}
-use Prim.Native.Nat.{◌-◌}
 use Rattle.encode_scalar.specs.Encode.{int_judged}
 use Rattle.value.specs.declared.Number.{Number}
 use Rattle.value.specs.Number.{written_as}
-use borrow.Author.Rules.{rules}
 use Rattle.encode_scalar.proofs.judge_int.Goals as goal
 
 pub returns-in-Of : goal.returns-in-Of

@@ -1,8 +1,5 @@
-use Prim.Native.Nat.{◌-◌}
 use borrow.Author.Tests.{ne_eqb}
-use lib.Dec.{eqb}
 use Rattle.encode_scalar.specs.Encode.{number_judged}
-use borrow.Author.Rules.{rules}
 use Rattle.encode_scalar.proofs.judge_number.Goals as goal
 
 pub returns-in-1 : goal.returns-in-1

@@ -1,9 +1,5 @@
-use Prim.Native.Nat.{◌-◌}
 use borrow.Author.Tests.{le-leb, lt-leb, eq-eqb, ne_eqb}
-use lib.Dec.{eqb, leb}
-use lib.ListN.{take}
 use Rattle.encode_scalar.specs.Encode.{judged_of}
-use borrow.Author.Rules.{rules}
 use Rattle.encode_scalar.proofs.judge_scalar.Goals as goal
 
 pub returns-then-kind-eq-KIND_TEXT : goal.returns-then-kind-eq-KIND_TEXT

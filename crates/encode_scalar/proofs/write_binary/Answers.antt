@@ -1,9 +1,7 @@
 use mathlib.Core.Path.{refl, ◌∙◌}
-use Prim.Native.Nat.{◌-◌}
 use lib.ListN.{length}
 use Rattle.binary.specs.Binary.{width_ok, integer_bytes}
 use Rattle.encode_scalar.proofs.Parts.{fitted, binary-length}
-use borrow.Author.Rules.{rules}
 use Rattle.encode_scalar.proofs.write_binary.Goals as goal
 
 pub returns-in-Of : goal.returns-in-Of

@@ -1,11 +1,8 @@
 use mathlib.Core.Path.{◌≡◌, sym, ◌∙◌}
 use mathlib.Core.Bool.{true, false}
-use Prim.Native.Nat.{◌-◌}
 use native.Mathlib.Omega.{arith}
-use lib.ListN.{length, take}
 use Rattle.encode_scalar.specs.Encode.{bool_in}
 use Rattle.encode_scalar.proofs.Parts.{bool-none, bool-some}
-use borrow.Author.Rules.{rules}
 use Rattle.encode_scalar.proofs.write_bool.Goals as goal
 
 pub returns-then-is_true : goal.returns-then-is_true

@@ -1,9 +1,7 @@
 use mathlib.Core.Path.{refl, ◌∙◌}
-use Prim.Native.Nat.{◌-◌}
 use lib.ListN.{length}
 use Rattle.encode_scalar.specs.Encode.{decimal_fit, decimal_bytes}
 use Rattle.encode_scalar.proofs.Parts.{fitted, decimal-length}
-use borrow.Author.Rules.{rules}
 use Rattle.encode_scalar.proofs.write_decimal.Goals as goal
 
 pub returns-in-Of : goal.returns-in-Of

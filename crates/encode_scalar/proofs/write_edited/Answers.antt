@@ -1,8 +1,5 @@
-use Prim.Native.Nat.{◌-◌}
-use lib.ListN.{length}
 use Rattle.encode_scalar.proofs.Parts.{edited-part}
 use Rattle.value.specs.Number.{amount_as}
-use borrow.Author.Rules.{rules}
 use Rattle.encode_scalar.proofs.write_edited.Goals as goal
 
 pub returns : goal.returns

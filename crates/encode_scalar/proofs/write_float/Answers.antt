@@ -1,9 +1,7 @@
 use mathlib.Core.Path.{refl, ◌∙◌}
-use Prim.Native.Nat.{◌-◌}
 use lib.ListN.{length}
 use Rattle.float.specs.Field.{field_ok, float_bytes}
 use Rattle.encode_scalar.proofs.Parts.{fitted, float-length}
-use borrow.Author.Rules.{rules}
 use Rattle.encode_scalar.proofs.write_float.Goals as goal
 
 pub returns-in-Word : goal.returns-in-Word

@@ -1,14 +1,10 @@
 use mathlib.Core.Path.{refl}
-use mathlib.Core.Bool.{true}
 use mathlib.Core.List.{[]}
-use Prim.Native.Nat.{◌-◌}
 use borrow.Author.Tests.{eqb-true}
-use lib.Dec.{eqb}
 use lib.ListN.{length}
 use Rattle.hex_field.specs.Hex as Hex
 use Rattle.hex_field.proofs.Back as HexBack
 use Rattle.encode_scalar.proofs.Parts.{numbered}
-use borrow.Author.Rules.{rules}
 use Rattle.encode_scalar.proofs.write_hex.Goals as goal
 
 pub returns-in-Null : goal.returns-in-Null

@@ -1,11 +1,9 @@
-use mathlib.Core.Path.{refl, ap, ◌∙◌}
+use mathlib.Core.Path.{refl, ◌∙◌}
 use mathlib.Core.List.{map}
-use Prim.Native.Nat.{◌-◌}
 use lib.ListN.{length}
 use Rattle.ebcdic.specs.Ebcdic.{onto_page}
 use Rattle.encode_scalar.specs.Encode.{int_fit, int_text}
 use Rattle.encode_scalar.proofs.Parts.{fitted, int-length}
-use borrow.Author.Rules.{rules}
 use Rattle.encode_scalar.proofs.write_int.Goals as goal
 
 pub returns-in-Of : goal.returns-in-Of

@@ -1,11 +1,7 @@
 use mathlib.Core.Path.{refl}
-use Prim.Native.Nat.{◌-◌}
 use borrow.Author.Tests.{ne_eqb}
-use lib.Dec.{eqb}
-use lib.ListN.{length}
 use Rattle.encode_scalar.proofs.Parts.{nothing}
 use Rattle.encode_scalar.specs.Encode.{number_judged, number_bytes}
-use borrow.Author.Rules.{rules}
 use Rattle.encode_scalar.proofs.write_number.Goals as goal
 
 pub returns-in-1 : goal.returns-in-1

@@ -1,8 +1,5 @@
-use Prim.Native.Nat.{◌-◌}
-use lib.ListN.{length}
 use Rattle.text.specs.Shown.{text_in}
 use Rattle.encode_scalar.proofs.Parts.{text-part}
-use borrow.Author.Rules.{rules}
 use Rattle.encode_scalar.proofs.write_text.Goals as goal
 
 pub returns : goal.returns

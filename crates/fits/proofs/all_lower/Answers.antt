@@ -1,8 +1,4 @@
-use mathlib.Core.Path.{◌≡◌, refl, sym, ◌∙◌}
-use Prim.Native.Nat.{◌-◌}
-use lib.ListN.{length, take, drop}
-use borrow.Author.Rules.{rules}
-use Rattle.lists.specs.Scan.{every_by}
+use mathlib.Core.Path.{refl, sym, ◌∙◌}
 use Rattle.lists.proofs.Scan.{every-go, every-stop, every-end}
 use Rattle.hex_field.specs.Hex.{is_lower}
 use Rattle.fits.proofs.all_lower.Goals as goal

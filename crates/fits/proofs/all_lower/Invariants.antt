@@ -1,9 +1,7 @@
-use mathlib.Core.Path.{◌≡◌, refl, sym, ◌∙◌}
+use mathlib.Core.Path.{◌≡◌}
 use Prim.Native.Nat.{◌-◌}
-use lib.ListN.{length, take, drop}
-use borrow.Author.Rules.{rules}
+use lib.ListN.{length, drop}
 use Rattle.lists.specs.Scan.{every_by}
-use Rattle.lists.proofs.Scan.{every-go, every-stop, every-end}
 use Rattle.hex_field.specs.Hex.{is_lower}
 use Rattle.fits.proofs.all_lower.Given as goal
 

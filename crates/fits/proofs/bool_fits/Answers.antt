@@ -1,7 +1,4 @@
-use Prim.Native.Nat.{◌-◌}
 use borrow.Author.Tests.{eq-eqb, ne_eqb}
-use lib.Dec.{eqb}
-use lib.ListN.{take}
 use Rattle.fits.proofs.bool_fits.Goals as goal
 
 pub returns-then-kind-eq-KIND_BOOL : goal.returns-then-kind-eq-KIND_BOOL

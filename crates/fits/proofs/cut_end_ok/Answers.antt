@@ -1,8 +1,4 @@
-use Prim.Native.Nat.{◌-◌}
 use borrow.Author.Tests.{eq-eqb, ne_eqb}
-use lib.Dec.{eqb}
-use lib.ListN.{take}
-use borrow.Author.Rules.{rules}
 use Rattle.fits.proofs.cut_end_ok.Goals as goal
 
 pub returns-then-n-eq0 : goal.returns-then-n-eq0

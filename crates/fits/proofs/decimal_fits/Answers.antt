@@ -1,8 +1,4 @@
-use Prim.Native.Nat.{◌-◌}
 use borrow.Author.Tests.{eq-eqb, ne_eqb}
-use lib.Dec.{eqb}
-use lib.ListN.{take}
-use borrow.Author.Rules.{rules}
 use Rattle.fits.proofs.decimal_fits.Goals as goal
 
 pub returns-then-kind-eq-KIND_DECIMAL : goal.returns-then-kind-eq-KIND_DECIMAL

@@ -1,7 +1,4 @@
-use Prim.Native.Nat.{◌-◌}
-use lib.ListN.{take}
 use Rattle.fits.proofs.Steps.{some}
-use borrow.Author.Rules.{rules}
 use Rattle.fits.proofs.edited_minus_ok.Goals as goal
 
 pub returns-then-size-eq0 : goal.returns-then-size-eq0

@@ -1,9 +1,6 @@
 use mathlib.Core.Path.{sym, ◌∙◌}
-use Prim.Native.Nat.{◌-◌}
-use lib.ListN.{take}
 use Rattle.fits.specs.Decide.{binary_fits}
 use Rattle.fits.proofs.Steps.{go, stop}
-use borrow.Author.Rules.{rules}
 use Rattle.fits.proofs.fits_binary.Goals as goal
 
 pub in_range-requires : goal.in_range-requires

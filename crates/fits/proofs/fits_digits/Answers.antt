@@ -1,8 +1,5 @@
 use mathlib.Core.Path.{◌∙◌}
-use Prim.Native.Nat.{◌-◌}
-use lib.ListN.{take}
 use Rattle.fits.proofs.Steps.{go, stop, digits-is}
-use borrow.Author.Rules.{rules}
 use Rattle.fits.proofs.fits_digits.Goals as goal
 
 pub returns-then-minus_ok : goal.returns-then-minus_ok

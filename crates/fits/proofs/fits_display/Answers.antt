@@ -1,8 +1,5 @@
 use mathlib.Core.Path.{refl}
-use Prim.Native.Nat.{◌-◌}
-use lib.ListN.{take}
 use Rattle.fits.proofs.Steps.{go, stop}
-use borrow.Author.Rules.{rules}
 use Rattle.fits.proofs.fits_display.Goals as goal
 
 pub returns-then-fits_digits : goal.returns-then-fits_digits

@@ -1,10 +1,6 @@
-use Prim.Native.Nat.{◌-◌}
 use borrow.Author.Tests.{eq-eqb, ne_eqb}
-use lib.Dec.{eqb}
-use lib.ListN.{take}
 use Rattle.fits.specs.Decide.{edited_fits}
 use Rattle.fits.proofs.Steps.{go, stop}
-use borrow.Author.Rules.{rules}
 use Rattle.fits.proofs.fits_edited.Goals as goal
 
 pub returns-then-mask-width : goal.returns-then-mask-width

@@ -1,8 +1,6 @@
-use Prim.Native.Nat.{◌-◌}
-use lib.ListN.{length, take}
+use lib.ListN.{length}
 use Rattle.fits.specs.Decide.{hex_fits}
 use Rattle.fits.proofs.Steps.{odd-length, half_length, other_length}
-use borrow.Author.Rules.{rules}
 use Rattle.fits.proofs.fits_hex.Goals as goal
 
 pub returns-then-n-eq1 : goal.returns-then-n-eq1

@@ -5,7 +5,6 @@ use lib.Dec.{ltb}
 use Rattle.packed.proofs.Writing.{fits-is}
 use Rattle.fits.specs.Decide.{sign_ok}
 use Rattle.fits.proofs.Steps.{go-two, stop-two}
-use borrow.Author.Rules.{rules}
 use Rattle.fits.proofs.fits_packed.Goals as goal
 
 pub returns-then-fits : goal.returns-then-fits

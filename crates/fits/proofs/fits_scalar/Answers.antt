@@ -1,6 +1,4 @@
-use Prim.Native.Nat.{◌-◌}
 use Rattle.fits.specs.Decide.{fits_of}
-use borrow.Author.Rules.{rules}
 use Rattle.fits.proofs.fits_scalar.Goals as goal
 
 pub returns-in-Null : goal.returns-in-Null

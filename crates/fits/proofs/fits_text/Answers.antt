@@ -1,6 +1,5 @@
 -- `fits::fits_text` meets its contract. An untrimmed text is a slice of bytes, so that `untrimmed_fits` asks only for its length.
 use native.Mathlib.Omega.{arith}
-use borrow.Author.Rules.{rules}
 use Rattle.fits.specs.Decide.{text_fits}
 use Rattle.fits.proofs.Steps.{untrimmed-long}
 use Rattle.fits.proofs.fits_text.Goals as goal

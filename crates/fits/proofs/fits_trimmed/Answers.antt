@@ -1,6 +1,5 @@
 -- `fits::fits_trimmed` meets its contract: its three tests are those of `trimmed_fits`, in the same order.
 use mathlib.Core.Path.{refl}
-use borrow.Author.Rules.{rules}
 use borrow.Author.Tests.{le-leb, lt-leb}
 use Rattle.fits.proofs.Steps.{go, stop}
 use Rattle.fits.proofs.fits_trimmed.Goals as goal

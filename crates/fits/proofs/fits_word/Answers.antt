@@ -1,9 +1,6 @@
 use mathlib.Core.Path.{refl}
-use Prim.Native.Nat.{◌-◌}
-use lib.ListN.{take}
 use Rattle.fits.specs.Decide.{word_fits}
 use Rattle.fits.proofs.Steps.{go, stop}
-use borrow.Author.Rules.{rules}
 use Rattle.fits.proofs.fits_word.Goals as goal
 
 pub returns-then-exact : goal.returns-then-exact

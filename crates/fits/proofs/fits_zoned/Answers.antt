@@ -1,10 +1,7 @@
-use Prim.Native.Nat.{◌-◌}
 use lib.Dec.{ltb}
-use lib.ListN.{take}
 use Prim.Native.Nat.{◌^◌}
 use Rattle.fits.specs.Decide.{sign_ok}
 use Rattle.fits.proofs.Steps.{go-two, stop-two}
-use borrow.Author.Rules.{rules}
 use Rattle.fits.proofs.fits_zoned.Goals as goal
 
 pub returns-then-fits : goal.returns-then-fits

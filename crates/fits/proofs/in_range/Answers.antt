@@ -1,10 +1,8 @@
 use mathlib.Core.Path.{ap, ◌∙◌}
-use Prim.Native.Nat.{◌-◌, ◌/◌}
+use Prim.Native.Nat.{◌/◌}
 use lib.Dec.{leb, ltb}
-use lib.ListN.{take}
 use Rattle.binary.proofs.Integers.{half-known}
 use Rattle.fits.proofs.Steps.{range-minus, range-plus, range-unsigned, range-big}
-use borrow.Author.Rules.{rules}
 use Rattle.fits.proofs.in_range.Goals as goal
 
 pub returns-then-size-eq0 : goal.returns-then-size-eq0

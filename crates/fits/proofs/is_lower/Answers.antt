@@ -1,6 +1,3 @@
-use mathlib.Core.Path.{ap}
-use Prim.Native.Nat.{◌-◌}
-use lib.ListN.{take}
 use Rattle.fits.proofs.Steps.{lower-none, lower-digit, lower-gap, lower-letter}
 use Rattle.fits.proofs.is_lower.Goals as goal
 

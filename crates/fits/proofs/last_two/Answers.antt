@@ -1,8 +1,4 @@
-use Prim.Native.Nat.{◌-◌}
 use borrow.Author.Tests.{le-leb, lt-leb, eq-eqb, ne_eqb}
-use lib.Dec.{eqb, leb}
-use lib.ListN.{take}
-use borrow.Author.Rules.{rules}
 use Rattle.fits.proofs.last_two.Goals as goal
 
 pub returns-then-n-lt2 : goal.returns-then-n-lt2

@@ -1,7 +1,4 @@
-use Prim.Native.Nat.{◌-◌}
-use lib.ListN.{take}
 use Rattle.fits.proofs.Steps.{mask-go, mask-stop}
-use borrow.Author.Rules.{rules}
 use Rattle.fits.proofs.mask_fits.Goals as goal
 
 pub returns-then-judge-eq0 : goal.returns-then-judge-eq0

@@ -1,6 +1,3 @@
-use Prim.Native.Nat.{◌-◌}
-use lib.ListN.{take}
-use borrow.Author.Rules.{rules}
 use Rattle.fits.proofs.minus_ok.Goals as goal
 
 pub returns-then-negative : goal.returns-then-negative

@@ -1,9 +1,6 @@
-use mathlib.Core.Path.{◌≡◌, refl, sym, ◌∙◌}
-use Prim.Native.Nat.{zero, ◌-◌}
+use mathlib.Core.Path.{refl, sym, ◌∙◌}
 use native.Mathlib.Omega.{arith}
-use lib.ListN.{length, take, drop, get_or}
-use borrow.Author.Rules.{rules}
-use Rattle.lists.specs.Scan.{every_by}
+use lib.ListN.{get_or}
 use Rattle.lists.proofs.Scan.{every-go, every-stop, every-end}
 use Rattle.fits.specs.Decide.{is_text_byte}
 use Rattle.fits.proofs.Steps.{byte-fine, byte-none}

@@ -1,8 +1,4 @@
-use Prim.Native.Nat.{◌-◌}
 use borrow.Author.Tests.{ne_eqb}
-use lib.Dec.{eqb}
-use lib.ListN.{take}
-use borrow.Author.Rules.{rules}
 use Rattle.fits.proofs.sign_ok.Goals as goal
 
 pub returns-then-sign-eq0 : goal.returns-then-sign-eq0

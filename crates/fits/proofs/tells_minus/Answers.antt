@@ -1,7 +1,4 @@
-use Prim.Native.Nat.{◌-◌}
-use lib.ListN.{take}
 use Rattle.fits.proofs.Steps.{tells_none, tells_first, tells-last, tells-credit, tells-debit}
-use borrow.Author.Rules.{rules}
 use Rattle.fits.proofs.tells_minus.Goals as goal
 
 pub returns-then-n-eq0 : goal.returns-then-n-eq0

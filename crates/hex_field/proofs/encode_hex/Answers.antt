@@ -1,10 +1,7 @@
 use mathlib.Core.Path.{◌≡◌, refl, sym, ◌∙◌}
-use Prim.Native.Nat.{◌-◌}
 use borrow.Author.Tests.{ne_eqb}
-use lib.Dec.{eqb}
-use lib.ListN.{length, take}
+use lib.ListN.{length}
 use Rattle.hex_field.specs.Hex.{judged_of}
-use borrow.Author.Rules.{rules}
 use Rattle.hex_field.proofs.encode_hex.Goals as goal
 
 pub write_bytes-requires : goal.write_bytes-requires

@@ -1,8 +1,4 @@
-use Prim.Native.Nat.{◌-◌}
 use borrow.Author.Tests.{eq-eqb, ne_eqb}
-use lib.Dec.{eqb}
-use lib.ListN.{take}
-use borrow.Author.Rules.{rules}
 use Rattle.hex_field.proofs.first_digit.Goals as goal
 
 pub returns-then-order-eq0 : goal.returns-then-order-eq0

@@ -1,7 +1,6 @@
 use mathlib.Core.Path.{ap}
-use Prim.Native.Nat.{ℕ, ◌-◌}
+use Prim.Native.Nat.{ℕ}
 use lib.Dec.{ltb}
-use borrow.Author.Rules.{rules}
 use Rattle.hex_field.proofs.is_hex.Goals as goal
 
 pub returns : goal.returns

@@ -1,8 +1,5 @@
 use mathlib.Core.Path.{sym, ◌∙◌}
-use Prim.Native.Nat.{◌-◌}
-use lib.ListN.{length, take}
-use borrow.Author.Rules.{rules}
-use Rattle.hex_field.proofs.Laws.{Judged, judged-start, judged-skip, judged-more, judged-bad, judged-odd, judged-long, judged-fine}
+use Rattle.hex_field.proofs.Laws.{judged-start, judged-skip, judged-more, judged-bad, judged-odd, judged-long, judged-fine}
 use Rattle.hex_field.proofs.judge_hex.Goals as goal
 
 pub loop-i-init : goal.loop-i-init

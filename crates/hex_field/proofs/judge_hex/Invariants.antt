@@ -1,8 +1,6 @@
-use mathlib.Core.Path.{sym, ◌∙◌}
 use Prim.Native.Nat.{◌-◌}
-use lib.ListN.{length, take}
-use borrow.Author.Rules.{rules}
-use Rattle.hex_field.proofs.Laws.{Judged, judged-start, judged-skip, judged-more, judged-bad, judged-odd, judged-long, judged-fine}
+use lib.ListN.{length}
+use Rattle.hex_field.proofs.Laws.{Judged}
 use Rattle.hex_field.proofs.judge_hex.Given as goal
 
 abbrev pub invariant-loop-i : goal.invariant-loop-i

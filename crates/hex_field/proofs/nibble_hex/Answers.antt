@@ -1,8 +1,4 @@
-use Prim.Native.Nat.{◌-◌}
 use borrow.Author.Tests.{lt-ltb, le-ltb}
-use lib.Dec.{ltb}
-use lib.ListN.{take}
-use borrow.Author.Rules.{rules}
 use Rattle.hex_field.proofs.nibble_hex.Goals as goal
 
 pub returns-then-n-lt10 : goal.returns-then-n-lt10

@@ -1,7 +1,6 @@
 -- Each way is a range of bytes; the tests of the other ranges fail.
 use native.Mathlib.Omega.{arith}
 use borrow.Author.Tests.{le-leb, lt-leb}
-use borrow.Author.Rules.{rules}
 use Rattle.value.proofs.Digits.{past}
 use Rattle.hex_field.proofs.nibble_in.Goals as goal
 

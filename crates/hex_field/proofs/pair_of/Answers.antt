@@ -1,12 +1,9 @@
 use mathlib.Core.Path.{◌≡◌}
 use mathlib.Core.Bool.{true}
-use Prim.Native.Nat.{ℕ, ◌-◌, ◌<◌}
+use Prim.Native.Nat.{ℕ, ◌<◌}
 use native.Mathlib.Omega.{arith}
 use borrow.Author.Tests.{eq-eqb, ne_eqb, ltb-true}
-use lib.Dec.{eqb, ltb}
-use lib.ListN.{take}
 use Rattle.hex_field.specs.Hex.{nibble_in, is_hex}
-use borrow.Author.Rules.{rules}
 use Rattle.hex_field.proofs.pair_of.Goals as goal
 
 small : (x n : ℕ) → n ≡ nibble_in x → is_hex x ≡ true → n < 16

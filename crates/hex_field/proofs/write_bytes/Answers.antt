@@ -1,9 +1,7 @@
 use mathlib.Core.Path.{◌≡◌, sym, ap, ◌∙◌}
-use Prim.Native.Nat.{◌-◌}
 use native.Mathlib.Omega.{arith}
-use lib.ListN.{length, take, replicate, length-replicate}
-use borrow.Author.Rules.{rules}
-use Rattle.hex_field.proofs.Laws.{Pairing, pairing-start, pairing-skip, pairing-wait, pairing-pair, pairing-end, pair-lawful, pair-room}
+use lib.ListN.{length, length-replicate}
+use Rattle.hex_field.proofs.Laws.{pairing-start, pairing-skip, pairing-wait, pairing-pair, pairing-end, pair-lawful, pair-room}
 use Rattle.hex_field.proofs.write_bytes.Goals as goal
 
 pub loop-i-init : goal.loop-i-init

@@ -1,9 +1,6 @@
-use mathlib.Core.Path.{◌≡◌, sym, ap, ◌∙◌}
 use Prim.Native.Nat.{◌-◌}
-use native.Mathlib.Omega.{arith}
-use lib.ListN.{length, take, replicate, length-replicate}
-use borrow.Author.Rules.{rules}
-use Rattle.hex_field.proofs.Laws.{Pairing, pairing-start, pairing-skip, pairing-wait, pairing-pair, pairing-end, pair-lawful, pair-room}
+use lib.ListN.{length}
+use Rattle.hex_field.proofs.Laws.{Pairing}
 use Rattle.hex_field.proofs.write_bytes.Given as goal
 
 abbrev pub invariant-loop-i : goal.invariant-loop-i

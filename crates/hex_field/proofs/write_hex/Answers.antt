@@ -1,10 +1,6 @@
-use mathlib.Core.Path.{◌≡◌, refl, sym, ◌∙◌}
-use mathlib.Core.List.{◌++◌}
-use Prim.Native.Nat.{◌+◌, ◌-◌, ◌*◌, ◌≤◌}
+use mathlib.Core.Path.{refl, ◌∙◌}
 use native.Mathlib.Omega.{arith}
-use lib.ListN.{length, take, drop, set, length-set}
-use borrow.Author.Rules.{rules}
-use Rattle.hex_field.specs.Hex.{hex_of}
+use lib.ListN.{length-set}
 use Rattle.hex_field.proofs.Laws.{hex-none, hex-go, hex-end}
 use native.Mathlib.Nat.{le_antisymm}
 use Rattle.hex_field.proofs.write_hex.Goals as goal

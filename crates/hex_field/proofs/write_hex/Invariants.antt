@@ -1,12 +1,8 @@
-use mathlib.Core.Path.{◌≡◌, refl, sym, ◌∙◌}
+use mathlib.Core.Path.{◌≡◌}
 use mathlib.Core.List.{◌++◌}
-use Prim.Native.Nat.{◌+◌, ◌-◌, ◌*◌, ◌≤◌}
-use native.Mathlib.Omega.{arith}
-use lib.ListN.{length, take, drop, set, length-set}
-use borrow.Author.Rules.{rules}
+use Prim.Native.Nat.{◌-◌, ◌*◌, ◌≤◌}
+use lib.ListN.{length, take, drop}
 use Rattle.hex_field.specs.Hex.{hex_of}
-use Rattle.hex_field.proofs.Laws.{hex-none, hex-go, hex-end}
-use native.Mathlib.Nat.{le_antisymm}
 use Rattle.hex_field.proofs.write_hex.Given as goal
 
 abbrev pub invariant-loop-i : goal.invariant-loop-i

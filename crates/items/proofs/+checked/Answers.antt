@@ -1,11 +1,6 @@
-use mathlib.Core.Path.{◌≡◌, refl, sym, ◌∙◌}
-use Prim.Native.Nat.{◌+◌, ◌-◌}
+use mathlib.Core.Path.{refl, sym, ◌∙◌}
 use native.Mathlib.Omega.{arith}
-use borrow.Author.Rules.{rules}
-use borrow.Author.Tests.{not-true, not-false}
-use Rattle.items.specs.Items.{values, list_ok}
 use Rattle.items.proofs.Lawful.{count-end, end_is, scalar-end, ok_end, ok-deep, ok-item, ok-inner, ok-next}
-use Prim.Native.Nat.{ℕ, ◌<◌}
 use Rattle.items.proofs.+checked.Goals as goal
 
 pub loop-i-init : goal.loop-i-init

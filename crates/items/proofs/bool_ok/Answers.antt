@@ -1,7 +1,4 @@
-use Prim.Native.Nat.{◌-◌}
 use borrow.Author.Tests.{le-leb, lt-leb}
-use lib.Dec.{leb}
-use lib.ListN.{take}
 use Rattle.items.proofs.bool_ok.Goals as goal
 
 pub returns-then-a-gt1 : goal.returns-then-a-gt1

@@ -1,7 +1,4 @@
 use mathlib.Core.Path.{◌∙◌}
-use Prim.Native.Nat.{◌-◌}
-use lib.ListN.{take}
-use borrow.Author.Rules.{rules}
 use Rattle.items.proofs.Lawful.{part-item, whole-items}
 use Rattle.items.proofs.check_items.Goals as goal
 

@@ -1,8 +1,5 @@
-use Prim.Native.Nat.{◌-◌}
 use native.Mathlib.Omega.{arith}
 use borrow.Author.Tests.{lt-ltb, le-ltb}
-use lib.Dec.{ltb}
-use borrow.Author.Rules.{rules}
 use Rattle.items.proofs.decimal_ok.Goals as goal
 
 pub returns-then-size_of-ge-LIMIT : goal.returns-then-size_of-ge-LIMIT

@@ -1,8 +1,5 @@
 use mathlib.Core.Path.{◌∙◌}
-use Prim.Native.Nat.{◌-◌}
-use lib.ListN.{take}
 use Rattle.items.proofs.Items.{head_in, head-out}
-use borrow.Author.Rules.{rules}
 use Rattle.items.proofs.fetch.Goals as goal
 
 pub returns-then-i-to : goal.returns-then-i-to

@@ -1,11 +1,7 @@
 -- `items::find` meets its contract. The invariant: the name is looked up from i on with the same result; the items that are left fall. A suffix is found in one place only (`place_is`).
-use mathlib.Core.Path.{◌≡◌, refl, ◌∙◌}
+use mathlib.Core.Path.{◌≡◌}
 use Prim.Native.Nat.{◌-◌}
-use native.Mathlib.Omega.{arith}
-use lib.ListN.{take}
-use borrow.Author.Rules.{rules}
 use Rattle.items.specs.Items.{values, lookup}
-use Rattle.items.proofs.Items.{lookup-hit, lookup-more, lookup-none, place_is}
 use Rattle.items.proofs.find.Given as goal
 
 abbrev pub invariant-loop-i : goal.invariant-loop-i

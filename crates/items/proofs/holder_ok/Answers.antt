@@ -1,10 +1,5 @@
 use mathlib.Core.Path.{sym, ◌∙◌}
-use mathlib.Core.Bool.{true, false}
-use Prim.Native.Nat.{zero, ◌-◌}
-use lib.ListN.{take}
 use Rattle.items.proofs.Lawful.{holder-tag, holder-count, holder-zero, holder-span}
-use borrow.Author.Tests.{not-true, not-false}
-use borrow.Author.Rules.{rules}
 use Rattle.items.proofs.holder_ok.Goals as goal
 
 pub returns-then-not-holding : goal.returns-then-not-holding

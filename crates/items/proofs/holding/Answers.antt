@@ -1,7 +1,4 @@
-use Prim.Native.Nat.{◌-◌}
 use borrow.Author.Tests.{eq-eqb, ne_eqb}
-use lib.Dec.{eqb}
-use lib.ListN.{take}
 use Rattle.items.proofs.holding.Goals as goal
 
 pub returns-then-tag-eq-TAG_LIST : goal.returns-then-tag-eq-TAG_LIST

@@ -1,7 +1,5 @@
 use mathlib.Core.Path.{refl}
-use Prim.Native.Nat.{◌-◌}
 use Rattle.items.proofs.Items.{item-words}
-use borrow.Author.Rules.{rules}
 use Rattle.items.proofs.item_at.Goals as goal
 
 pub returns-then-i-items : goal.returns-then-i-items

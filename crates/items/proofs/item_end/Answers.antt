@@ -1,5 +1,3 @@
-use Prim.Native.Nat.{◌-◌}
-use borrow.Author.Rules.{rules}
 use Rattle.items.proofs.item_end.Goals as goal
 
 pub returns : goal.returns

@@ -1,6 +1,4 @@
-use Prim.Native.Nat.{◌-◌}
 use Rattle.items.proofs.Words.{item-is}
-use borrow.Author.Rules.{rules}
 use Rattle.items.proofs.item_of.Goals as goal
 
 pub returns : goal.returns

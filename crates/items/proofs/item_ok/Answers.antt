@@ -1,10 +1,5 @@
 use mathlib.Core.Path.{sym, ◌∙◌}
-use mathlib.Core.Bool.{true, false}
-use Prim.Native.Nat.{◌-◌}
-use lib.ListN.{take}
 use Rattle.items.proofs.Lawful.{item-name, item-scalar, item-holder}
-use borrow.Author.Tests.{not-true, not-false}
-use borrow.Author.Rules.{rules}
 use Rattle.items.proofs.item_ok.Goals as goal
 
 pub returns-then-not-name_ok : goal.returns-then-not-name_ok

@@ -1,9 +1,4 @@
-use mathlib.Core.Path.{◌≡◌}
-use Prim.Native.Nat.{◌+◌, ◌-◌, ◌≤◌}
 use native.Mathlib.Omega.{arith}
-use lib.ListN.{take}
-use borrow.Author.Rules.{rules}
-use Rattle.items.specs.Items.{values, count}
 use Rattle.items.proofs.Lawful.{count-end, count-more}
 use Rattle.items.proofs.members.Goals as goal
 

@@ -1,5 +1,3 @@
-use Prim.Native.Nat.{◌-◌}
-use lib.ListN.{take}
 use Rattle.items.proofs.name_ok.Goals as goal
 
 pub returns-then-in_list : goal.returns-then-in_list

@@ -1,7 +1,4 @@
-use Prim.Native.Nat.{◌-◌}
 use borrow.Author.Tests.{eq-eqb, ne_eqb}
-use lib.Dec.{eqb}
-use lib.ListN.{take}
 use Rattle.items.proofs.null_ok.Goals as goal
 
 pub returns-then-a-ne0 : goal.returns-then-a-ne0

@@ -1,8 +1,6 @@
-use Prim.Native.Nat.{◌-◌}
 use native.Mathlib.Omega.{arith}
-use lib.ListN.{length, set, length-set}
+use lib.ListN.{length-set}
 use Rattle.items.proofs.Words.{put-words}
-use borrow.Author.Rules.{rules}
 use Rattle.items.proofs.put.Goals as goal
 
 pub bounds-items-1 : goal.bounds-items-1

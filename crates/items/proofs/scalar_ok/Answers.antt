@@ -1,8 +1,5 @@
-use Prim.Native.Nat.{◌-◌}
 use borrow.Author.Tests.{ne_eqb}
-use lib.Dec.{eqb}
 use Rattle.items.specs.Items.{scalar_ok}
-use borrow.Author.Rules.{rules}
 use Rattle.items.proofs.scalar_ok.Goals as goal
 
 pub returns-in-0 : goal.returns-in-0

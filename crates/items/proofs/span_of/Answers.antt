@@ -1,6 +1,3 @@
-use Prim.Native.Nat.{◌-◌}
-use lib.ListN.{take}
-use borrow.Author.Rules.{rules}
 use Rattle.items.proofs.span_of.Goals as goal
 
 pub returns-then-holding : goal.returns-then-holding

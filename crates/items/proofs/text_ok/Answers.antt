@@ -1,8 +1,7 @@
 use mathlib.Core.Path.{sym}
-use Prim.Native.Nat.{◌+◌, ◌-◌}
+use Prim.Native.Nat.{◌+◌}
 use native.Mathlib.Omega.{arith}
 use borrow.Author.Tests.{lt-leb}
-use lib.Dec.{leb}
 use Rattle.items.proofs.Lawful.{text_in}
 use Rattle.items.proofs.text_ok.Goals as goal
 

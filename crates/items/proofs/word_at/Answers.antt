@@ -1,11 +1,8 @@
 use mathlib.Core.Path.{sym}
-use mathlib.Core.List.{List}
-use Prim.Native.Nat.{◌+◌, ◌-◌, ◌*◌}
+use Prim.Native.Nat.{◌+◌, ◌*◌}
 use native.Mathlib.Omega.{arith}
-use lib.ListN.{get_or}
 use lib.ListN.{get_or-eq_default}
 use Rattle.items.specs.Items.{item_words}
-use borrow.Author.Rules.{rules}
 use Rattle.items.proofs.word_at.Goals as goal
 
 pub returns-then-i-n : goal.returns-then-i-n

@@ -1,10 +1,6 @@
-use mathlib.Core.Path.{◌≡◌, refl, sym, ◌∙◌}
-use Prim.Native.Nat.{ℕ, ◌-◌, ◌≤◌, ◌<◌}
+use mathlib.Core.Path.{refl, sym, ◌∙◌}
 use native.Mathlib.Omega.{arith}
-use borrow.Author.Rules.{rules}
-use borrow.Author.Tests.{not-true, not-false}
-use Rattle.layout.specs.Layout.{entry_at, span_of, is_group, part}
-use Rattle.spans.specs.Tree as spans
+use Rattle.layout.specs.Layout.{entry_at, span_of, is_group}
 use Rattle.spans.proofs.Tree.{nested-end, nested-deep, nested-span, nested-inner, nested-next, nested-single}
 use Rattle.layout.proofs.+nested.Goals as goal
 

@@ -1,8 +1,5 @@
 -- `layout::ask_layout` meets its contract: each way out by the law of that name.
-use Prim.Native.Nat.{◌-◌}
-use lib.ListN.{take}
 use Rattle.layout.proofs.Laws.{asks-unlawful, asks-work, asks_nothing}
-use borrow.Author.Rules.{rules}
 use Rattle.layout.proofs.ask_layout.Goals as goal
 
 pub returns-then-number-ne0 : goal.returns-then-number-ne0

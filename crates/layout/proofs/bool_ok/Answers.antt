@@ -1,7 +1,5 @@
 use mathlib.Core.Path.{sym, ◌∙◌}
-use borrow.Author.Tests.{not-true, not-false}
 use Rattle.layout.specs.Layout.{bool_ok}
-use borrow.Author.Rules.{rules}
 use Rattle.layout.proofs.bool_ok.Goals as goal
 
 pub returns-then-not-plain_ok : goal.returns-then-not-plain_ok

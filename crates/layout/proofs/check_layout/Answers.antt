@@ -1,7 +1,5 @@
 use mathlib.Core.Path.{sym, ◌∙◌}
-use borrow.Author.Tests.{not-true, not-false}
 use Rattle.layout.specs.Layout.{checked_of, spans_ok}
-use borrow.Author.Rules.{rules}
 use Rattle.layout.proofs.check_layout.Goals as goal
 
 pub returns-then-not-words_ok : goal.returns-then-not-words_ok

@@ -1,10 +1,5 @@
 -- `layout::controls` meets its contract: a law of Entries for each way out, by the kind that the way has found.
-use mathlib.Core.Bool.{true, false}
-use Prim.Native.Nat.{◌-◌}
-use lib.ListN.{take}
-use borrow.Author.Tests.{not-true, not-false}
 use Rattle.layout.proofs.Entries.{controls-table, controls-int, controls-binary, controls-decimal, controls-other}
-use borrow.Author.Rules.{rules}
 use Rattle.layout.proofs.controls.Goals as goal
 
 pub returns-then-not-unrepeated : goal.returns-then-not-unrepeated

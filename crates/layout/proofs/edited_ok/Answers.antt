@@ -1,7 +1,5 @@
 use mathlib.Core.Path.{sym, ◌∙◌}
-use borrow.Author.Tests.{not-true, not-false}
 use Rattle.layout.specs.Layout.{edited_ok}
-use borrow.Author.Rules.{rules}
 use Rattle.layout.proofs.edited_ok.Goals as goal
 
 pub returns-then-not-up_to : goal.returns-then-not-up_to

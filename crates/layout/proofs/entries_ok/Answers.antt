@@ -1,10 +1,6 @@
-use mathlib.Core.Path.{◌≡◌, refl}
-use mathlib.Core.Bool.{true}
-use Prim.Native.Nat.{◌-◌, ◌≤◌}
+use mathlib.Core.Path.{refl}
 use native.Mathlib.Omega.{arith}
-use borrow.Author.Rules.{rules}
-use borrow.Author.Tests.{not-true, not-false}
-use Rattle.layout.specs.Layout.{entry_at, entry_ok, all_below}
+use Rattle.layout.specs.Layout.{all_below}
 use Rattle.layout.proofs.Laws.{entries-all, entries-not, entries_next}
 use Rattle.layout.proofs.entries_ok.Goals as goal
 

@@ -1,6 +1,5 @@
 use native.Mathlib.Omega.{arith}
 use Rattle.layout.proofs.Laws.{reserved-small}
-use borrow.Author.Rules.{rules}
 use Rattle.layout.proofs.entry_end.Goals as goal
 
 pub overflow_add-result : goal.overflow_add-result

@@ -1,7 +1,5 @@
 use mathlib.Core.Path.{◌∙◌}
-use Prim.Native.Nat.{◌-◌}
 use Rattle.layout.proofs.Laws.{alone}
-use borrow.Author.Rules.{rules}
 use Rattle.layout.proofs.entry_ok.Goals as goal
 
 pub returns : goal.returns

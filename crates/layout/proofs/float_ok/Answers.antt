@@ -1,7 +1,5 @@
 use mathlib.Core.Path.{sym, ◌∙◌}
-use borrow.Author.Tests.{not-true, not-false}
 use Rattle.layout.proofs.Judged.{float-not, float-16, float-32, float-64, float-other}
-use borrow.Author.Rules.{rules}
 use Rattle.layout.proofs.float_ok.Goals as goal
 
 pub returns-then-not-plain_ok : goal.returns-then-not-plain_ok

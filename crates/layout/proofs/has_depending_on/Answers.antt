@@ -1,9 +1,6 @@
-use mathlib.Core.Path.{◌≡◌, refl}
-use mathlib.Core.Bool.{false}
-use Prim.Native.Nat.{◌-◌, ◌≤◌}
+use mathlib.Core.Path.{refl}
 use native.Mathlib.Omega.{arith}
-use borrow.Author.Rules.{rules}
-use Rattle.layout.specs.Layout.{entry_at, present, some_below}
+use Rattle.layout.specs.Layout.{some_below}
 use Rattle.layout.proofs.Laws.{depends-none, depends-here, depends-next}
 use Rattle.layout.proofs.has_depending_on.Goals as goal
 

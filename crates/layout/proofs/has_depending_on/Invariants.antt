@@ -1,10 +1,7 @@
-use mathlib.Core.Path.{◌≡◌, refl}
+use mathlib.Core.Path.{◌≡◌}
 use mathlib.Core.Bool.{false}
 use Prim.Native.Nat.{◌-◌, ◌≤◌}
-use native.Mathlib.Omega.{arith}
-use borrow.Author.Rules.{rules}
 use Rattle.layout.specs.Layout.{entry_at, present, some_below}
-use Rattle.layout.proofs.Laws.{depends-none, depends-here, depends-next}
 use Rattle.layout.proofs.has_depending_on.Given as goal
 
 abbrev pub invariant-loop-i : goal.invariant-loop-i

@@ -1,7 +1,5 @@
 use mathlib.Core.Path.{sym, ◌∙◌}
-use borrow.Author.Tests.{not-true, not-false}
 use Rattle.layout.specs.Layout.{entry_ok}
-use borrow.Author.Rules.{rules}
 use Rattle.layout.proofs.in_range.Goals as goal
 
 pub returns-then-not-place_ok : goal.returns-then-not-place_ok

@@ -1,6 +1,5 @@
 use Rattle.layout.specs.Layout.{kind_ok}
 use Rattle.layout.proofs.Judged.{kind_at, kind-other}
-use borrow.Author.Rules.{rules}
 use Rattle.layout.proofs.kind_ok.Goals as goal
 
 pub returns-in-0 : goal.returns-in-0

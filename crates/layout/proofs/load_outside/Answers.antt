@@ -1,5 +1,4 @@
 use Rattle.layout.proofs.Judged.{entry_of}
-use borrow.Author.Rules.{rules}
 use Rattle.layout.proofs.load_outside.Goals as goal
 
 pub returns : goal.returns

@@ -1,8 +1,6 @@
 use mathlib.Core.Path.{sym, ◌∙◌}
 use borrow.Author.Tests.{le-leb, lt-leb}
-use borrow.Author.Tests.{not-true, not-false}
 use Rattle.layout.specs.Layout.{place_ok}
-use borrow.Author.Rules.{rules}
 use Rattle.layout.proofs.place_ok.Goals as goal
 
 pub returns-then-e-gt65535 : goal.returns-then-e-gt65535

@@ -1,9 +1,5 @@
-use mathlib.Core.Path.{◌≡◌, ◌∙◌}
-use Prim.Native.Nat.{◌-◌}
-use borrow.Author.Rules.{rules}
-use Prim.Native.Nat.{max}
+use mathlib.Core.Path.{◌∙◌}
 use Rattle.spans.proofs.Tree.{end-single}
-use Rattle.layout.specs.Layout.{part, furthest}
 use Rattle.layout.proofs.Laws.{furthest-more, length-starts, length-is}
 use Rattle.layout.proofs.record_length.Goals as goal
 

@@ -1,10 +1,7 @@
-use mathlib.Core.Path.{◌≡◌, ◌∙◌}
+use mathlib.Core.Path.{◌≡◌}
 use Prim.Native.Nat.{◌-◌}
-use borrow.Author.Rules.{rules}
 use Prim.Native.Nat.{max}
-use Rattle.spans.proofs.Tree.{end-single}
 use Rattle.layout.specs.Layout.{part, furthest}
-use Rattle.layout.proofs.Laws.{furthest-more, length-starts, length-is}
 use Rattle.layout.proofs.record_length.Given as goal
 
 abbrev pub invariant-loop-i : goal.invariant-loop-i

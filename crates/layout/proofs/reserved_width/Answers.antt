@@ -1,7 +1,6 @@
 use native.Mathlib.Omega.{arith}
 use Rattle.layout.proofs.Judged.{reserved-depends, reserved-once, reserved-times}
 use Rattle.layout.proofs.Laws.{product-fits}
-use borrow.Author.Rules.{rules}
 use Rattle.layout.proofs.reserved_width.Goals as goal
 
 pub returns-then-e-ne-ABSENT : goal.returns-then-e-ne-ABSENT

@@ -1,5 +1,3 @@
-use Prim.Native.Nat.{◌-◌}
-use lib.ListN.{take}
 use Rattle.layout.proofs.Entries.{repeated-word, unrepeated-word}
 use Rattle.layout.proofs.unrepeated.Goals as goal
 

@@ -1,7 +1,4 @@
-use Prim.Native.Nat.{◌-◌}
-use lib.ListN.{take}
 use Rattle.layout.proofs.Entries.{leaf-group, leaf-other}
-use borrow.Author.Rules.{rules}
 use Rattle.layout.proofs.unrepeated_leaf.Goals as goal
 
 pub returns-then-e-eq-KIND_GROUP : goal.returns-then-e-eq-KIND_GROUP

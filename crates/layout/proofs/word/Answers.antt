@@ -1,6 +1,5 @@
 use native.Mathlib.Omega.{arith}
 use Rattle.layout.proofs.Judged.{past_end}
-use borrow.Author.Rules.{rules}
 use Rattle.layout.proofs.word.Goals as goal
 
 pub returns-then-layout-i : goal.returns-then-layout-i

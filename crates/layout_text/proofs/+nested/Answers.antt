@@ -1,9 +1,5 @@
-use mathlib.Core.Path.{◌≡◌, refl, sym, ◌∙◌}
-use Prim.Native.Nat.{ℕ, ◌-◌, ◌≤◌, ◌<◌}
+use mathlib.Core.Path.{refl, sym, ◌∙◌}
 use native.Mathlib.Omega.{arith}
-use borrow.Author.Rules.{rules}
-use borrow.Author.Tests.{not-true, not-false}
-use Rattle.layout_text.specs.Walk.{nested_in}
 use Rattle.layout_text.proofs.Levels.{in_end, in-deep, in_span, in_inner, in-next}
 use Rattle.layout_text.proofs.+nested.Goals as goal
 

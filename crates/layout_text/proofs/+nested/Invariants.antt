@@ -1,10 +1,6 @@
-use mathlib.Core.Path.{◌≡◌, refl, sym, ◌∙◌}
-use Prim.Native.Nat.{ℕ, ◌-◌, ◌≤◌, ◌<◌}
-use native.Mathlib.Omega.{arith}
-use borrow.Author.Rules.{rules}
-use borrow.Author.Tests.{not-true, not-false}
+use mathlib.Core.Path.{◌≡◌}
+use Prim.Native.Nat.{◌-◌, ◌≤◌}
 use Rattle.layout_text.specs.Walk.{nested_in}
-use Rattle.layout_text.proofs.Levels.{in_end, in-deep, in_span, in_inner, in-next}
 use Rattle.layout_text.proofs.+nested.Given as goal
 
 abbrev pub decreases-nested : goal.decreases-nested

@@ -1,8 +1,5 @@
 use mathlib.Core.Path.{◌∙◌}
-use Prim.Native.Nat.{◌-◌}
-use lib.ListN.{length}
 use Rattle.layout_text.proofs.Answers.{answer-is, number-given, text-small}
-use borrow.Author.Rules.{rules}
 use Rattle.layout_text.proofs.ask.Goals as goal
 
 pub returns : goal.returns

@@ -1,15 +1,11 @@
 use mathlib.Core.Path.{◌≡◌, refl, sym, ap, ◌∙◌}
-use mathlib.Core.Bool.{Bool, true, false}
-use Prim.Native.Nat.{ℕ, ◌-◌}
+use mathlib.Core.Bool.{Bool}
+use Prim.Native.Nat.{ℕ}
 use borrow.Author.Tests.{eq-eqb, ne_eqb}
-use lib.Dec.{eqb}
-use lib.ListN.{length, take}
-use borrow.Author.Tests.{not-true, not-false}
 use Rattle.layout.specs.declared.Entry.{Entry}
 use Rattle.layout.specs.Layout.{entry_ok}
 use Rattle.layout_text.specs.declared.Said.{Said}
 use Rattle.layout_text.specs.Walk.{fine_alone, entry_with}
-use borrow.Author.Rules.{rules}
 use Rattle.layout_text.proofs.entry_fine.Goals as goal
 
 known : (e : Entry) (said : Said) (b : Bool) (n : ℕ) → e ≡ entry_with said 0 0 0 → b ≡ entry_ok e n → entry_ok (entry_with said 0 0 0) n ≡ b

@@ -1,9 +1,6 @@
-use Prim.Native.Nat.{◌-◌}
-use lib.ListN.{set}
 use Rattle.layout_text.specs.Form.{name_word, offset_word, width_word, kind_word, occurs_word, depending_word, span_word, p_word, q_word, r_word, mask_word}
 use Rattle.layout_text.proofs.Values.{line-within, mask-order}
 use Rattle.layout_text.proofs.Eleven.{tells}
-use borrow.Author.Rules.{rules}
 use Rattle.layout_text.proofs.entry_lines.Goals as goal
 
 pub name_in-name-requires : goal.name_in-name-requires

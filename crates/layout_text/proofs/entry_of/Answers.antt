@@ -1,7 +1,5 @@
 use mathlib.Core.Path.{refl}
-use Prim.Native.Nat.{◌-◌}
 use Rattle.layout_text.specs.Walk.{entry_with}
-use borrow.Author.Rules.{rules}
 use Rattle.layout_text.proofs.entry_of.Goals as goal
 
 pub returns : goal.returns

@@ -1,8 +1,5 @@
 use mathlib.Core.Path.{refl}
-use Prim.Native.Nat.{◌-◌}
 use borrow.Author.Tests.{eq-eqb, ne_eqb}
-use lib.Dec.{eqb}
-use lib.ListN.{take}
 use Rattle.layout_text.proofs.group_flag.Goals as goal
 
 pub returns-then-kind-eq-KIND_GROUP : goal.returns-then-kind-eq-KIND_GROUP

@@ -1,8 +1,6 @@
 use mathlib.Core.Path.{sym, ◌∙◌}
-use Prim.Native.Nat.{◌-◌}
-use lib.ListN.{length, take}
 use borrow.Author.Rules.{rules}
-use Rattle.layout_text.proofs.Judging.{Going, going_start, going-room, going-inside, going_on, going_next, going-stop, going_end, none_found}
+use Rattle.layout_text.proofs.Judging.{going_start, going-room, going-inside, going_on, going_next, going-stop, going_end, none_found}
 use Rattle.layout_text.proofs.judge.Goals as goal
 
 pub returns-then-at-eq0 : goal.returns-then-at-eq0

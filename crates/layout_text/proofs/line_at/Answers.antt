@@ -1,10 +1,6 @@
 use mathlib.Core.Path.{refl, ap, ◌∙◌}
-use Prim.Native.Nat.{◌-◌}
 use borrow.Author.Tests.{eq-eqb, ne_eqb}
-use lib.Dec.{eqb}
-use lib.ListN.{take}
 use Rattle.layout_text.specs.Walk.{part_of, line_at}
-use borrow.Author.Rules.{rules}
 use Rattle.layout_text.proofs.line_at.Goals as goal
 
 pub returns-then-at-eq0 : goal.returns-then-at-eq0

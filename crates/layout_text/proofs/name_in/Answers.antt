@@ -1,7 +1,4 @@
 use mathlib.Core.Path.{refl}
-use Prim.Native.Nat.{◌-◌}
-use lib.ListN.{take}
-use borrow.Author.Rules.{rules}
 use Rattle.layout_text.proofs.name_in.Goals as goal
 
 pub returns-then-name_ok : goal.returns-then-name_ok

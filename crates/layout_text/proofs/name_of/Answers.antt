@@ -1,10 +1,7 @@
 -- `layout_text::name_of` meets its contract: a refused text has no names, and of any other `spelled` gives the first spelling.
 use mathlib.Core.Path.{ap, ◌∙◌}
-use Prim.Native.Nat.{◌-◌}
-use lib.ListN.{take}
 use Rattle.lists.specs.Part.{place_in}
 use Rattle.layout_text.proofs.Spellings.{spelled-there, place-there, names-last, spelled-not, place-not}
-use borrow.Author.Rules.{rules}
 use Rattle.layout_text.proofs.name_of.Goals as goal
 
 pub returns-then-r-ne0 : goal.returns-then-r-ne0

@@ -1,8 +1,8 @@
 -- `layout_text::name_starts` meets its contract: the table is zeros where the text is refused, and else what `see_all` leaves with zeros behind (`table-cells`).
 use mathlib.Core.Path.{ap, ◌∙◌}
 use mathlib.Core.List.{List, []}
-use Prim.Native.Nat.{ℕ, ◌-◌}
-use lib.ListN.{length, take, get_or}
+use Prim.Native.Nat.{ℕ}
+use lib.ListN.{length, get_or}
 use Rattle.layout_text.proofs.Spellings.{table-names, table-count, table-cells, place-there, count-there, spelled-there, names-last, count-not, spelled-not, cells-not}
 use borrow.Author.Rules.{rules}
 use Rattle.layout_text.proofs.name_starts.Goals as goal

@@ -1,13 +1,11 @@
 -- `layout_text::name_with` meets its contract: a number that the table lacks has the empty part at the front of the text, any other the line at its start.
 use mathlib.Core.Path.{sym, ap, ◌∙◌}
-use Prim.Native.Nat.{ℕ, ◌-◌}
+use Prim.Native.Nat.{ℕ}
 use native.Mathlib.Omega.{arith}
-use lib.ListN.{take, get_or}
 use Rattle.lists.specs.Part.{place_in}
 use Rattle.lines.specs.Lines.{line_from, start_in}
 use lib.Seq.{get_or-take}
 use Rattle.layout_text.proofs.Spellings.{name-none, start_none, name-there}
-use borrow.Author.Rules.{rules}
 use Rattle.layout_text.proofs.name_with.Goals as goal
 
 pub returns-then-count-n : goal.returns-then-count-n

@@ -1,8 +1,5 @@
 use mathlib.Core.Path.{sym}
-use Prim.Native.Nat.{◌-◌}
-use lib.ListN.{length, set}
 use lib.Seq.{set_out}
-use borrow.Author.Rules.{rules}
 use Rattle.layout_text.proofs.note.Goals as goal
 
 pub returns-else-k-spans : goal.returns-else-k-spans

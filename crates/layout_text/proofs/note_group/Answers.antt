@@ -1,10 +1,9 @@
 use mathlib.Core.Path.{sym, ap}
-use Prim.Native.Nat.{ℕ, ◌-◌}
+use Prim.Native.Nat.{ℕ}
 use lib.Dec.{eqb}
-use lib.ListN.{length, set}
+use lib.ListN.{set}
 use lib.Seq.{set_out}
 use mathlib.Core.Bool.{cond}
-use borrow.Author.Rules.{rules}
 use Rattle.layout_text.proofs.note_group.Goals as goal
 
 pub returns-then-k-groups : goal.returns-then-k-groups

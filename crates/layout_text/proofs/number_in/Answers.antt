@@ -1,8 +1,7 @@
 use mathlib.Core.Path.{ap, ◌∙◌}
-use Prim.Native.Nat.{ℕ, ◌-◌}
+use Prim.Native.Nat.{ℕ}
 use Rattle.layout_text.specs.Walk.{number_with}
 use Rattle.value.specs.Answer.{Answer}
-use borrow.Author.Rules.{rules}
 use Rattle.layout_text.proofs.number_in.Goals as goal
 
 pub returns : goal.returns

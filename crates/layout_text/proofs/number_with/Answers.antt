@@ -1,9 +1,7 @@
 use mathlib.Core.Path.{sym, ap}
-use Prim.Native.Nat.{◌-◌}
 use Rattle.layout_text.specs.Walk.{number_with}
 use Rattle.lines.specs.declared.Parsed.{Parsed}
 use Rattle.lines.specs.Lines.{parsed_as}
-use borrow.Author.Rules.{rules}
 use Rattle.layout_text.proofs.number_with.Goals as goal
 
 pub returns-in-Value : goal.returns-in-Value

@@ -1,10 +1,8 @@
 use mathlib.Core.Path.{ap, ◌∙◌}
-use Prim.Native.Nat.{◌-◌}
 use Rattle.layout_text.specs.Form.{page_word}
 use Rattle.layout_text.specs.Walk.{part_of}
 use Rattle.layout_text.proofs.Values.{found_within}
 use Rattle.layout_text.proofs.Page.{page-told}
-use borrow.Author.Rules.{rules}
 use Rattle.layout_text.proofs.page_line.Goals as goal
 
 pub number_in-requires : goal.number_in-requires

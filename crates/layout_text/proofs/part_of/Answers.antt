@@ -1,9 +1,7 @@
 use mathlib.Core.Path.{sym, ap}
-use Prim.Native.Nat.{◌-◌}
 use Rattle.lines.specs.declared.Found.{Found}
 use Rattle.lines.specs.Lines.{found_as}
 use Rattle.layout_text.specs.Walk.{part_of}
-use borrow.Author.Rules.{rules}
 use Rattle.layout_text.proofs.part_of.Goals as goal
 
 pub returns-in-At : goal.returns-in-At

@@ -1,8 +1,6 @@
-use Prim.Native.Nat.{◌-◌, ◌*◌}
-use lib.ListN.{length}
+use Prim.Native.Nat.{◌*◌}
 use Rattle.layout_text.specs.Reading.{twelve}
 use Rattle.layout_text.proofs.Storing.{put-part}
-use borrow.Author.Rules.{rules}
 use Rattle.layout_text.proofs.put_entry.Goals as goal
 
 pub returns : goal.returns

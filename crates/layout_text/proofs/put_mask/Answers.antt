@@ -1,12 +1,11 @@
 -- `layout_text::put_mask` meets its contract: the mask is copied into the part of the masks that is as long as it is (`copy-part`).
 use mathlib.Core.Path.{ap, ◌∙◌}
 use mathlib.Core.List.{List, ◌++◌}
-use Prim.Native.Nat.{ℕ, ◌+◌, ◌-◌}
+use Prim.Native.Nat.{ℕ, ◌+◌}
 use native.Mathlib.Omega.{arith}
 use lib.ListN.{length, take, drop}
 use lib.Seq.{take-length}
 use Rattle.lists.proofs.Part.{copy-part}
-use borrow.Author.Rules.{rules}
 use Rattle.layout_text.proofs.put_mask.Goals as goal
 
 pub returns : goal.returns

@@ -1,8 +1,6 @@
-use Prim.Native.Nat.{◌-◌}
 use native.Mathlib.Omega.{arith}
-use lib.ListN.{length, set, length-set}
+use lib.ListN.{length-set}
 use Rattle.layout_text.proofs.Twelve.{stored}
-use borrow.Author.Rules.{rules}
 use Rattle.layout_text.proofs.put_words.Goals as goal
 
 pub bounds-out-1 : goal.bounds-out-1

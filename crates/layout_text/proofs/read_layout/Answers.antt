@@ -1,8 +1,5 @@
 -- `layout_text::read_layout` meets its contract: a refusal leaves the zeros that were put first, and else `store_all` puts the words and masks over their front.
-use Prim.Native.Nat.{◌-◌}
-use lib.ListN.{length, take}
 use Rattle.layout_text.proofs.Answers.{refused_all, can_store, stored-all}
-use borrow.Author.Rules.{rules}
 use Rattle.layout_text.proofs.read_layout.Goals as goal
 
 pub returns-then-r-ne0 : goal.returns-then-r-ne0

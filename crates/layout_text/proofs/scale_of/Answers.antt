@@ -1,8 +1,5 @@
 use mathlib.Core.Path.{refl}
-use Prim.Native.Nat.{◌-◌}
 use borrow.Author.Tests.{eq-eqb, ne_eqb}
-use lib.Dec.{eqb}
-use lib.ListN.{take}
 use Rattle.layout_text.proofs.scale_of.Goals as goal
 
 pub returns-then-kind-eq-KIND_DECIMAL : goal.returns-then-kind-eq-KIND_DECIMAL

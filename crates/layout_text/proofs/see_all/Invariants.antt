@@ -1,10 +1,6 @@
 -- `layout_text::see_all` meets its contract. The invariant `Seen-to` says what the table holds before the k-th entry; `seen_next` is one entry, and the entries that are left fall.
-use mathlib.Core.Path.{◌≡◌, sym, ◌∙◌}
 use Prim.Native.Nat.{◌-◌, ◌≤◌}
-use native.Mathlib.Omega.{arith}
-use lib.ListN.{length, take}
-use borrow.Author.Rules.{rules}
-use Rattle.layout_text.proofs.Storing.{Seen-to, page-lasts, seen_start, seen-room, seen_next, seen-count, seen-table, seen-known}
+use Rattle.layout_text.proofs.Storing.{Seen-to}
 use Rattle.layout_text.proofs.see_all.Given as goal
 
 abbrev pub invariant-loop-k : goal.invariant-loop-k

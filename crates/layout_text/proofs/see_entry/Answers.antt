@@ -1,6 +1,4 @@
 -- `layout_text::see_entry` meets its contract: one sight of a name after the other (`one_name`, `two-names`), each as `see_name` ensures it.
-use Prim.Native.Nat.{◌-◌}
-use lib.ListN.{length, take}
 use Rattle.layout_text.proofs.Sights.{number_small, one_name, two-names}
 use borrow.Author.Rules.{rules}
 use Rattle.layout_text.proofs.see_entry.Goals as goal

@@ -1,11 +1,10 @@
 -- `layout_text::spelled` meets its contract: the table that `see_all` leaves has the different names and their first starts (`table-names`, `table-place`).
 use mathlib.Core.Path.{ap, ◌∙◌}
 use mathlib.Core.List.{List, []}
-use Prim.Native.Nat.{ℕ, ◌-◌}
+use Prim.Native.Nat.{ℕ}
 use lib.ListN.{get_or}
 use Rattle.lists.specs.Part.{place_in}
 use Rattle.layout_text.proofs.Spellings.{table-names, table-place}
-use borrow.Author.Rules.{rules}
 use Rattle.layout_text.proofs.spelled.Goals as goal
 
 pub returns : goal.returns

@@ -1,13 +1,13 @@
 -- `layout_text::store` meets its contract. The invariant `Stored` says what table, words and masks hold before the k-th entry; `stored_next` is one entry, and the entries that are left fall.
 use mathlib.Core.Path.{◌≡◌, sym, ap, ◌∙◌}
-use Prim.Native.Nat.{ℕ, ◌-◌, ◌≤◌}
+use Prim.Native.Nat.{ℕ}
 use native.Mathlib.Omega.{arith}
-use lib.ListN.{length, take}
+use lib.ListN.{length}
 use borrow.Author.Rules.{rules}
 use Rattle.layout_text.specs.Form.{lines_of, count_of}
 use Rattle.layout_text.specs.Reading.{masks_below}
 use Rattle.layout_text.proofs.Words.{words_long}
-use Rattle.layout_text.proofs.Storing.{Stored, page-lasts, seen-room, seen_next, stored-start, words_same, masks-same, told, inside, masks-room, part-long, stored_next, stored-end}
+use Rattle.layout_text.proofs.Storing.{page-lasts, seen-room, seen_next, stored-start, words_same, masks-same, told, inside, masks-room, part-long, stored_next, stored-end}
 use Rattle.layout_text.proofs.store.Goals as goal
 
 pub loop-k-init : goal.loop-k-init

@@ -1,11 +1,8 @@
-use mathlib.Core.Path.{◌≡◌, sym, ap, ◌∙◌}
-use Prim.Native.Nat.{zero, ◌+◌, ◌-◌, ◌≤◌}
+use mathlib.Core.Path.{sym, ap, ◌∙◌}
 use native.Mathlib.Omega.{arith}
-use lib.ListN.{length, take, drop}
-use borrow.Author.Rules.{rules}
 use native.Mathlib.Nat.{zero-add}
 use Rattle.lines.specs.Lines.{line_from}
-use Rattle.lines.specs.Names.{same_name, index_in, names_at}
+use Rattle.lines.specs.Names.{same_name}
 use Rattle.lines.proofs.Sight.{index-go, index-stop, index-end}
 use Rattle.lines.proofs.find_name.Goals as goal
 

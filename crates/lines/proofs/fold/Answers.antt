@@ -1,8 +1,4 @@
-use Prim.Native.Nat.{◌-◌}
 use borrow.Author.Tests.{le-leb, lt-leb}
-use lib.Dec.{leb}
-use lib.ListN.{take}
-use borrow.Author.Rules.{rules}
 use Rattle.lines.proofs.fold.Goals as goal
 
 pub returns-then-x-lt65 : goal.returns-then-x-lt65

@@ -1,8 +1,5 @@
 use mathlib.Core.Path.{sym}
-use Prim.Native.Nat.{◌-◌}
-use lib.ListN.{take}
 use Rattle.lines.proofs.Laws.{leads-none, leads_one, leads-more}
-use borrow.Author.Rules.{rules}
 use Rattle.lines.proofs.has_lead.Goals as goal
 
 pub returns-then-s-eq0 : goal.returns-then-s-eq0

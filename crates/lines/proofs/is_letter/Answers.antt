@@ -1,8 +1,5 @@
-use Prim.Native.Nat.{◌-◌}
 use native.Mathlib.Omega.{arith}
 use borrow.Author.Tests.{le-leb, lt-leb}
-use lib.Dec.{leb}
-use lib.ListN.{take}
 use Rattle.lines.proofs.is_letter.Goals as goal
 
 pub returns-then-x-lt65 : goal.returns-then-x-lt65

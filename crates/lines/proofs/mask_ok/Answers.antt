@@ -1,11 +1,6 @@
-use mathlib.Core.Path.{◌≡◌, refl, sym, ◌∙◌}
-use Prim.Native.Nat.{◌-◌, ◌≤◌}
+use mathlib.Core.Path.{refl, sym, ◌∙◌}
 use native.Mathlib.Omega.{arith}
 use borrow.Author.Tests.{le-leb, lt-leb}
-use lib.Dec.{leb}
-use lib.ListN.{length, take, drop}
-use borrow.Author.Rules.{rules}
-use Rattle.lists.specs.Scan.{every_by}
 use Rattle.lists.proofs.Scan.{every-go, every-stop, every-end}
 use Rattle.lines.specs.Lines.{in_mask}
 use Rattle.lines.proofs.mask_ok.Goals as goal

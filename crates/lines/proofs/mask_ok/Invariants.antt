@@ -1,12 +1,7 @@
-use mathlib.Core.Path.{◌≡◌, refl, sym, ◌∙◌}
+use mathlib.Core.Path.{◌≡◌}
 use Prim.Native.Nat.{◌-◌, ◌≤◌}
-use native.Mathlib.Omega.{arith}
-use borrow.Author.Tests.{le-leb, lt-leb}
-use lib.Dec.{leb}
-use lib.ListN.{length, take, drop}
-use borrow.Author.Rules.{rules}
+use lib.ListN.{length, drop}
 use Rattle.lists.specs.Scan.{every_by}
-use Rattle.lists.proofs.Scan.{every-go, every-stop, every-end}
 use Rattle.lines.specs.Lines.{in_mask}
 use Rattle.lines.proofs.mask_ok.Given as goal
 

@@ -1,9 +1,6 @@
 -- `lines::name_at` meets its contract: the part up to the next 0x0A is the line from the position (`line-is`), and stands where it was cut out.
 use mathlib.Core.Path.{ap}
-use Prim.Native.Nat.{◌-◌}
-use lib.ListN.{take}
 use Rattle.lines.proofs.Laws.{line-is, none-past, start-past, start-there}
-use borrow.Author.Rules.{rules}
 use Rattle.lists.specs.Part.{place_in}
 use Rattle.lists.proofs.Part.{place-front}
 use Rattle.lines.proofs.name_at.Goals as goal

@@ -1,13 +1,9 @@
-use mathlib.Core.Path.{◌≡◌, sym, ◌∙◌}
-use mathlib.Core.Bool.{true, false}
-use Prim.Native.Nat.{◌-◌, ◌≤◌, ◌<◌}
+use mathlib.Core.Path.{sym, ◌∙◌}
+use Prim.Native.Nat.{◌≤◌}
 use native.Mathlib.Omega.{arith}
-use lib.ListN.{length, take, drop, get_or}
+use lib.ListN.{get_or}
 use borrow.Author.Rules.{rules}
-use borrow.Author.Tests.{not-true, not-false}
-use Rattle.codes.specs.Codes.{absent}
-use Rattle.lines.specs.Lines.{number_of}
-use Rattle.lines.proofs.Laws.{number_from, number-start, number-lead, number-go, number-stop, number-over, number-end, digit-least, digit-most}
+use Rattle.lines.proofs.Laws.{number-start, number-lead, number-go, number-stop, number-over, number-end, digit-least, digit-most}
 use Rattle.lines.proofs.number_of.Goals as goal
 
 pub returns-then-not-has_lead : goal.returns-then-not-has_lead

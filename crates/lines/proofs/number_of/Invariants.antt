@@ -1,13 +1,9 @@
-use mathlib.Core.Path.{◌≡◌, sym, ◌∙◌}
-use mathlib.Core.Bool.{true, false}
+use mathlib.Core.Path.{◌≡◌}
 use Prim.Native.Nat.{◌-◌, ◌≤◌, ◌<◌}
-use native.Mathlib.Omega.{arith}
-use lib.ListN.{length, take, drop, get_or}
-use borrow.Author.Rules.{rules}
-use borrow.Author.Tests.{not-true, not-false}
+use lib.ListN.{length, drop}
 use Rattle.codes.specs.Codes.{absent}
 use Rattle.lines.specs.Lines.{number_of}
-use Rattle.lines.proofs.Laws.{number_from, number-start, number-lead, number-go, number-stop, number-over, number-end, digit-least, digit-most}
+use Rattle.lines.proofs.Laws.{number_from}
 use Rattle.lines.proofs.number_of.Given as goal
 
 abbrev pub invariant-loop-i : goal.invariant-loop-i

@@ -1,9 +1,5 @@
-use mathlib.Core.Path.{◌≡◌, refl, sym, ◌∙◌}
-use Prim.Native.Nat.{◌-◌, ◌≤◌}
+use mathlib.Core.Path.{refl, sym, ◌∙◌}
 use native.Mathlib.Omega.{arith}
-use lib.ListN.{length, take, drop}
-use borrow.Author.Rules.{rules}
-use Rattle.lines.specs.Names.{same_name}
 use Rattle.lines.proofs.Sight.{same-short, same-go, same_stop, same_end}
 use Rattle.lines.proofs.same_name.Goals as goal
 

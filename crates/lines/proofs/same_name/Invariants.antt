@@ -1,10 +1,7 @@
-use mathlib.Core.Path.{◌≡◌, refl, sym, ◌∙◌}
+use mathlib.Core.Path.{◌≡◌}
 use Prim.Native.Nat.{◌-◌, ◌≤◌}
-use native.Mathlib.Omega.{arith}
-use lib.ListN.{length, take, drop}
-use borrow.Author.Rules.{rules}
+use lib.ListN.{length, drop}
 use Rattle.lines.specs.Names.{same_name}
-use Rattle.lines.proofs.Sight.{same-short, same-go, same_stop, same_end}
 use Rattle.lines.proofs.same_name.Given as goal
 
 abbrev pub invariant-loop-i : goal.invariant-loop-i

@@ -1,11 +1,7 @@
 use mathlib.Core.Path.{◌≡◌, refl}
-use Prim.Native.Nat.{◌-◌}
 use borrow.Author.Tests.{lt-ltb, le-ltb, eq-eqb, ne_eqb}
-use lib.Dec.{eqb, ltb}
-use lib.ListN.{length, take}
 use Rattle.lines.specs.Names.{number_at}
 use Rattle.lines.proofs.Sight.{number_is}
-use borrow.Author.Rules.{rules}
 use Rattle.lines.proofs.see_name.Goals as goal
 
 pub returns-then-k-count : goal.returns-then-k-count

@@ -1,9 +1,5 @@
-use mathlib.Core.Path.{◌≡◌, refl, sym, ◌∙◌}
-use Prim.Native.Nat.{◌-◌, ◌≤◌}
+use mathlib.Core.Path.{refl, sym, ◌∙◌}
 use native.Mathlib.Omega.{arith}
-use lib.ListN.{length, take, drop}
-use borrow.Author.Rules.{rules}
-use Rattle.lines.specs.Lines.{starts_with}
 use Rattle.lines.proofs.Laws.{starts-short, starts-go, starts-stop, starts-end}
 use Rattle.lines.proofs.starts_with.Goals as goal
 

@@ -1,10 +1,7 @@
-use mathlib.Core.Path.{◌≡◌, refl, sym, ◌∙◌}
+use mathlib.Core.Path.{◌≡◌}
 use Prim.Native.Nat.{◌-◌, ◌≤◌}
-use native.Mathlib.Omega.{arith}
-use lib.ListN.{length, take, drop}
-use borrow.Author.Rules.{rules}
+use lib.ListN.{length, drop}
 use Rattle.lines.specs.Lines.{starts_with}
-use Rattle.lines.proofs.Laws.{starts-short, starts-go, starts-stop, starts-end}
 use Rattle.lines.proofs.starts_with.Given as goal
 
 abbrev pub invariant-loop-i : goal.invariant-loop-i

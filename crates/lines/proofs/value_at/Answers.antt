@@ -1,8 +1,5 @@
 use mathlib.Core.Path.{sym, ◌∙◌}
-use Prim.Native.Nat.{◌-◌}
-use lib.ListN.{take}
 use Rattle.lines.proofs.Laws.{line-open, line_other, line-found, line-past}
-use borrow.Author.Rules.{rules}
 use Rattle.lines.proofs.value_at.Goals as goal
 
 pub returns-then-text-at : goal.returns-then-text-at

@@ -1,11 +1,10 @@
 -- `lists::copy` meets its contract. The invariant: the first i bytes of the buffer are the source's, the rest is as it was. The bytes left to copy fall.
-use mathlib.Core.Path.{◌≡◌, refl, ap, ◌∙◌}
-use mathlib.Core.List.{List, ◌++◌, map}
-use Prim.Native.Nat.{ℕ, ◌-◌, ◌≤◌, ◌<◌}
+use mathlib.Core.Path.{refl, ap, ◌∙◌}
+use mathlib.Core.List.{List, ◌++◌}
+use Prim.Native.Nat.{ℕ, ◌<◌}
 use native.Mathlib.Nat.{le_antisymm}
 use native.Mathlib.Omega.{arith}
 use lib.ListN.{length, take, drop, length-set}
-use borrow.Author.Rules.{rules}
 use Rattle.lists.proofs.Lists.{copy-go, copy-all, map_same}
 use Rattle.lists.proofs.copy.Goals as goal
 

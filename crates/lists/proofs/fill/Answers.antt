@@ -1,9 +1,7 @@
 use mathlib.Core.Path.{◌≡◌, refl, ◌∙◌}
-use mathlib.Core.List.{◌++◌}
-use Prim.Native.Nat.{◌+◌, ◌-◌, ◌≤◌, ◌<◌}
+use Prim.Native.Nat.{◌<◌}
 use native.Mathlib.Omega.{arith}
-use lib.ListN.{length, drop, set, replicate, length-set}
-use borrow.Author.Rules.{rules}
+use lib.ListN.{length, length-set}
 use borrow.Author.Fill.{fill_more}
 use Rattle.lists.proofs.Lists.{fill_end}
 use Rattle.lists.proofs.fill.Goals as goal

@@ -1,11 +1,7 @@
-use mathlib.Core.Path.{◌≡◌, refl, ◌∙◌}
+use mathlib.Core.Path.{◌≡◌}
 use mathlib.Core.List.{◌++◌}
-use Prim.Native.Nat.{◌+◌, ◌-◌, ◌≤◌, ◌<◌}
-use native.Mathlib.Omega.{arith}
-use lib.ListN.{length, drop, set, replicate, length-set}
-use borrow.Author.Rules.{rules}
-use borrow.Author.Fill.{fill_more}
-use Rattle.lists.proofs.Lists.{fill_end}
+use Prim.Native.Nat.{◌-◌, ◌≤◌}
+use lib.ListN.{length, drop, replicate}
 use Rattle.lists.proofs.fill.Given as goal
 
 abbrev pub invariant-loop-i : goal.invariant-loop-i

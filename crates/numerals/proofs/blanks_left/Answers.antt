@@ -1,9 +1,5 @@
-use mathlib.Core.Path.{◌≡◌, refl, sym, ◌∙◌}
-use Prim.Native.Nat.{◌-◌, ◌≤◌}
+use mathlib.Core.Path.{refl, sym, ◌∙◌}
 use native.Mathlib.Omega.{arith}
-use lib.ListN.{length, take, drop}
-use borrow.Author.Rules.{rules}
-use Rattle.lists.specs.Scan.{left_by}
 use Rattle.lists.proofs.Scan.{left-go, left-stop, left_end}
 use Rattle.numerals.proofs.Reading.{blank_on}
 use Rattle.numerals.proofs.blanks_left.Goals as goal

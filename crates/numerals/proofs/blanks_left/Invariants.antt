@@ -1,10 +1,7 @@
-use mathlib.Core.Path.{◌≡◌, refl, sym, ◌∙◌}
+use mathlib.Core.Path.{◌≡◌}
 use Prim.Native.Nat.{◌-◌, ◌≤◌}
-use native.Mathlib.Omega.{arith}
-use lib.ListN.{length, take, drop}
-use borrow.Author.Rules.{rules}
+use lib.ListN.{length, drop}
 use Rattle.lists.specs.Scan.{left_by}
-use Rattle.lists.proofs.Scan.{left-go, left-stop, left_end}
 use Rattle.numerals.proofs.Reading.{blank_on}
 use Rattle.numerals.proofs.blanks_left.Given as goal
 

@@ -1,11 +1,7 @@
-use mathlib.Core.Path.{◌≡◌, sym, ap, ◌∙◌}
-use Prim.Native.Nat.{◌-◌, ◌≤◌}
-use native.Mathlib.Omega.{arith}
+use mathlib.Core.Path.{◌≡◌}
+use Prim.Native.Nat.{◌≤◌}
 use lib.ListN.{length, take}
-use borrow.Author.Rules.{rules}
-use lib.Seq.{take-length}
 use Rattle.lists.specs.Scan.{right_by}
-use Rattle.lists.proofs.Scan.{right-go, right-stop, right_end}
 use Rattle.numerals.proofs.Reading.{blank_on}
 use Rattle.numerals.proofs.blanks_right.Given as goal
 

@@ -1,8 +1,5 @@
-use Prim.Native.Nat.{◌-◌}
 use native.Mathlib.Omega.{arith}
 use borrow.Author.Tests.{le-leb, lt-leb, eq-eqb, ne_eqb}
-use lib.Dec.{eqb, leb}
-use lib.ListN.{take}
 use Rattle.numerals.proofs.is_blank.Goals as goal
 
 pub returns-then-x-eq32 : goal.returns-then-x-eq32

@@ -1,7 +1,4 @@
-use Prim.Native.Nat.{◌-◌}
 use borrow.Author.Tests.{eq-eqb, ne_eqb}
-use lib.Dec.{eqb}
-use lib.ListN.{take}
 use Rattle.numerals.proofs.is_sign.Goals as goal
 
 pub returns-then-x-eq45 : goal.returns-then-x-eq45

@@ -1,6 +1,3 @@
-use Prim.Native.Nat.{◌-◌}
-use lib.ListN.{take}
-use borrow.Author.Rules.{rules}
 use Rattle.numerals.proofs.sign_on.Goals as goal
 
 pub returns-then-negative : goal.returns-then-negative

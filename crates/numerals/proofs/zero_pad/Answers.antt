@@ -1,10 +1,8 @@
-use mathlib.Core.Path.{◌≡◌, refl}
-use Prim.Native.Nat.{zero, ◌-◌, ◌≤◌}
+use mathlib.Core.Path.{refl}
 use native.Mathlib.Omega.{arith}
-use lib.ListN.{length, take, drop, set, length-set}
-use borrow.Author.Rules.{rules}
+use lib.ListN.{length, length-set}
 use Rattle.ebcdic.specs.Ebcdic.{onto_page}
-use Rattle.numerals.proofs.Writing.{Written, written_none, written-more, written_all}
+use Rattle.numerals.proofs.Writing.{written_none, written-more, written_all}
 use Rattle.numerals.proofs.zero_pad.Goals as goal
 
 pub loop-i-init : goal.loop-i-init

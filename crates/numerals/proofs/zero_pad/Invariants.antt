@@ -1,10 +1,8 @@
-use mathlib.Core.Path.{◌≡◌, refl}
-use Prim.Native.Nat.{zero, ◌-◌, ◌≤◌}
-use native.Mathlib.Omega.{arith}
-use lib.ListN.{length, take, drop, set, length-set}
-use borrow.Author.Rules.{rules}
+use mathlib.Core.Path.{◌≡◌}
+use Prim.Native.Nat.{◌≤◌}
+use lib.ListN.{length}
 use Rattle.ebcdic.specs.Ebcdic.{onto_page}
-use Rattle.numerals.proofs.Writing.{Written, written_none, written-more, written_all}
+use Rattle.numerals.proofs.Writing.{Written}
 use Rattle.numerals.proofs.zero_pad.Given as goal
 
 abbrev pub invariant-loop-i : goal.invariant-loop-i

@@ -1,13 +1,13 @@
 -- The loop keeps that the digits read are lawful and that the size is what they spell, up to the limit; the laws of one turn and of the end are in Reading.
 use mathlib.Core.Path.{◌≡◌, refl, sym, ◌∙◌}
-use Prim.Native.Nat.{◌-◌, ◌≤◌}
+use Prim.Native.Nat.{◌-◌}
 use native.Mathlib.Omega.{arith}
-use lib.ListN.{length, take}
+use lib.ListN.{length}
 use borrow.Author.Rules.{rules}
 use Rattle.value.specs.Digits.{limit}
 use Rattle.value.specs.Number.{read_in, unlawful}
 use Rattle.value.proofs.Answers.{read-capped}
-use Rattle.value.proofs.Field.{Read, read-two}
+use Rattle.value.proofs.Field.{read-two}
 use Rattle.packed.specs.Packed.{nibbles, decode_of}
 use Rattle.packed.proofs.Reading.{read_all, bad-empty, bad-high, bad-low, bad_last, bad-sign}
 use Rattle.packed.proofs.decode.Goals as goal

@@ -2,7 +2,6 @@
 use mathlib.Core.Path.{sym}
 use native.Mathlib.Omega.{arith}
 use Rattle.packed.proofs.Writing.{fits-ample}
-use borrow.Author.Rules.{rules}
 use Rattle.packed.proofs.fits.Goals as goal
 
 pub returns-then-width-eq0 : goal.returns-then-width-eq0

@@ -1,10 +1,8 @@
 -- From the right: the bytes from i on hold their digits by place, and rest is what is left of the size.
 use mathlib.Core.Path.{◌≡◌}
-use Prim.Native.Nat.{◌-◌, ◌<◌}
 use native.Mathlib.Omega.{arith}
-use lib.ListN.{length, take, drop, set, length-set}
-use borrow.Author.Rules.{rules}
-use Rattle.packed.proofs.Writing.{Written, written_last, written-more, written_all}
+use lib.ListN.{length, length-set}
+use Rattle.packed.proofs.Writing.{written_last, written-more, written_all}
 use Rattle.packed.proofs.write.Goals as goal
 
 pub loop-i-init : goal.loop-i-init

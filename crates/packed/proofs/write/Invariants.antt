@@ -1,10 +1,8 @@
 -- From the right: the bytes from i on hold their digits by place, and rest is what is left of the size.
 use mathlib.Core.Path.{◌≡◌}
-use Prim.Native.Nat.{◌-◌, ◌<◌}
-use native.Mathlib.Omega.{arith}
-use lib.ListN.{length, take, drop, set, length-set}
-use borrow.Author.Rules.{rules}
-use Rattle.packed.proofs.Writing.{Written, written_last, written-more, written_all}
+use Prim.Native.Nat.{◌<◌}
+use lib.ListN.{length}
+use Rattle.packed.proofs.Writing.{Written}
 use Rattle.packed.proofs.write.Given as goal
 
 abbrev pub invariant-loop-i : goal.invariant-loop-i

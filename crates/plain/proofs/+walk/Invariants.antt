@@ -1,12 +1,5 @@
-use mathlib.Core.Path.{sym, ap, ◌∙◌}
-use Prim.Native.Nat.{ℕ, ◌+◌, ◌-◌, ◌<◌}
-use native.Mathlib.Omega.{arith}
-use borrow.Author.Rules.{rules}
-use borrow.Author.Tests.{not-true, not-false}
-use lib.ListN.{length, take}
-use lib.Seq.{length-take-le}
-use Rattle.layout.proofs.Laws.{reserved-small}
-use Rattle.plain.proofs.Turns.{Inv, starts, ends, own-fails, inner-fails, room-left, goes_on}
+use Prim.Native.Nat.{◌-◌}
+use Rattle.plain.proofs.Turns.{Inv}
 use Rattle.plain.proofs.+walk.Given as goal
 
 abbrev pub decreases-walk : goal.decreases-walk

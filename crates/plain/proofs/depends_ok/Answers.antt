@@ -1,7 +1,4 @@
-use Prim.Native.Nat.{◌-◌}
-use lib.ListN.{take}
 use Rattle.plain.proofs.Clauses.{depends-none, depends-on}
-use borrow.Author.Rules.{rules}
 use Rattle.plain.proofs.depends_ok.Goals as goal
 
 pub returns-then-e-eq-ABSENT : goal.returns-then-e-eq-ABSENT

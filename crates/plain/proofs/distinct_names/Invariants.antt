@@ -1,12 +1,8 @@
-use mathlib.Core.Path.{◌≡◌, refl, sym, ap, ◌∙◌}
+use mathlib.Core.Path.{◌≡◌}
 use Prim.Native.Nat.{◌-◌}
-use native.Mathlib.Omega.{arith}
-use lib.ListN.{take}
-use borrow.Author.Rules.{rules}
 use Rattle.layout.specs.Layout.{entry_count, entries}
 use Rattle.walks.specs.Plain.{names_of, distinct}
 use Rattle.plain.specs.Ways.{names_from}
-use Rattle.plain.proofs.Names.{names-all, distinct-end, distinct-not, distinct-next}
 use Rattle.plain.proofs.distinct_names.Given as goal
 
 abbrev pub invariant-loop-i : goal.invariant-loop-i

@@ -1,7 +1,4 @@
-use Prim.Native.Nat.{◌-◌}
-use lib.ListN.{take}
 use Rattle.plain.proofs.Clauses.{group-not, group-none, group-single, group-sure}
-use borrow.Author.Rules.{rules}
 use Rattle.plain.proofs.group_ok.Goals as goal
 
 pub returns-then-e-ne-KIND_GROUP : goal.returns-then-e-ne-KIND_GROUP

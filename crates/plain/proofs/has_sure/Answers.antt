@@ -1,10 +1,5 @@
-use mathlib.Core.Path.{◌≡◌, refl, sym, ◌∙◌}
-use Prim.Native.Nat.{◌-◌, ◌≤◌}
+use mathlib.Core.Path.{refl, sym, ◌∙◌}
 use native.Mathlib.Omega.{arith}
-use lib.ListN.{take}
-use borrow.Author.Rules.{rules}
-use Rattle.layout.specs.Layout.{part}
-use Rattle.walks.specs.Plain.{sure}
 use Rattle.plain.proofs.Clauses.{sure-end, sure-here, sure_next}
 use Rattle.plain.proofs.has_sure.Goals as goal
 

@@ -1,11 +1,7 @@
-use mathlib.Core.Path.{◌≡◌, refl, sym, ◌∙◌}
+use mathlib.Core.Path.{◌≡◌}
 use Prim.Native.Nat.{◌-◌, ◌≤◌}
-use native.Mathlib.Omega.{arith}
-use lib.ListN.{take}
-use borrow.Author.Rules.{rules}
 use Rattle.layout.specs.Layout.{part}
 use Rattle.walks.specs.Plain.{sure}
-use Rattle.plain.proofs.Clauses.{sure-end, sure-here, sure_next}
 use Rattle.plain.proofs.has_sure.Given as goal
 
 abbrev pub invariant-loop-i : goal.invariant-loop-i

@@ -1,7 +1,4 @@
 use mathlib.Core.Path.{sym, ◌∙◌}
-use Prim.Native.Nat.{◌-◌}
-use lib.ListN.{take}
-use borrow.Author.Rules.{rules}
 use Rattle.plain.proofs.held_top.Goals as goal
 
 pub returns-then-unrepeated : goal.returns-then-unrepeated

@@ -1,8 +1,5 @@
-use mathlib.Core.Path.{◌≡◌, refl, sym, ◌∙◌}
-use Prim.Native.Nat.{◌-◌}
+use mathlib.Core.Path.{refl, sym, ◌∙◌}
 use native.Mathlib.Omega.{arith}
-use lib.ListN.{length, take, drop}
-use Rattle.walks.specs.Plain.{is_in}
 use Rattle.plain.proofs.Clauses.{in_end, in-here, in-next}
 use Rattle.plain.proofs.is_in.Goals as goal
 

@@ -1,9 +1,7 @@
-use mathlib.Core.Path.{◌≡◌, refl, sym, ◌∙◌}
+use mathlib.Core.Path.{◌≡◌}
 use Prim.Native.Nat.{◌-◌}
-use native.Mathlib.Omega.{arith}
-use lib.ListN.{length, take, drop}
+use lib.ListN.{length, drop}
 use Rattle.walks.specs.Plain.{is_in}
-use Rattle.plain.proofs.Clauses.{in_end, in-here, in-next}
 use Rattle.plain.proofs.is_in.Given as goal
 
 abbrev pub invariant-loop-i : goal.invariant-loop-i

@@ -1,9 +1,4 @@
-use mathlib.Core.Bool.{true, false}
-use Prim.Native.Nat.{◌-◌}
-use lib.ListN.{take}
-use borrow.Author.Tests.{not-true, not-false}
 use Rattle.plain.proofs.Whole.{unlawful, room, name-twice, decided}
-use borrow.Author.Rules.{rules}
 use Rattle.plain.proofs.is_plain.Goals as goal
 
 pub returns-then-check_layout-ne0 : goal.returns-then-check_layout-ne0

@@ -1,11 +1,5 @@
-use mathlib.Core.Path.{◌≡◌, refl, sym, ◌∙◌}
-use Prim.Native.Nat.{◌-◌}
+use mathlib.Core.Path.{refl, sym, ◌∙◌}
 use native.Mathlib.Omega.{arith}
-use lib.ListN.{take}
-use borrow.Author.Rules.{rules}
-use Rattle.layout.specs.Layout.{entry_count}
-use Rattle.walks.specs.Plain.{is_in}
-use Rattle.plain.specs.Ways.{names_from}
 use Rattle.plain.proofs.Names.{named_end, named_here, named-next}
 use Rattle.plain.proofs.named_from.Goals as goal
 

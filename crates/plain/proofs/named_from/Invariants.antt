@@ -1,12 +1,8 @@
-use mathlib.Core.Path.{◌≡◌, refl, sym, ◌∙◌}
+use mathlib.Core.Path.{◌≡◌}
 use Prim.Native.Nat.{◌-◌}
-use native.Mathlib.Omega.{arith}
-use lib.ListN.{take}
-use borrow.Author.Rules.{rules}
 use Rattle.layout.specs.Layout.{entry_count}
 use Rattle.walks.specs.Plain.{is_in}
 use Rattle.plain.specs.Ways.{names_from}
-use Rattle.plain.proofs.Names.{named_end, named_here, named-next}
 use Rattle.plain.proofs.named_from.Given as goal
 
 abbrev pub invariant-loop-j : goal.invariant-loop-j

@@ -1,12 +1,6 @@
 use mathlib.Core.Path.{sym, ◌∙◌}
-use mathlib.Core.Bool.{true, false}
-use Prim.Native.Nat.{◌-◌}
 use borrow.Author.Tests.{le-leb, lt-leb}
-use lib.Dec.{leb}
-use lib.ListN.{take}
-use borrow.Author.Tests.{not-true, not-false}
 use Rattle.plain.specs.Ways.{own_ok}
-use borrow.Author.Rules.{rules}
 use Rattle.plain.proofs.own_ok.Goals as goal
 
 pub returns-then-not-pad_ok : goal.returns-then-not-pad_ok

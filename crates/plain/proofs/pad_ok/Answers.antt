@@ -1,5 +1,3 @@
-use Prim.Native.Nat.{◌-◌}
-use lib.ListN.{take}
 use Rattle.plain.proofs.Clauses.{pad-other, pad-self}
 use Rattle.plain.proofs.pad_ok.Goals as goal
 

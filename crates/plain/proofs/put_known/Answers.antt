@@ -1,7 +1,4 @@
 use mathlib.Core.Path.{refl, sym, ◌∙◌}
-use Prim.Native.Nat.{◌-◌}
-use lib.ListN.{length, take}
-use borrow.Author.Rules.{rules}
 use Rattle.plain.proofs.put_known.Goals as goal
 
 pub returns-then-controls : goal.returns-then-controls

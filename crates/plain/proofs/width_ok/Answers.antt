@@ -1,5 +1,3 @@
-use Prim.Native.Nat.{◌-◌}
-use lib.ListN.{take}
 use Rattle.plain.proofs.Clauses.{width-group, width-none, width-bool, width-binary, width-other}
 use Rattle.plain.proofs.width_ok.Goals as goal
 

@@ -1,7 +1,6 @@
-use Prim.Native.Nat.{◌+◌, ◌-◌}
+use Prim.Native.Nat.{◌+◌}
 use native.Mathlib.Omega.{arith}
 use borrow.Author.Tests.{lt-leb}
-use lib.Dec.{leb}
 use Rattle.positions.proofs.Products.{inside_is}
 use Rattle.positions.proofs.inside.Goals as goal
 

@@ -1,11 +1,7 @@
 use mathlib.Core.Path.{refl}
-use Prim.Native.Nat.{zero, ◌-◌}
 use native.Mathlib.Omega.{arith}
-use lib.ListN.{take}
 use native.Mathlib.Nat.{mul-zero}
-use Rattle.positions.specs.Positions.{sat}
 use Rattle.positions.proofs.Products.{product-fits, product-stops}
-use borrow.Author.Rules.{rules}
 use Rattle.positions.proofs.sat_mul.Goals as goal
 
 pub returns-then-b-eq0 : goal.returns-then-b-eq0

@@ -1,9 +1,8 @@
 -- `spans::span_ok` meets its contract: each way through the code settles the tests of `span_ok` by what it has asked.
 use mathlib.Core.Path.{◌≡◌, refl}
-use Prim.Native.Nat.{suc, ◌-◌}
+use Prim.Native.Nat.{suc}
 use native.Mathlib.Omega.{arith}
 use borrow.Author.Tests.{eq-eqb, ne_eqb}
-use borrow.Author.Rules.{rules}
 use Rattle.spans.proofs.span_ok.Goals as goal
 
 pub returns-then-span-eq0 : goal.returns-then-span-eq0

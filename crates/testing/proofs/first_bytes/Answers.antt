@@ -1,5 +1,5 @@
 -- `testing::first_bytes` meets its contract: a slice of at most n bytes is its own front.
-use Rattle.std.proofs.Common.{◌≡◌, ℕ, zero, ◌+◌, ◌-◌, take, sym, refl, ap, arith, take_all, rules}
+use Rattle.std.proofs.Common.{◌≡◌, ℕ, ◌+◌, take, sym, refl, ap, arith, take_all}
 use native.Mathlib.Nat.{sub-zero}
 use Rattle.testing.proofs.first_bytes.Goals as goal
 

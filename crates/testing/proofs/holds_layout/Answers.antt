@@ -1,6 +1,5 @@
 -- `testing::holds_layout` meets its contract. The invariant: the first i cells hold what they should (`holds-go`). The cells left fall.
-use Rattle.std.proofs.Common.{◌≡◌, ◌-◌, ◌≤◌, true, length, take, sym, ◌∙◌, arith, rules}
-use Rattle.testing.specs.Holds.{holds_below}
+use Rattle.std.proofs.Common.{sym, ◌∙◌, arith}
 use Rattle.testing.proofs.Laws.{holds-start, holds-go, holds_not, holds-all}
 use Rattle.testing.proofs.holds_layout.Goals as goal
 

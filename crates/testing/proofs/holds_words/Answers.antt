@@ -1,6 +1,5 @@
 -- `testing::holds_words` meets its contract. The invariant: the first i cells hold what they should (`holds-go`). The cells left fall.
-use Rattle.std.proofs.Common.{◌≡◌, ◌-◌, ◌≤◌, true, length, take, arith, rules}
-use Rattle.testing.specs.Holds.{holds_below}
+use Rattle.std.proofs.Common.{arith}
 use Rattle.testing.proofs.Laws.{holds-start, holds-go, holds_not, holds-all}
 use Rattle.testing.proofs.holds_words.Goals as goal
 

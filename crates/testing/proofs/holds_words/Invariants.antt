@@ -1,7 +1,6 @@
 -- `testing::holds_words` meets its contract. The invariant: the first i cells hold what they should (`holds-go`). The cells left fall.
-use Rattle.std.proofs.Common.{◌≡◌, ◌-◌, ◌≤◌, true, length, take, arith, rules}
+use Rattle.std.proofs.Common.{◌≡◌, ◌-◌, ◌≤◌, true, length}
 use Rattle.testing.specs.Holds.{holds_below}
-use Rattle.testing.proofs.Laws.{holds-start, holds-go, holds_not, holds-all}
 use Rattle.testing.proofs.holds_words.Given as goal
 
 abbrev pub invariant-loop-i : goal.invariant-loop-i

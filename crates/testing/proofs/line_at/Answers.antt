@@ -1,5 +1,4 @@
 -- `testing::line_at` meets its contract: the line is `name_at`'s, and no longer than what stands behind the position (`line-short`).
-use Rattle.std.proofs.Common.{◌-◌, rules}
 use Rattle.testing.proofs.Laws.{line-short}
 use Rattle.testing.proofs.line_at.Goals as goal
 

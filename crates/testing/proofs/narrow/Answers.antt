@@ -1,5 +1,5 @@
 -- `testing::narrow` meets its contract. The invariant: the first i words of the layout are the low words, the rest is as it was. The words left fall.
-use Rattle.std.proofs.Common.{◌≡◌, ◌+◌, ◌-◌, ◌<◌, ◌≤◌, ◌++◌, map, length, take, drop, set, sym, refl, ap, ◌∙◌, le_antisymm, arith, length-set, rules}
+use Rattle.std.proofs.Common.{◌<◌, length, refl, ◌∙◌, le_antisymm, arith, length-set}
 use Rattle.lists.proofs.Lists.{copy-go, copy-all}
 use Rattle.testing.specs.Holds.{low_word}
 use Rattle.testing.proofs.narrow.Goals as goal

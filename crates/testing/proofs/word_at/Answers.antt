@@ -1,5 +1,5 @@
 -- `testing::word_at` meets its contract: behind the last word the default 0 stands.
-use Rattle.std.proofs.Common.{◌-◌, List, get_or, sym, rules}
+use Rattle.std.proofs.Common.{sym}
 use lib.ListN.{get_or-eq_default}
 use Rattle.testing.proofs.word_at.Goals as goal
 

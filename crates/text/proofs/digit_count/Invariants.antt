@@ -1,8 +1,5 @@
 use Prim.Native.Nat.{◌-◌, ◌≤◌, ◌<◌}
-use native.Mathlib.Omega.{arith}
-use lib.ListN.{take}
-use borrow.Author.Rules.{rules}
-use Rattle.text.proofs.Count.{Over, count-found, count_next, count-last}
+use Rattle.text.proofs.Count.{Over}
 use Rattle.text.proofs.digit_count.Given as goal
 
 abbrev pub invariant-loop-n : goal.invariant-loop-n

@@ -1,11 +1,8 @@
 use mathlib.Core.Path.{refl, ap, ◌∙◌}
 use mathlib.Core.List.{[]}
-use Prim.Native.Nat.{◌-◌}
 use native.Mathlib.Omega.{arith}
-use lib.ListN.{take}
 use Rattle.text.specs.Shown.{shown_of}
 use Rattle.text.proofs.Answers.{decimal-some, decimal-none, says-text, says_none}
-use borrow.Author.Rules.{rules}
 use Rattle.text.proofs.display_scalar.Goals as goal
 
 pub returns-in-Null : goal.returns-in-Null

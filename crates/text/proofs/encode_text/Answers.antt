@@ -1,9 +1,8 @@
 use mathlib.Core.Path.{◌≡◌, refl, sym, ap, ◌∙◌}
 use Prim.Native.Nat.{◌-◌}
-use lib.ListN.{length, take}
+use lib.ListN.{take}
 use Rattle.text.specs.Shown.{shown_as, shows, none, shown_of, text_in}
 use Rattle.text.proofs.Answers.{text-told, room-told, none_told, own-text, other_text}
-use borrow.Author.Rules.{rules}
 use Rattle.text.proofs.encode_text.Goals as goal
 
 pub returns-then-is_text : goal.returns-then-is_text

@@ -1,7 +1,4 @@
-use Prim.Native.Nat.{◌-◌}
 use borrow.Author.Tests.{le-leb, lt-leb}
-use lib.Dec.{leb}
-use lib.ListN.{take}
 use Rattle.text.proofs.fits.Goals as goal
 
 pub returns-then-n-width : goal.returns-then-n-width

@@ -1,9 +1,6 @@
 use mathlib.Core.Path.{◌≡◌, refl, sym, ap, ◌∙◌}
-use Prim.Native.Nat.{◌-◌}
-use lib.ListN.{take}
 use Rattle.text.specs.Shown.{shown_as, shows, none, shown_of, text_in, refusal_at}
 use Rattle.text.proofs.Answers.{refusal-told, none_told, own-text, other_text}
-use borrow.Author.Rules.{rules}
 use Rattle.text.proofs.fits_text.Goals as goal
 
 pub returns-then-is_text : goal.returns-then-is_text

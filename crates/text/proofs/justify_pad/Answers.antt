@@ -1,10 +1,7 @@
-use mathlib.Core.Path.{refl, ap}
-use Prim.Native.Nat.{◌-◌}
+use mathlib.Core.Path.{refl}
 use borrow.Author.Tests.{le-leb, lt-leb}
-use lib.Dec.{leb}
-use lib.ListN.{length, take}
+use lib.ListN.{length}
 use Rattle.text.proofs.Write.{left-written, right-written}
-use borrow.Author.Rules.{rules}
 use Rattle.text.proofs.justify_pad.Goals as goal
 
 pub returns-then-right : goal.returns-then-right

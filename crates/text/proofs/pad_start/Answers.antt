@@ -1,12 +1,7 @@
 -- `text::pad_start` meets its contract. The invariant: scanning from i on leaves what scanning the whole does; the bytes that are left fall.
-use mathlib.Core.Path.{◌≡◌, refl, sym, ◌∙◌}
-use Prim.Native.Nat.{◌-◌, ◌≤◌}
+use mathlib.Core.Path.{refl, sym, ◌∙◌}
 use native.Mathlib.Omega.{arith}
 use borrow.Author.Tests.{eq-eqb, ne_eqb}
-use lib.Dec.{eqb}
-use lib.ListN.{length, take, drop}
-use borrow.Author.Rules.{rules}
-use Rattle.lists.specs.Scan.{left_by}
 use Rattle.lists.proofs.Scan.{left-go, left-stop, left_end, left-count}
 use Rattle.text.specs.Text.{is_byte}
 use Rattle.text.proofs.pad_start.Goals as goal

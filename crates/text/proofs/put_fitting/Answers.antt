@@ -1,9 +1,6 @@
 use mathlib.Core.Path.{sym, ap, ◌∙◌}
 use mathlib.Core.Bool.{Bool}
-use Prim.Native.Nat.{◌-◌}
-use lib.ListN.{length, take}
 use mathlib.Core.Bool.{cond}
-use borrow.Author.Rules.{rules}
 use Rattle.text.proofs.put_fitting.Goals as goal
 
 pub returns-then-justify_pad : goal.returns-then-justify_pad

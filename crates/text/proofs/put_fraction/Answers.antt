@@ -1,12 +1,11 @@
 use mathlib.Core.Path.{◌∙◌}
 use Prim.Native.Nat.{◌+◌, ◌-◌}
 use native.Mathlib.Omega.{arith}
-use lib.ListN.{length, set, length-set}
+use lib.ListN.{set, length-set}
 use borrow.Rule.Slice.PartMut.{same_len_mid}
 use Rattle.value.specs.Digits.{digit_text}
 use Rattle.value.proofs.Digits.{length-digit_text}
 use Rattle.text.proofs.Places.{digits-placed, byte-placed}
-use borrow.Author.Rules.{rules}
 use Rattle.text.proofs.put_fraction.Goals as goal
 
 pub shape_of-out : goal.shape_of-out

@@ -1,11 +1,7 @@
 use mathlib.Core.Path.{refl}
-use Prim.Native.Nat.{◌-◌}
 use native.Mathlib.Omega.{arith}
 use borrow.Author.Tests.{lt-ltb}
-use lib.Dec.{ltb}
-use lib.ListN.{length, take, drop, set}
 use Rattle.lists.proofs.Lists.{drop-set}
-use borrow.Author.Rules.{rules}
 use Rattle.text.proofs.put_minus.Goals as goal
 
 pub returns-then-size-eq0 : goal.returns-then-size-eq0

@@ -1,12 +1,8 @@
-use mathlib.Core.Path.{refl, ap, ◌∙◌}
-use mathlib.Core.List.{map}
-use Prim.Native.Nat.{◌-◌}
+use mathlib.Core.Path.{refl, ◌∙◌}
 use borrow.Author.Tests.{le-leb, lt-leb}
-use lib.Dec.{leb}
-use lib.ListN.{length, take, length-map}
+use lib.ListN.{length-map}
 use Rattle.ebcdic.specs.Ebcdic.{from_page}
 use Rattle.text.proofs.Write.{copied_all}
-use borrow.Author.Rules.{rules}
 use Rattle.text.proofs.put_text.Goals as goal
 
 pub returns-then-t-out : goal.returns-then-t-out

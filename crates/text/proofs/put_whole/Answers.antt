@@ -1,13 +1,11 @@
 use mathlib.Core.Path.{sym, ap, ◌∙◌}
-use Prim.Native.Nat.{ℕ, ◌+◌, ◌-◌, ◌≤◌}
+use Prim.Native.Nat.{ℕ, ◌+◌, ◌≤◌}
 use native.Mathlib.Omega.{arith}
-use lib.ListN.{length}
 use Rattle.value.specs.Digits.{digit_text}
 use Rattle.text.specs.Shown.{digit_count, placed}
 use Rattle.value.proofs.Digits.{length-digit_text}
 use Rattle.text.proofs.Count.{count_word}
 use Rattle.text.proofs.Places.{digits-placed}
-use borrow.Author.Rules.{rules}
 use Rattle.text.proofs.put_whole.Goals as goal
 
 pub overflow_add-end : goal.overflow_add-end

@@ -1,10 +1,7 @@
 use mathlib.Core.Path.{refl}
-use mathlib.Core.Bool.{true, false}
-use Prim.Native.Nat.{◌-◌}
 use native.Mathlib.Omega.{arith}
-use lib.ListN.{length, take, set, length-set}
+use lib.ListN.{length-set}
 use Rattle.text.proofs.Showing.{true-front, false-front}
-use borrow.Author.Rules.{rules}
 use Rattle.text.proofs.show_bool.Goals as goal
 
 pub bounds-out-1 : goal.bounds-out-1

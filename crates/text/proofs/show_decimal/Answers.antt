@@ -1,15 +1,14 @@
 use mathlib.Core.Path.{◌≡◌, ap, ◌∙◌}
 use mathlib.Core.List.{List, ◌∷◌, ◌++◌}
-use Prim.Native.Nat.{ℕ, ◌+◌, ◌-◌, ◌≤◌}
+use Prim.Native.Nat.{ℕ, ◌+◌, ◌≤◌}
 use native.Mathlib.Omega.{arith}
-use lib.ListN.{length, take}
+use lib.ListN.{length}
 use Prim.Native.Nat.{◌/◌}
 use Rattle.text.specs.Text.{front}
 use Rattle.value.specs.Digits.{digit_text}
 use Rattle.text.specs.Shown.{minus_text, whole_text}
 use Rattle.value.proofs.Digits.{length-digit_text}
 use Rattle.text.proofs.Showing.{length_more, front-more, minus-short, ten-pos, parts-short, decimal-int, decimal-parts}
-use borrow.Author.Rules.{rules}
 use Rattle.text.proofs.show_decimal.Goals as goal
 
 pub returns-then-scale-eq0 : goal.returns-then-scale-eq0

@@ -1,9 +1,8 @@
-use Prim.Native.Nat.{◌-◌, ◌≤◌}
+use Prim.Native.Nat.{◌≤◌}
 use native.Mathlib.Omega.{arith}
 use lib.ListN.{length}
 use Rattle.text.specs.Shown.{minus_text, whole_text}
 use Rattle.text.proofs.Showing.{length_more, front-more, minus-short, whole-short}
-use borrow.Author.Rules.{rules}
 use Rattle.text.proofs.show_int.Goals as goal
 
 pub put_whole-requires : goal.put_whole-requires

@@ -1,9 +1,7 @@
 use mathlib.Core.Path.{◌∙◌}
-use Prim.Native.Nat.{zero, ◌-◌}
 use lib.ListN.{length}
 use Rattle.value.specs.Digits.{digit_text}
 use Rattle.text.proofs.Write.{ascii-page}
-use borrow.Author.Rules.{rules}
 use Rattle.text.proofs.spell.Goals as goal
 
 pub returns : goal.returns

@@ -1,5 +1,4 @@
 -- No 0 byte in front of the pads at the end: these are all that is cut; else the pads before it are cut from what stands before it.
-use borrow.Author.Rules.{rules}
 use Rattle.text.specs.Text.{is_byte}
 use Rattle.text.proofs.Cuts.{end_kept, end-cut}
 use Rattle.text.proofs.text_end.Goals as goal

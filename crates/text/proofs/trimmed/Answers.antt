@@ -1,15 +1,12 @@
 -- Each end is found on raw bytes; the part between them, translated, is the cut of the translated field, and where it starts is known.
 use mathlib.Core.Path.{refl, ap, ◌∙◌}
 use mathlib.Core.List.{map}
-use Prim.Native.Nat.{zero, ◌-◌}
 use native.Mathlib.Omega.{arith}
-use lib.ListN.{take}
 use Rattle.text.specs.Text.{cut}
 use Rattle.ebcdic.specs.Ebcdic.{from_page}
 use Rattle.text.proofs.Cuts.{right-part, right-from, left-part, from_zero, from-right}
 use Rattle.lists.specs.Part.{place_in}
 use Rattle.lists.proofs.Part.{place-zero, place-front}
-use borrow.Author.Rules.{rules}
 use Rattle.text.proofs.trimmed.Goals as goal
 
 pub returns-then-right : goal.returns-then-right

@@ -1,11 +1,6 @@
 -- `text_field::asked` meets its contract: each way answers the number of its question, by the laws of `Questions`.
 use mathlib.Core.Path.{sym, ◌∙◌}
-use mathlib.Core.Bool.{true, false}
-use Prim.Native.Nat.{◌-◌}
-use lib.ListN.{take}
-use borrow.Author.Tests.{not-true, not-false}
 use Rattle.text_field.proofs.Questions.{one-words, one-page, two, four, seven, sixteen, none}
-use borrow.Author.Rules.{rules}
 use Rattle.text_field.proofs.asked.Goals as goal
 
 pub returns-then-layout-ne12 : goal.returns-then-layout-ne12

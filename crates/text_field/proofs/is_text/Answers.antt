@@ -1,13 +1,7 @@
 -- `text_field::is_text` meets its contract: each way settles one clause of `text_entry`.
 use mathlib.Core.Path.{sym, ◌∙◌}
-use mathlib.Core.Bool.{true, false}
-use Prim.Native.Nat.{◌-◌}
 use borrow.Author.Tests.{eq-eqb, ne_eqb}
-use lib.Dec.{eqb}
-use lib.ListN.{take}
-use borrow.Author.Tests.{not-true, not-false}
 use Rattle.text_field.specs.Single.{text_entry}
-use borrow.Author.Rules.{rules}
 use Rattle.text_field.proofs.is_text.Goals as goal
 
 pub returns-then-not-entry_ok : goal.returns-then-not-entry_ok

@@ -1,8 +1,6 @@
 -- `text_field::place_in` meets its contract: the start is `start_in`'s, the length that of the part which `text_in` cuts.
 use mathlib.Core.Path.{refl, ap}
-use Prim.Native.Nat.{◌-◌}
 use lib.ListN.{length}
-use borrow.Author.Rules.{rules}
 use Rattle.text_field.proofs.place_in.Goals as goal
 
 pub returns : goal.returns

@@ -1,9 +1,5 @@
 -- `text_field::room_for` meets its contract: the scratch is needed by the translating call, and on page 1.
-use Prim.Native.Nat.{◌-◌}
 use borrow.Author.Tests.{eq-eqb, ne_eqb}
-use lib.Dec.{eqb}
-use lib.ListN.{take}
-use borrow.Author.Rules.{rules}
 use Rattle.text_field.proofs.room_for.Goals as goal
 
 pub returns-then-translating : goal.returns-then-translating

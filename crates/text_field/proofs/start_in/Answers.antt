@@ -1,11 +1,8 @@
 -- `text_field::start_in` meets its contract: only a trimmed and right-justified text starts behind the pads that `pad_start` counts.
-use mathlib.Core.Bool.{true, false}
-use Prim.Native.Nat.{◌+◌, ◌-◌, ◌≤◌}
+use Prim.Native.Nat.{◌+◌, ◌≤◌}
 use native.Mathlib.Omega.{arith}
-use lib.ListN.{length, take}
-use borrow.Author.Tests.{not-true, not-false}
+use lib.ListN.{length}
 use Rattle.text_field.proofs.Parts.{unpadded, unmoved, padded-start, within}
-use borrow.Author.Rules.{rules}
 use Rattle.text_field.proofs.start_in.Goals as goal
 
 pub returns-then-not-flag : goal.returns-then-not-flag

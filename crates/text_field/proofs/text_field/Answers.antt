@@ -1,10 +1,8 @@
 -- `text_field::text_field` meets its contract: the part that `text_in` cuts is the text, of the scratch on page 1 and of the record else (`Parts`).
 use mathlib.Core.Path.{sym, ◌∙◌}
-use Prim.Native.Nat.{◌-◌}
-use lib.ListN.{length, take}
+use lib.ListN.{length}
 use Rattle.text_field.proofs.Parts.{text-scratch, place-scratch, text-record, place-record}
 use Rattle.text_field.proofs.Questions.{scratch-lawful, record-lawful}
-use borrow.Author.Rules.{rules}
 use Rattle.text_field.proofs.text_field.Goals as goal
 
 pub text_in-requires : goal.text_in-requires

@@ -1,15 +1,12 @@
 -- `text_field::text_in` meets its contract: a refusal hands out the empty part at the front, and else the field is cut as `trimmed` does it on page 0.
 use mathlib.Core.Path.{refl, ap, ◌∙◌}
 use mathlib.Core.List.{List}
-use Prim.Native.Nat.{ℕ, ◌+◌, ◌-◌, ◌≤◌}
+use Prim.Native.Nat.{ℕ, ◌+◌, ◌≤◌}
 use borrow.Author.Tests.{eq-eqb, ne_eqb}
-use lib.Dec.{eqb}
-use lib.ListN.{take}
 use Rattle.text_field.proofs.Parts.{part_bytes, part-place}
 use Rattle.decode_scalar.specs.Decode.{flag}
 use Rattle.lists.specs.Part.{place_in}
 use Rattle.text.specs.Text.{cut, cut_from}
-use borrow.Author.Rules.{rules}
 use Rattle.text_field.proofs.text_in.Goals as goal
 
 pub returns-then-number-ne0 : goal.returns-then-number-ne0

@@ -1,10 +1,8 @@
 -- `text_field::text_place` meets its contract: where no question fails, `place_in` says where the text stands in the scratch or in the record.
 use mathlib.Core.Path.{sym, ◌∙◌}
-use Prim.Native.Nat.{◌-◌}
-use lib.ListN.{length, take}
+use lib.ListN.{length}
 use Rattle.text_field.proofs.Parts.{place-refused, stands-scratch, stands-record}
 use Rattle.text_field.proofs.Questions.{scratch-lawful, record-lawful}
-use borrow.Author.Rules.{rules}
 use Rattle.text_field.proofs.text_place.Goals as goal
 
 pub returns-then-number-ne0 : goal.returns-then-number-ne0

@@ -1,8 +1,6 @@
 -- `text_field::translate_text` meets its contract: a refusal leaves the zeros that `fill` put, and else the translated field is copied over their front.
-use Prim.Native.Nat.{◌-◌}
-use lib.ListN.{length, take}
+use lib.ListN.{length}
 use Rattle.text_field.proofs.Scratch.{translated-inside, refused_all, translated-all}
-use borrow.Author.Rules.{rules}
 use Rattle.text_field.proofs.translate_text.Goals as goal
 
 pub returns-then-number-ne0 : goal.returns-then-number-ne0

@@ -1,5 +1,5 @@
 -- A size from 10^18 on is too big; any other has its sign, which 0 has not.
-use Rattle.std.proofs.Common.{◌≡◌, ltb, arith, le-ltb, lt-ltb}
+use Rattle.std.proofs.Common.{◌≡◌, arith, le-ltb, lt-ltb}
 use Rattle.value.proofs.amount_of.Goals as goal
 
 pub returns-then-size-ge-LIMIT : goal.returns-then-size-ge-LIMIT

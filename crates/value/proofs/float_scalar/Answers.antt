@@ -1,5 +1,5 @@
 -- `value::float_scalar` meets its contract: `is_nan` decides which of the two scalars it is.
-use Rattle.std.proofs.Common.{Bool, not, T, sym, ◌∙◌, subst, rules}
+use Rattle.std.proofs.Common.{Bool, not, T, sym, ◌∙◌, subst}
 use Rattle.value.proofs.float_scalar.Goals as goal
 
 pub float_from_bits-result : goal.float_from_bits-result

@@ -1,4 +1,3 @@
-use Rattle.std.proofs.Common.{◌-◌, take, rules}
 use Rattle.value.proofs.Items.{not-nan, is-nan}
 use Rattle.value.proofs.float_word.Goals as goal
 

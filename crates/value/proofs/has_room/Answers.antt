@@ -1,4 +1,4 @@
-use Rattle.std.proofs.Common.{◌-◌, take, sym, arith, rules}
+use Rattle.std.proofs.Common.{sym, arith}
 use Rattle.value.proofs.Room.{room-none, room-ample, room-is}
 use Rattle.value.proofs.has_room.Goals as goal
 

@@ -1,4 +1,4 @@
-use Rattle.std.proofs.Common.{◌-◌, leb, arith, le-leb}
+use Rattle.std.proofs.Common.{arith, le-leb}
 use borrow.Author.Tests.{lt-leb}
 use Rattle.value.proofs.is_digit.Goals as goal
 

@@ -1,4 +1,4 @@
-use Rattle.std.proofs.Common.{◌-◌, eqb, rules, ne_eqb}
+use Rattle.std.proofs.Common.{ne_eqb}
 use Rattle.value.specs.Scalar.{scalar_of}
 use Rattle.value.proofs.item_scalar.Goals as goal
 

@@ -1,5 +1,5 @@
 -- A size from the bound on is out of range; any other has its sign.
-use Rattle.std.proofs.Common.{ltb, rules, le-ltb, lt-ltb}
+use Rattle.std.proofs.Common.{le-ltb, lt-ltb}
 use Rattle.value.proofs.number_in.Goals as goal
 
 pub returns-then-size-bound : goal.returns-then-size-bound

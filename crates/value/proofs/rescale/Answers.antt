@@ -1,5 +1,5 @@
 -- `value::rescale` meets its contract: an equal scale leaves the size, and the two others multiply or round it.
-use Rattle.std.proofs.Common.{ℕ, sym, ap, ◌∙◌, arith, rules}
+use Rattle.std.proofs.Common.{ℕ, sym, ap, ◌∙◌, arith}
 use Rattle.value.specs.Number.{amount_of}
 use Rattle.value.specs.Rounding.{rescaled}
 use Rattle.value.proofs.Rounding.{scale_same, scale-down, scale-up}

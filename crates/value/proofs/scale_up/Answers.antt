@@ -1,4 +1,4 @@
-use Rattle.std.proofs.Common.{◌≡◌, ℕ, ◌-◌, ◌*◌, ◌^◌, ◌<◌, ltb, take, ap, ◌∙◌, arith, rules, le-ltb}
+use Rattle.std.proofs.Common.{◌≡◌, ℕ, ◌-◌, ◌*◌, ◌^◌, ◌<◌, ap, ◌∙◌, arith, le-ltb}
 use Rattle.value.specs.Digits.{limit}
 use Rattle.value.specs.Number.{amount_of}
 use Rattle.value.proofs.Rounding.{fits-up, over-up, over-far}

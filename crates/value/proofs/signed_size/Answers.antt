@@ -1,5 +1,5 @@
 -- 0 has no sign; any other size keeps it.
-use Rattle.std.proofs.Common.{ltb, arith, lt-ltb}
+use Rattle.std.proofs.Common.{arith, lt-ltb}
 use Rattle.value.proofs.signed_size.Goals as goal
 
 pub returns-then-size-eq0 : goal.returns-then-size-eq0

@@ -1,4 +1,4 @@
-use Rattle.std.proofs.Common.{◌≡◌, ◌+◌, ◌-◌, leb, take, arith, rules, le-leb}
+use Rattle.std.proofs.Common.{◌≡◌, ◌+◌, ◌-◌, arith, le-leb}
 use borrow.Author.Tests.{lt-leb}
 use Rattle.value.proofs.size_of.Goals as goal
 

@@ -1,5 +1,5 @@
 -- A number is given the sign; a refusal stays.
-use Rattle.std.proofs.Common.{◌-◌, sym, ap, ◌∙◌, rules}
+use Rattle.std.proofs.Common.{sym, ap, ◌∙◌}
 use Rattle.value.specs.Number.{with_sign, read_as}
 use Rattle.value.specs.declared.Number.{Number}
 use Rattle.value.proofs.with_sign.Goals as goal

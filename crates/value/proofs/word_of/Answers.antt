@@ -1,4 +1,4 @@
-use Rattle.std.proofs.Common.{◌≡◌, ◌-◌, ltb, take, arith, rules, lt-ltb}
+use Rattle.std.proofs.Common.{◌≡◌, ◌-◌, arith, lt-ltb}
 use Rattle.value.proofs.word_of.Goals as goal
 
 pub returns-then-size-eq0 : goal.returns-then-size-eq0

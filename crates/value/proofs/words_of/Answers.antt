@@ -1,4 +1,3 @@
-use Rattle.std.proofs.Common.{◌-◌, rules}
 use Rattle.value.proofs.Items.{words_are}
 use Rattle.value.proofs.words_of.Goals as goal
 

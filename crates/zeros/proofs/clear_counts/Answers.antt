@@ -1,8 +1,7 @@
 use mathlib.Core.Path.{◌≡◌, refl, ap, ◌∙◌}
-use mathlib.Core.List.{◌++◌}
-use Prim.Native.Nat.{zero, ◌+◌, ◌-◌, ◌≤◌}
+use Prim.Native.Nat.{◌-◌}
 use native.Mathlib.Omega.{arith}
-use lib.ListN.{length, drop, set, replicate, length-set}
+use lib.ListN.{length, replicate, length-set}
 use lib.IntN.{pos}
 use Rattle.zeros.proofs.Zeros.{zeros-more, zeros-end}
 use Rattle.zeros.proofs.clear_counts.Goals as goal

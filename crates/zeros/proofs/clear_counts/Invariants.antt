@@ -1,10 +1,8 @@
-use mathlib.Core.Path.{◌≡◌, refl, ap, ◌∙◌}
+use mathlib.Core.Path.{◌≡◌}
 use mathlib.Core.List.{◌++◌}
-use Prim.Native.Nat.{zero, ◌+◌, ◌-◌, ◌≤◌}
-use native.Mathlib.Omega.{arith}
-use lib.ListN.{length, drop, set, replicate, length-set}
+use Prim.Native.Nat.{◌-◌, ◌≤◌}
+use lib.ListN.{length, drop, replicate}
 use lib.IntN.{pos}
-use Rattle.zeros.proofs.Zeros.{zeros-more, zeros-end}
 use Rattle.zeros.proofs.clear_counts.Given as goal
 
 abbrev pub invariant-loop-i : goal.invariant-loop-i

@@ -1,10 +1,8 @@
-use mathlib.Core.Path.{◌≡◌, refl, ◌∙◌}
+use mathlib.Core.Path.{◌≡◌}
 use mathlib.Core.List.{◌++◌}
-use Prim.Native.Nat.{zero, ◌+◌, ◌-◌, ◌≤◌}
-use native.Mathlib.Omega.{arith}
-use lib.ListN.{length, take, drop, set, replicate, length-set}
+use Prim.Native.Nat.{◌-◌, ◌≤◌}
+use lib.ListN.{length, take, drop, replicate}
 use Prim.Native.Nat.{max}
-use Rattle.zeros.proofs.Zeros.{zeros-start, zeros-more, zeros-end}
 use Rattle.zeros.proofs.clear_items.Given as goal
 
 abbrev pub invariant-loop-i : goal.invariant-loop-i

@@ -1,9 +1,6 @@
-use mathlib.Core.Path.{◌≡◌, refl, ◌∙◌}
-use mathlib.Core.List.{◌++◌}
-use Prim.Native.Nat.{zero, ◌+◌, ◌-◌, ◌≤◌}
+use mathlib.Core.Path.{refl, ◌∙◌}
 use native.Mathlib.Omega.{arith}
-use lib.ListN.{length, take, drop, set, replicate, length-set}
-use Prim.Native.Nat.{max}
+use lib.ListN.{length-set}
 use Rattle.zeros.proofs.Zeros.{zeros-start, zeros-more, zeros-end}
 use Rattle.zeros.proofs.clear_text.Goals as goal
 

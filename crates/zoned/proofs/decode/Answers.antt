@@ -1,5 +1,4 @@
 -- A field whose size is to be below 10^18 is read within that bound.
-use borrow.Author.Rules.{rules}
 use Rattle.zoned.specs.Zoned.{decode_of}
 use Rattle.zoned.proofs.decode.Goals as goal
 

@@ -1,6 +1,5 @@
 -- Each way is a range of bytes; the tests of the other ranges fail.
 use mathlib.Core.Path.{◌∙◌}
-use borrow.Author.Rules.{rules}
 use borrow.Author.Tests.{le-leb, lt-leb, eq-eqb, ne_eqb}
 use native.Mathlib.Omega.{arith}
 use Rattle.value.proofs.Digits.{past}

@@ -1,16 +1,9 @@
 -- The loop keeps that the digits read are lawful and that the size is what they spell, up to the bound; the laws of one turn are in Reading.
-use mathlib.Core.Path.{◌≡◌, refl, ◌∙◌}
 use mathlib.Core.List.{map}
 use Prim.Native.Nat.{◌-◌, ◌≤◌}
-use native.Mathlib.Omega.{arith}
-use lib.ListN.{length, take}
-use borrow.Author.Rules.{rules}
 use Rattle.ebcdic.specs.Ebcdic.{from_page}
-use Rattle.value.specs.Number.{read_in, unlawful}
-use Rattle.value.proofs.Answers.{read-capped}
 use Rattle.value.proofs.Field.{Read}
 use Rattle.zoned.specs.Zoned.{zone}
-use Rattle.zoned.proofs.Reading as Reading
 use Rattle.zoned.proofs.decode_within.Given as goal
 
 abbrev pub invariant-loop-i : goal.invariant-loop-i

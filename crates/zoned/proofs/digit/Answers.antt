@@ -1,7 +1,4 @@
-use Prim.Native.Nat.{◌-◌}
 use borrow.Author.Tests.{lt-ltb, le-ltb}
-use lib.Dec.{ltb}
-use lib.ListN.{take}
 use Rattle.zoned.proofs.digit.Goals as goal
 
 pub returns-then-b-lt48 : goal.returns-then-b-lt48

@@ -1,13 +1,11 @@
 -- A number that fits has a byte: those before the last one are lent to the digits above the units, and the last one is stored.
 use mathlib.Core.Path.{◌≡◌, refl, sym, ◌∙◌}
 use mathlib.Core.Bool.{true, false}
-use Prim.Native.Nat.{zero, ◌-◌}
 use native.Mathlib.Omega.{arith}
-use lib.ListN.{length, take, drop}
+use lib.ListN.{length}
 use Rattle.zoned.specs.Zoned.{fits_of}
 use Rattle.value.proofs.Room.{room-some}
 use Rattle.zoned.proofs.Writing.{written}
-use borrow.Author.Rules.{rules}
 use Rattle.zoned.proofs.encode.Goals as goal
 
 pub overflow_sub-last : goal.overflow_sub-last

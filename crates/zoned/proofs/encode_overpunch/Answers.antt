@@ -1,8 +1,4 @@
-use Prim.Native.Nat.{◌-◌}
 use borrow.Author.Tests.{eq-eqb, ne_eqb}
-use lib.Dec.{eqb}
-use lib.ListN.{take}
-use borrow.Author.Rules.{rules}
 use Rattle.zoned.proofs.encode_overpunch.Goals as goal
 
 pub returns-then-negative : goal.returns-then-negative

@@ -1,6 +1,3 @@
-use Prim.Native.Nat.{◌-◌}
-use lib.ListN.{take}
-use borrow.Author.Rules.{rules}
 use Rattle.zoned.proofs.last_byte.Goals as goal
 
 pub returns-then-signed : goal.returns-then-signed

@@ -1,0 +1,18 @@
+-- One turn of the loop is one unfolding of the definition; the measure is what is left of the first sequence, which every inner one is shorter than.
+-- The loop keeps that the two whole sequences are the same exactly if what is left of both is; each way out is one law of Turns.antt about where it leaves the loop.
+-- The measure of a call is to - i, how many items its first sequence has with all their members; a call inside another must have less.
+use mathlib.Core.Path.{◌≡◌}
+use Prim.Native.Nat.{◌-◌, ◌≤◌}
+use Rattle.items.specs.Items.{values}
+use Rattle.convert.specs.Same.{same_all}
+use Prim.Native.Nat.{◌-◌}
+use Rattle.convert.proofs.+same_all.Given as goal
+
+abbrev pub invariant-loop-p : goal.invariant-loop-p
+invariant-loop-p l = (l.i ≤ l.p) × (same_all l.t l.u (values l.v l.i l.to) (values l.w l.j l.end) ≡ same_all l.t l.u (values l.v l.p l.to) (values l.w l.q l.end))
+
+abbrev pub decreases-loop-p : goal.decreases-loop-p
+decreases-loop-p l = l.to - l.p
+
+abbrev pub decreases-same_all : goal.decreases-same_all
+decreases-same_all l = l.to - l.i

@@ -1,0 +1,12 @@
+-- `shown::name_line` meets its contract: the word, the name and the end of the line are handed over one after the other.
+use Rattle.shown.specs.Sink.{state}
+use Rattle.shown.proofs.Sinks.{next}
+use Rattle.shown.proofs.name_line.Goals as goal
+
+pub returns : goal.returns
+returns c =
+    let at-args = c.args in
+    let at-push-all = c.push_all-a in
+    let at-push-name = c.push_name-b in
+    let at_push = c.push in
+    next (state at-args.out.now at-args.s) _ _ _ _ _ _ at-push-all.ensures (next _ _ _ _ _ _ _ at-push-name.ensures at_push.ensures)

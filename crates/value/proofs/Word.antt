@@ -1,9 +1,10 @@
 -- Words and back; the table of powers of ten.
-use Rattle.std.proofs.Common.{◌≡◌, ℕ, zero, suc, ◌-◌, ◌^◌, ◌<◌, ◌≤◌, Bool, true, false, cond, ◌&&◌, ltb, refl, arith, w64, of_z, lt-ltb, le-leb}
+use Rattle.std.proofs.Common.{◌≡◌, ℕ, zero, suc, ◌-◌, ◌^◌, ◌<◌, ◌≤◌, Bool, true, false, cond, ◌&&◌, ltb, refl, sym, ◌∙◌, subst, arith, w64, of_z, lt-ltb, le-leb}
 use native.Mathlib.Decide.{dec_lt}
 use borrow.Author.Tests.{lt-leb}
 use Rattle.value.specs.Digits.{signed_of}
 use Rattle.value.specs.Word.{word_of, minus_in, size_in, power_ten}
+use Rattle.value.proofs.Digits.{pow-pos10}
 
 -- the word is the machine's own for the integer
 pub word-machine : (negative : Bool) (size : ℕ) → word_of negative size ≡ of_z w64 (signed_of negative size)
@@ -53,3 +54,10 @@ minus-size w h = go (dec_lt w (2 ^ 63))
 
 pub power-is : (k : ℕ) → k < 20 → power_ten k ≡ 10 ^ k
 power-is k h = rw (lt-ltb k 20 h)
+
+-- a divisor from the table
+pub is-power : {p k : ℕ} → p ≡ power_ten k → k ≤ 19 → p ≡ 10 ^ k
+is-power {p} {k} e h = e ∙ power-is k (omega arith)
+
+pub some-power : {p k : ℕ} → p ≡ power_ten k → k ≤ 19 → 0 < p
+some-power {p} {k} e h = subst (λ (n : ℕ). 0 < n) (sym (is-power e h)) (pow-pos10 k)

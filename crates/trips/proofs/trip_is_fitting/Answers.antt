@@ -1,7 +1,6 @@
 use mathlib.Core.Path.{sym, ap, ◌∙◌}
 use mathlib.Core.Bool.{Bool, cond}
 use Prim.Native.Nat.{ℕ}
-use borrow.Author.Rules.{rules}
 use Rattle.trips.proofs.trip_is_fitting.Goals as goal
 
 pub returns-then-is_fitting : goal.returns-then-is_fitting

@@ -1,5 +1,4 @@
 -- `trips::trip_round` meets its contract, which is that of `roundtrip::round_trip` without demand 3.
-use borrow.Author.Rules.{rules}
 use Rattle.trips.proofs.trip_round.Goals as goal
 
 pub returns : goal.returns

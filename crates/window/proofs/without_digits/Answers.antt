@@ -1,25 +1,16 @@
 -- The divisor is 10^k, the quotient is cut or goes up as the definition's does (`size-cut`, `size-up`, `size-down`); from k = 20 on nothing is left (`ruled-gone`).
-use Rattle.std.proofs.Common.{◌≡◌, ℕ, ◌^◌, ◌<◌, ◌≤◌, sym, ◌∙◌, subst, mod-lt, arith, rules}
-use Rattle.value.specs.Word.{power_ten}
-use Rattle.value.proofs.Digits.{pow-pos10}
+use Rattle.std.proofs.Common.{sym, ◌∙◌, mod-lt, arith, rules}
 use Rattle.value.proofs.Nearest.{next-most}
-use Rattle.value.proofs.Word.{power-is}
+use Rattle.value.proofs.Word.{is-power, some-power}
 use Rattle.window.specs.Window.{rule_of}
 use Rattle.window.proofs.Rules.{ruled-gone, size-cut, size-up, size-down}
 use Rattle.window.proofs.without_digits.Goals as goal
-
--- the divisor
-is-power : {p k : ℕ} → p ≡ power_ten k → k ≤ 19 → p ≡ 10 ^ k
-is-power {p} {k} e h = e ∙ power-is k (omega arith)
-
-some : {p k : ℕ} → p ≡ power_ten k → k ≤ 19 → 0 < p
-some {p} {k} e h = subst (λ (p : ℕ). 0 < p) (sym (is-power e h)) (pow-pos10 k)
 
 pub returns-then-k-gt19 : goal.returns-then-k-gt19
 returns-then-k-gt19 c = ruled-gone (rule_of c.args.passed) c.args.size c.args.k (omega arith) (search rules)
 
 pub nonzero_div-q : goal.nonzero_div-q
-nonzero_div-q c = some c.ten_to-p.ensures (omega arith)
+nonzero_div-q c = some-power c.ten_to-p.ensures (omega arith)
 
 pub returns-then-not-passed : goal.returns-then-not-passed
 returns-then-not-passed c =
@@ -27,18 +18,18 @@ returns-then-not-passed c =
     size-cut at-args.passed _ _ _ (is-power c.ten_to-p.ensures (omega arith)) (c.if-not-passed.true)
 
 pub nonzero_rem-rest : goal.nonzero_rem-rest
-nonzero_rem-rest c = some c.ten_to-p.ensures (omega arith)
+nonzero_rem-rest c = some-power c.ten_to-p.ensures (omega arith)
 
 pub overflow_sub-p : goal.overflow_sub-p
 overflow_sub-p c =
     let at-args = c.args in
-    omega (arith, mod-lt at-args.size (some c.ten_to-p.ensures (omega arith)))
+    omega (arith, mod-lt at-args.size (some-power c.ten_to-p.ensures (omega arith)))
 
 pub overflow_add-result : goal.overflow_add-result
 overflow_add-result c =
     let at-args = c.args in
     let at-ten-to = c.ten_to-p in
-    omega (arith, next-most at-args.size at-ten-to.result (some c.ten_to-p.ensures (omega arith)) (sym c.goes_up.ensures ∙ c.if-goes_up.true))
+    omega (arith, next-most at-args.size at-ten-to.result (some-power c.ten_to-p.ensures (omega arith)) (sym c.goes_up.ensures ∙ c.if-goes_up.true))
 
 pub returns-then-goes_up : goal.returns-then-goes_up
 returns-then-goes_up c =

@@ -1,8 +1,9 @@
 -- The laws of a number's answer.
-use Rattle.std.proofs.Common.{◌≡◌, ℕ, ◌<◌, ◌≤◌, min, Bool, true, false, cond, ◌&&◌, ltb, arith, le-ltb, lt-ltb}
+use Rattle.std.proofs.Common.{ap, ◌≡◌, ℕ, ◌<◌, ◌≤◌, min, Bool, true, false, cond, ltb, arith, le-ltb, lt-ltb}
 use native.Mathlib.Decide.{dec_lt}
 use Rattle.value.specs.Answer.{Answer, refused, given}
-use Rattle.value.specs.Number.{Whole, number, some, number_in, read_in}
+use Rattle.value.specs.declared.Whole.{Whole}
+use Rattle.value.specs.Number.{number, some, number_in, read_in}
 
 module _ (question bound : ℕ) (negative : Bool) (v : ℕ) where
   -- nothing is lost by a size that stops counting at the bound or past it
@@ -17,8 +18,12 @@ module _ (question bound : ℕ) (negative : Bool) (v : ℕ) where
   pub number_in-small : (n : Bool) (w : ℕ) → number_in question bound negative v ≡ given (number n w) → w < bound
   number_in-small n w e = go (dec_lt v bound)
     where
+      size_in_answer : Answer Whole → ℕ
+      size_in_answer (refused q) = 0
+      size_in_answer (given m) = m.size
+
       go : Dec (v < bound) → w < bound
-      go (yes h) = let k : v ≡ w = let f : ◌≡◌ {A = Answer Whole} (given (number (ltb 0 v && negative) v)) (given (number n w)) = rw (lt-ltb v bound h) at e in cc in omega arith
+      go (yes h) = let k : v ≡ w = ap size_in_answer (rw (lt-ltb v bound h) at e) in omega arith
       go (no h) = let z : ◌≡◌ {A = ℕ} 0 1 = let f : ◌≡◌ {A = Answer Whole} (refused question) (given (number n w)) = rw (le-ltb v bound (omega arith)) at e in cc in absurd (omega arith)
 
   pub number_in-fits : v < bound → number_in question bound negative v ≡ some negative v

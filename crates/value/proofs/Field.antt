@@ -1,6 +1,7 @@
 -- How a reader from the left finds out what a field of digits answers.
 use Rattle.std.proofs.Common.{◌≡◌, ℕ, ◌+◌, ◌-◌, ◌*◌, ◌<◌, ◌≤◌, min, Bool, true, false, cond, ◌&&◌, ltb, List, [], ◌∷◌, ◌++◌, length, get_or, take, refl, ap, ◌∙◌, arith, length-append, take_at, le-ltb, lt-ltb}
 use mathlib.Core.Bool.{and-false}
+use lib.ListN.{get_or-append}
 use lib.Seq.{get_or_at}
 use Rattle.value.specs.Digits.{value_of, digits_ok, spread}
 use Rattle.value.specs.Field.{last_of, digits_by, field_of}
@@ -92,3 +93,10 @@ pub front-snoc : (t : List ℕ) (x : ℕ) → take (length (t ++ (x ∷ [])) - 1
 front-snoc t x =
     let e : length (t ++ (x ∷ [])) - 1 ≡ length t = let l = length-append t (x ∷ []) in omega arith in
     rw e (take_at t (x ∷ []) (length t) refl)
+
+-- a part that is split before its last byte
+pub split-front : (part front : List ℕ) (last i : ℕ) → part ≡ front ++ (last ∷ []) → i < length front → get_or part i 0 ≡ get_or front i 0
+split-front part front last i e h = ap (λ (l : List ℕ). get_or l i 0) e ∙ get_or-append front (last ∷ []) 0 i h
+
+pub split-last : (part front : List ℕ) (last : ℕ) → part ≡ front ++ (last ∷ []) → last_of part ≡ last
+split-last part front last e = ap last_of e ∙ last_snoc front last

@@ -1,15 +1,12 @@
 -- What is answered for a number: its sign and its size, or the question that refuses.
 use Rattle.std.specs.Prelude.{ℕ, Bool, cond, ◌&&◌, nat_lt}
-use Rattle.value.specs.declared.Number.{Number}
-use Rattle.value.specs.declared.Number.TheVariants.{Of, Bad, Big}
-use Rattle.value.specs.declared.Amount.{Amount}
-use Rattle.value.specs.declared.Amount.TheVariants.{Of as OfAmount, Bad as BadAmount, Big as BigAmount}
+use Rattle.value.specs.declared.Whole.{Whole}
 use Rattle.value.specs.Answer.{Answer, refused, given}
 use Rattle.value.specs.Digits.{limit}
 
--- a whole number: whether it is negative, and its size
-pub data Whole : Type 0 where
-  number : Bool → ℕ → Whole
+-- the whole number of a sign and a size
+abbrev pub number : Bool → ℕ → Whole
+number negative v = record { negative = negative; size = v }
 
 -- the number of a sign and a size; 0 has no sign
 abbrev pub some : Bool → ℕ → Answer Whole
@@ -36,25 +33,4 @@ amount_of negative v = number_in 14 limit negative v
 -- a number with a sign in front of it
 abbrev pub with_sign : Bool → Answer Whole → Answer Whole
 with_sign negative (refused question) = refused question
-with_sign negative (given (number n v)) = some negative v
-
--- ---- the cases of the enums
-
--- bad, big: the questions that refuse
-abbrev pub number_by : ℕ → ℕ → Number → Answer Whole
-number_by bad big (Of negative v) = given (number negative v)
-number_by bad big Bad = refused bad
-number_by bad big Big = refused big
-
--- a number that is read, and an integer that a value stands for in writing
-abbrev pub read_as : Number → Answer Whole
-read_as n = number_by 8 9 n
-
-abbrev pub written_as : Number → Answer Whole
-written_as n = number_by 13 14 n
-
--- what a value is in a Decimal or an Edited field
-abbrev pub amount_as : Amount → Answer Whole
-amount_as (OfAmount negative v) = given (number negative v)
-amount_as BadAmount = refused 13
-amount_as BigAmount = refused 14
+with_sign negative (given n) = some negative n.size

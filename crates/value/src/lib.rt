@@ -6,28 +6,19 @@ ghost use Rattle.std.specs.Prelude.{◌≡◌, ℕ, ◌+◌, ◌*◌, ◌/◌, �
 ghost use Rattle.std.specs.Float.Ieee as Ieee;
 ghost use Rattle.std.specs.Float.{binary64};
 ghost use Rattle.value.specs.Digits.{capped, limit, room_for, is_digit, digit_in};
-ghost use Rattle.value.specs.Number.{some, read_in, amount_of, with_sign, number_by, read_as, amount_as};
+ghost use Rattle.value.specs.Answer.{given, answered};
+ghost use Rattle.value.specs.Number.{some, read_in, amount_of, with_sign};
 ghost use Rattle.value.specs.Rounding.{goes_up, rounded, rescaled};
 ghost use Rattle.value.specs.Word.{word_of, minus_in, size_in, power_ten};
 ghost use Rattle.value.specs.Scalar.{tag_of, first_of, second_of, float_of, scalar_of};
 
-use codes::{TAG_BOOL, TAG_DECIMAL, TAG_FLOAT, TAG_INT, TAG_NULL, TAG_TEXT};
+use codes::{Refusal, Tag};
 
-// What is answered for a number that is read, or for the integer that a value stands for: whether it is negative, and its size; 0 is never negative.
-// Bad: an unlawful byte, or no integer. Big: out of range.
-#[derive(Clone, Copy)]
-pub enum Number {
-    Of(bool, u64),
-    Bad,
-    Big,
-}
-
-// The same for a value that is to be written into a Decimal or an Edited field. Bad: a value that is no number there. Big: a size from 10^18.
-#[derive(Clone, Copy)]
-pub enum Amount {
-    Of(bool, u64),
-    Bad,
-    Big,
+// A whole number: whether it is negative, and its size; 0 is never negative.
+#[derive(Clone, Copy, Debug, PartialEq, Eq)]
+pub struct Whole {
+    pub negative: bool,
+    pub size: u64,
 }
 
 // A field's value before it becomes an item: Text is a start and a length in a text buffer, Int and Decimal a sign and a size,
@@ -54,38 +45,24 @@ pub const INT_LIMIT: u64 = 0x8000_0000_0000_0000;
 pub fn is_digit(x: u8) -> bool
     ensures { result ≡ is_digit x }
 {
-    if x < 48 {
-        return false;
-    }
-    x <= 57
+    x.is_ascii_digit()
 }
 
 // What a digit's byte is worth; 0 for a byte below the digits.
 pub fn digit_in(x: u8) -> u8
     ensures { result ≡ digit_in x }
 {
-    if x < 48 {
-        return 0;
-    }
-    x - 48
+    x.saturating_sub(b'0')
 }
 
 // One digit more of a size that stops counting at a cap.
 pub fn push_digit(size: u64, digit: u8, cap: u64) -> u64
     ensures { result ≡ min (size * 10 + digit) cap }
 {
-    if size >= cap / 10 + (cap % 10 + 9) / 10 {
+    if size >= cap.div_ceil(10) {
         return cap;
     }
-    let tens = size * 10;
-    let next = std::num::wrapping_add_u64(tens, digit as u64);
-    if next < tens {
-        return cap;
-    }
-    if next >= cap {
-        return cap;
-    }
-    next
+    (size * 10).saturating_add(u64::from(digit)).min(cap)
 }
 
 // Two digits more.
@@ -130,58 +107,44 @@ pub fn drop_pair(size: u64) -> u64
 pub fn has_room(places: usize, size: u64) -> bool
     ensures { result ≡ room_for places size }
 {
-    if places == 0 {
-        return false;
-    }
-    if places >= 20 {
-        return true;
-    }
-    let p = ten_to(places as u64);
-    size < p
+    places > 0 && (places >= 20 || size < ten_to(places as u64))
 }
 
-// The number of a sign and a size that is in range.
-pub fn signed_size(negative: bool, size: u64) -> Number
-    ensures { (bad big : ℕ) → number_by bad big result ≡ some negative size }
+// The whole number of a sign and a size.
+pub fn signed_size(negative: bool, size: u64) -> Whole
+    ensures { given result ≡ some negative size }
 {
-    if size == 0 {
-        return Number::Of(false, 0);
+    Whole {
+        negative: negative && size != 0,
+        size,
     }
-    Number::Of(negative, size)
 }
 
-// The answer for a sign and a size that are read, where the size is to be below a bound.
-pub fn number_in(bound: u64, negative: bool, size: u64) -> Number
-    ensures { read_as result ≡ read_in bound negative size }
+// The number of a sign and a size that are read, where the size is to be below a bound.
+pub fn number_in(bound: u64, negative: bool, size: u64) -> Result<Whole, Refusal>
+    ensures { answered result ≡ read_in bound negative size }
 {
     if size >= bound {
-        return Number::Big;
+        return Err(Refusal::OutOfRange);
     }
-    signed_size(negative, size)
+    Ok(signed_size(negative, size))
 }
 
 // A number with a sign in front of it.
-pub fn with_sign(negative: bool, n: Number) -> Number
-    ensures { read_as result ≡ with_sign negative (read_as n) }
+pub fn with_sign(negative: bool, n: Result<Whole, Refusal>) -> Result<Whole, Refusal>
+    ensures { answered result ≡ with_sign negative (answered n) }
 {
-    match n {
-        Number::Of(_, size) => signed_size(negative, size),
-        Number::Bad => Number::Bad,
-        Number::Big => Number::Big,
-    }
+    Ok(signed_size(negative, n?.size))
 }
 
-// The answer for a sign and a size that are to be written.
-pub fn amount_of(negative: bool, size: u64) -> Amount
-    ensures { amount_as result ≡ amount_of negative size }
+// The number of a sign and a size that are to be written.
+pub fn amount_of(negative: bool, size: u64) -> Result<Whole, Refusal>
+    ensures { answered result ≡ amount_of negative size }
 {
     if size >= LIMIT {
-        return Amount::Big;
+        return Err(Refusal::Misfit);
     }
-    if size == 0 {
-        return Amount::Of(false, 0);
-    }
-    Amount::Of(negative, size)
+    Ok(signed_size(negative, size))
 }
 
 // 10^k where a word holds it, else 0.
@@ -218,55 +181,49 @@ pub fn goes_up(above: u64, below: u64, q: u64) -> bool
     ensures { result ≡ goes_up above below q }
 {
     if above == below {
-        return q % 2 == 1;
+        q % 2 == 1
+    } else {
+        above > below
     }
-    above > below
 }
 
 // A size of one scale at another, as an amount.
-pub fn rescale(negative: bool, size: u64, from: u64, to: u64) -> Amount
-    ensures { amount_as result ≡ amount_of negative (rescaled from to size) }
+pub fn rescale(negative: bool, size: u64, from: u64, to: u64) -> Result<Whole, Refusal>
+    ensures { answered result ≡ amount_of negative (rescaled from to size) }
 {
     if from == to {
-        return amount_of(negative, size);
+        amount_of(negative, size)
+    } else if from < to {
+        scale_up(negative, size, to - from)
+    } else {
+        amount_of(negative, rounded(size, from - to))
     }
-    if from < to {
-        return scale_up(negative, size, to - from);
-    }
-    scale_down(negative, size, from - to)
 }
 
 // A size without k digits, to the nearest. From k = 20 on no size comes to a half.
-fn scale_down(negative: bool, size: u64, k: u64) -> Amount
-    ensures { amount_as result ≡ amount_of negative (rounded size (10 ^ k)) }
+pub fn rounded(size: u64, k: u64) -> u64
+    ensures { result ≡ rounded size (10 ^ k) }
 {
     if k > 19 {
-        return amount_of(negative, 0);
+        return 0;
     }
     let p = ten_to(k);
     let q = size / p;
     let rest = size % p;
-    if goes_up(rest, p - rest, q) {
-        return amount_of(negative, q + 1);
-    }
-    amount_of(negative, q)
+    if goes_up(rest, p - rest, q) { q + 1 } else { q }
 }
 
 // A size with k zeros more.
-fn scale_up(negative: bool, size: u64, k: u64) -> Amount
-    ensures { amount_as result ≡ amount_of negative (size * 10 ^ k) }
+fn scale_up(negative: bool, size: u64, k: u64) -> Result<Whole, Refusal>
+    ensures { answered result ≡ amount_of negative (size * 10 ^ k) }
 {
     if size == 0 {
         return amount_of(negative, 0);
     }
-    if k > 18 {
-        return Amount::Big;
+    if k > 18 || size >= ten_to(18 - k) {
+        return Err(Refusal::Misfit);
     }
-    if size >= ten_to(18 - k) {
-        return Amount::Big;
-    }
-    let p = ten_to(k);
-    amount_of(negative, size * p)
+    amount_of(negative, size * ten_to(k))
 }
 
 // ---- words
@@ -275,13 +232,7 @@ fn scale_up(negative: bool, size: u64, k: u64) -> Amount
 pub fn word_of(negative: bool, size: u64) -> u64
     ensures { result ≡ word_of negative size }
 {
-    if size == 0 {
-        return 0;
-    }
-    if negative {
-        return 18446744073709551615 - (size - 1);
-    }
-    size
+    if negative { size.wrapping_neg() } else { size }
 }
 
 pub fn is_minus(w: u64) -> bool
@@ -293,10 +244,7 @@ pub fn is_minus(w: u64) -> bool
 pub fn size_of(w: u64) -> u64
     ensures { result ≡ size_in w }
 {
-    if w >= INT_LIMIT {
-        return 18446744073709551615 - w + 1;
-    }
-    w
+    if is_minus(w) { w.wrapping_neg() } else { w }
 }
 
 // ---- scalars and items
@@ -309,16 +257,6 @@ pub fn float_word(x: f64) -> u64
         return f64::to_bits(x);
     }
     0x7FF8000000000000
-}
-
-// The word of a Bool.
-fn bool_word(b: bool) -> u64
-    ensures { result ≡ (if b then 1 else 0) }
-{
-    if b {
-        return 1;
-    }
-    0
 }
 
 // An item's words behind its name.
@@ -335,38 +273,38 @@ pub fn words_of(s: Scalar) -> Words
 {
     match s {
         Scalar::Null => Words {
-            tag: TAG_NULL,
+            tag: Tag::Null.into(),
             a: 0,
             b: 0,
         },
         Scalar::Text(start, count) => Words {
-            tag: TAG_TEXT,
+            tag: Tag::Text.into(),
             a: start,
             b: count,
         },
         Scalar::Int(negative, size) => Words {
-            tag: TAG_INT,
+            tag: Tag::Int.into(),
             a: word_of(negative, size),
             b: 0,
         },
         Scalar::Decimal(negative, size, scale) => Words {
-            tag: TAG_DECIMAL,
+            tag: Tag::Decimal.into(),
             a: word_of(negative, size),
             b: scale,
         },
         Scalar::Float(x) => Words {
-            tag: TAG_FLOAT,
+            tag: Tag::Float.into(),
             a: float_word(x),
             b: 0,
         },
         Scalar::FloatBits(w) => Words {
-            tag: TAG_FLOAT,
+            tag: Tag::Float.into(),
             a: w,
             b: 0,
         },
         Scalar::Bool(b) => Words {
-            tag: TAG_BOOL,
-            a: bool_word(b),
+            tag: Tag::Bool.into(),
+            a: u64::from(b),
             b: 0,
         },
     }
@@ -391,15 +329,16 @@ pub fn float_scalar(w: u64) -> Scalar
 }
 
 // The scalar of an item's tag and two words.
+#[tactic(auto, unfolding(crate::specs::Scalar::scalar_of))]
 pub fn item_scalar(tag: u64, a: u64, b: u64) -> Scalar
     ensures { result ≡ scalar_of tag a b }
 {
-    match tag {
-        TAG_TEXT => Scalar::Text(a, b),
-        TAG_INT => Scalar::Int(is_minus(a), size_of(a)),
-        TAG_DECIMAL => Scalar::Decimal(is_minus(a), size_of(a), b),
-        TAG_FLOAT => float_scalar(a),
-        TAG_BOOL => Scalar::Bool(a == 1),
+    match Tag::try_from(tag) {
+        Ok(Tag::Text) => Scalar::Text(a, b),
+        Ok(Tag::Int) => Scalar::Int(is_minus(a), size_of(a)),
+        Ok(Tag::Decimal) => Scalar::Decimal(is_minus(a), size_of(a), b),
+        Ok(Tag::Float) => float_scalar(a),
+        Ok(Tag::Bool) => Scalar::Bool(a == 1),
         _ => Scalar::Null,
     }
 }

@@ -1,4 +1,4 @@
--- `value::rescale` meets its contract: an equal scale leaves the size, and the two others multiply or round it.
+-- An equal scale leaves the size, and the two others multiply or round it.
 use Rattle.std.proofs.Common.{ℕ, sym, ap, ◌∙◌, arith}
 use Rattle.value.specs.Number.{amount_of}
 use Rattle.value.specs.Rounding.{rescaled}
@@ -14,6 +14,7 @@ pub returns-then-from-to-2 : goal.returns-then-from-to-2
 returns-then-from-to-2 c =
     let a = c.args in c.scale_up.ensures ∙ ap (amount_of a.negative) (scale-up a.from a.to a.size c.if-from-to-2.true)
 
-pub returns : goal.returns
-returns c =
-    let a = c.args in c.scale_down.ensures ∙ ap (amount_of a.negative) (scale-down a.from a.to a.size (omega arith))
+pub returns-else-from-to-2 : goal.returns-else-from-to-2
+returns-else-from-to-2 c =
+    let a = c.args in
+    c.amount_of-else-from-to-2.ensures ∙ ap (amount_of a.negative) (c.rounded.ensures ∙ scale-down a.from a.to a.size (omega arith))

@@ -1,17 +1,16 @@
 -- Two's complement by the width.
 use mathlib.Core.Path.{◌≡◌, refl, sym, ap, ◌∙◌, subst}
 use mathlib.Core.List.{List, [], ◌∷◌}
-use mathlib.Core.Bool.{Bool, true, false, ◌&&◌, and-false, false≢true}
+use mathlib.Core.Bool.{Bool, true, false, ◌&&◌, false≢true}
 use Prim.Native.Nat.{ℕ, zero, suc, ◌+◌, ◌-◌, ◌*◌, ◌/◌, ◌%◌, ◌^◌, ◌≤◌, ◌<◌}
 use native.Mathlib.Nat.{mod-eq_of_lt, lt_of_lt_of_le, pow-le-pow_right}
 use native.Mathlib.Numerals.{add-one}
 use native.Mathlib.Omega.{arith}
-use lib.Dec.{eqb, leb, ltb, eqb→eq, lit<}
+use lib.Dec.{eqb, leb, eqb→eq, lit<}
 use lib.ListN.{length, get_or}
-use borrow.Author.Tests.{le-leb, lt-leb, leb-true, lt-ltb, le-ltb}
+use borrow.Author.Tests.{le-leb, leb-true}
 use Rattle.lists.proofs.Table.{at}
-use Rattle.value.specs.Answer.{Answer, refused, given}
-use Rattle.value.specs.Number.{Whole, number, some, unlawful}
+use Rattle.value.specs.Number.{some, unlawful}
 use Rattle.value.proofs.Answers.{Numbered, numbered-cond, numbered-in}
 use Rattle.binary.specs.Binary.{half_of, width_ok, signed_word, unsigned_word, integer_of}
 use Rattle.binary.proofs.Words.{word_below}
@@ -58,14 +57,13 @@ unfolding behind even
 half_twice zero l h = absurd (omega arith)
 half_twice (suc n) l h = eqb→eq (2 * get_or behind n 0) (256 ^ (n + 1)) (at even behind tt n (omega arith)) ∙ ap (λ (k : ℕ). 256 ^ k) (add-one n)
 
-pub below_half : (n v : ℕ) → n ≤ 8 → v < half_at n → given (number false v) ≡ signed_word n v
-below_half n v h l = rw (lt-leb (256 ^ n / 2) v (rw (half_is n h) at l), and-false (ltb 0 v))
-
-pub from-half : (n v : ℕ) → 1 ≤ n → n ≤ 8 → v < 256 ^ n → half_at n ≤ v → given (number true (half_at n - (v - half_at n))) ≡ signed_word n v
-from-half n v k h b l =
-    let t : 2 * half_at n ≡ 256 ^ n = half_twice n k h in
-    let e : half_at n - (v - half_at n) ≡ 256 ^ n - v = omega arith in
-    rw (le-leb (256 ^ n / 2) v (rw (half_is n h) at l), e, lt-ltb 0 (256 ^ n - v) (omega arith))
+pub from-half : (n v h : ℕ) → width_ok n ≡ true → h ≡ half_of n → v < 256 ^ n → h ≤ v → some true (h - (v - h)) ≡ signed_word n v
+from-half n v h ok e b l =
+    let a : h ≡ half_at n = e ∙ half-known n ok in
+    let t : 2 * half_at n ≡ 256 ^ n = half_twice n (width_low n ok) (width-high n ok) in
+    let r : h - (v - h) ≡ 256 ^ n - v = omega arith in
+    let k : 256 ^ n / 2 ≤ v = rw (a, half_is n (width-high n ok)) at l in
+    rw (r, le-leb (256 ^ n / 2) v k)
 
 -- a word of at most eight bytes is read whole
 pub whole_word : (n v : ℕ) → n ≤ 8 → v < 256 ^ n → v % 2 ^ 64 ≡ v
@@ -75,28 +73,8 @@ whole_word n v h l = mod-eq_of_lt (lt_of_lt_of_le l (subst (λ (m : ℕ). 256 ^ 
     eight = refl
 
 -- what a reader of at most eight bytes finds
-module _ (order : ℕ) (s : List ℕ) (bytes : (k : ℕ) → k < length s → get_or s k 0 < 256) (ok : width_ok (length s) ≡ true) (v : ℕ) (e : v ≡ word_in order s % 2 ^ 64) where
-  pub word-is : v ≡ word_in order s
-  word-is = e ∙ whole_word (length s) (word_in order s) (width-high (length s) ok) (word_below order s bytes)
-
-  pub word_small : v < 256 ^ length s
-  word_small = rw word-is (word_below order s bytes)
-
-  pub read-signed : (signed : Bool) (r : Answer Whole) → signed ≡ true → r ≡ signed_word (length s) v → r ≡ integer_of order signed s
-  unfolding integer_of
-  read-signed signed r t q = q ∙ rw (ok, t, word-is)
-
-  pub read_plain : (signed : Bool) → signed ≡ false → v < 2 ^ 63 → given (number false v) ≡ integer_of order signed s
-  unfolding integer_of
-  read_plain signed t h = rw (ok, t, ← word-is, lt-ltb v (2 ^ 63) h, and-false (ltb 0 v))
-
-  pub read-big : (signed : Bool) → signed ≡ false → 2 ^ 63 ≤ v → refused 9 ≡ integer_of order signed s
-  unfolding integer_of
-  read-big signed t h = rw (ok, t, ← word-is, le-ltb v (2 ^ 63) h)
-
-pub read-bad : (order : ℕ) (signed : Bool) (s : List ℕ) → width_ok (length s) ≡ false → unlawful ≡ integer_of order signed s
-unfolding integer_of
-read-bad order signed s e = rw e
+pub word-is : (order : ℕ) (s : List ℕ) → ((k : ℕ) → k < length s → get_or s k 0 < 256) → width_ok (length s) ≡ true → word_in order s % 2 ^ 64 ≡ word_in order s
+word-is order s bytes ok = whole_word (length s) (word_in order s) (width-high (length s) ok) (word_below order s bytes)
 
 pub integer-numbered : (order : ℕ) (signed : Bool) (s : List ℕ) → Numbered (integer_of order signed s)
 unfolding integer_of

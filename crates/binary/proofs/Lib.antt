@@ -1,3 +1,4 @@
 pub mod Words
+pub mod Bools
 pub mod Integers
 pub mod Back

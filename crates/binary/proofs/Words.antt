@@ -1,44 +1,47 @@
 -- Bytes read and written by the loops, and read back.
 use mathlib.Core.Path.{◌≡◌, refl, sym, ap, ◌∙◌, subst}
 use mathlib.Core.Bool.{Bool, true, false, cond}
-use mathlib.Core.List.{List, [], ◌∷◌, ◌++◌, append_assoc}
+use mathlib.Core.List.{List, [], ◌∷◌, ◌++◌, append-nil, append_assoc}
 use Prim.Native.Nat.{ℕ, zero, suc, ◌+◌, ◌-◌, ◌*◌, ◌/◌, ◌%◌, ◌^◌, ◌≤◌, ◌<◌, suc-le-suc}
-use native.Mathlib.Nat.{not-suc-le-zero, le_of_suc-le-suc, mod-lt, mod-one, pow-zero, pow-suc, pow-succ', add-mul, mul_assoc, add_assoc, zero-mul, zero-add, div-div-eq-div-mul, div-one, zero-lt-suc}
+use borrow.Author.Tests.{eq-eqb, ne_eqb}
+use native.Mathlib.Nat.{sub-zero, not-suc-le-zero, le_of_suc-le-suc, mod-lt, mod-one, pow-zero, pow-suc, pow-succ', add-mul, mul_assoc, add_assoc, zero-mul, zero-add, div-div-eq-div-mul, div-one, zero-lt-suc}
 use native.Mathlib.Numerals.{add-one}
 use native.Mathlib.Omega.{arith}
 use lib.Arith.{mod-mul, digits_lt}
 use lib.Dec.{eqb, lit<}
 use lib.ListN.{length, get_or, take, drop, set}
-use lib.Seq.{drop-cons, take-suc, take-suc-set, drop-length}
+use lib.Seq.{take_all, take-suc-set, drop-length}
+use Rattle.std.specs.List.{fold}
+use Rattle.std.proofs.Common.{reverse, ◌⊎◌, inl, inr}
+use Rattle.std.proofs.lemmas.Bool.{cases_eq}
+use Rattle.std.proofs.lemmas.List.{reverse-append}
+use Rattle.std.proofs.lemmas.List.Sums.{fold-append}
 use Rattle.lists.proofs.Lists.{drop-set}
 use Rattle.binary.specs.Bytes.{big_from, little_of, word_in, big_bytes, little_bytes, bytes_of}
 
 -- ---- reading
 
-big-append : (acc : ℕ) (xs ys : List ℕ) → big_from acc (xs ++ ys) ≡ big_from (big_from acc xs) ys
-big-append acc [] ys = refl
-big-append acc (x ∷ xs) ys = big-append (acc * 256 + x) xs ys
-
 -- one byte more, in a word of 64 bits
-shifted : (x y : ℕ) → y < 256 → x % 2 ^ 64 % 0x100_0000_0000_0000 * 256 + y ≡ (x * 256 + y) % 2 ^ 64
-shifted x y l = omega arith
+abbrev pub more : ℕ → ℕ → ℕ
+more w b = (w * 256 + b) % 2 ^ 64
 
-pub big-go : (s : List ℕ) (i v b : ℕ) → i < length s → b ≡ get_or s i 0 → b < 256 → v ≡ big_from 0 (take i s) % 2 ^ 64
-    → v % 0x100_0000_0000_0000 * 256 + b ≡ big_from 0 (take (i + 1) s) % 2 ^ 64
-big-go s i v b h e k q =
-    let m : big_from 0 (take (i + 1) s) ≡ big_from 0 (take i s) * 256 + get_or s i 0 = rw (add-one, take-suc s i 0 h) (big-append 0 (take i s) (get_or s i 0 ∷ [])) in
-    rw (m, q, e) (shifted (big_from 0 (take i s)) (get_or s i 0) (rw e at k))
+shifted : (x y : ℕ) → more (x % 2 ^ 64) y ≡ (x * 256 + y) % 2 ^ 64
+shifted x y = omega arith
 
-pub little-go : (s : List ℕ) (i v b : ℕ) → 0 < i → i ≤ length s → b ≡ get_or s (i - 1) 0 → b < 256 → v ≡ little_of (drop i s) % 2 ^ 64
-    → v % 0x100_0000_0000_0000 * 256 + b ≡ little_of (drop (i - 1) s) % 2 ^ 64
-little-go s i v b h l e k q =
-    let j : suc (i - 1) ≡ i = omega arith in
-    let d : drop (i - 1) s ≡ get_or s (i - 1) 0 ∷ drop i s = drop-cons s (i - 1) 0 (omega arith) ∙ ap (λ (n : ℕ). get_or s (i - 1) 0 ∷ drop n s) j in
-    rw (d, q, e) (shifted (little_of (drop i s)) (get_or s (i - 1) 0) (rw e at k))
+big-more : (acc : ℕ) (s : List ℕ) → fold more (acc % 2 ^ 64) s ≡ big_from acc s % 2 ^ 64
+big-more acc [] = refl
+big-more acc (x ∷ s) = ap (λ (w : ℕ). fold more w s) (shifted acc x) ∙ big-more (acc * 256 + x) s
+
+pub fold-big : (s : List ℕ) → fold more 0 s ≡ big_from 0 s % 2 ^ 64
+fold-big s = big-more 0 s
+
+pub fold-little : (s : List ℕ) → fold more 0 (reverse s) ≡ little_of s % 2 ^ 64
+fold-little [] = refl
+fold-little (x ∷ s) = ap (fold more 0) (reverse-append (x ∷ []) s) ∙ fold-append more 0 (reverse s) (x ∷ []) ∙ ap (λ (w : ℕ). more w x) (fold-little s) ∙ shifted (little_of s) x
 
 -- ---- bounds
 
-pub pow-pos256 : (n : ℕ) → 0 < 256 ^ n
+pow-pos256 : (n : ℕ) → 0 < 256 ^ n
 pow-pos256 zero = rw pow-zero (lit< tt)
 pow-pos256 (suc n) = let h = pow-pos256 n in rw pow-suc (omega arith)
 
@@ -74,12 +77,12 @@ pub record Put (l : List ℕ) (n w i rest : ℕ) : Type 0 where
   pub tail : drop i l ≡ big_bytes (n - i) w
   pub left : rest ≡ w / 256 ^ (n - i)
 
-pub put-none : (l : List ℕ) (n w : ℕ) → length l ≡ n → Put l n w n w
+put-none : (l : List ℕ) (n w : ℕ) → length l ≡ n → Put l n w n w
 put-none l n w e =
     let z : n - n ≡ 0 = omega arith in
     record { tail = rw (z, ← e, drop-length); left = rw z (sym (div-one w)) }
 
-pub put-more : (l : List ℕ) (n w i rest : ℕ) → 0 < i → i ≤ n → length l ≡ n → Put l n w i rest → Put (set l (i - 1) (rest % 256)) n w (i - 1) (rest / 256)
+put-more : (l : List ℕ) (n w i rest : ℕ) → 0 < i → i ≤ n → length l ≡ n → Put l n w i rest → Put (set l (i - 1) (rest % 256)) n w (i - 1) (rest / 256)
 put-more l n w i rest h k e r =
     let d : n - (i - 1) ≡ suc (n - i) = omega arith in
     let s : suc (i - 1) ≡ i = omega arith in
@@ -88,11 +91,53 @@ put-more l n w i rest h k e r =
       left = rw (d, r.left, next-byte);
     }
 
-pub little-more : (l : List ℕ) (n w i rest : ℕ) → i < n → length l ≡ n → little_bytes n w ≡ take i l ++ little_bytes (n - i) rest
+little-more : (l : List ℕ) (n w i rest : ℕ) → i < n → length l ≡ n → little_bytes n w ≡ take i l ++ little_bytes (n - i) rest
     → little_bytes n w ≡ take (i + 1) (set l i (rest % 256)) ++ little_bytes (n - (i + 1)) (rest / 256)
 little-more l n w i rest h e q =
     let d : n - i ≡ suc (n - (i + 1)) = omega arith in
     q ∙ rw (d, add-one, take-suc-set l i (rest % 256) (omega arith), append_assoc)
+
+-- after k bytes, stored from the right end in Big and from the left end in Little
+pub record Turn (l : List ℕ) (n order w k rest : ℕ) : Type 0 where
+  pub big : order ≡ 0 → Put l n w (n - k) rest
+  pub little : (order ≡ 0 → ⊥) → little_bytes n w ≡ take k l ++ little_bytes (n - k) rest
+
+pub turn-none : (l : List ℕ) (order w : ℕ) → Turn l (length l) order w 0 w
+turn-none l order w = record {
+  big = λ e. rw sub-zero (put-none l (length l) w refl);
+  little = λ e. rw sub-zero refl;
+}
+
+pub turn-big : (l : List ℕ) (n order w k rest : ℕ) → k < n → length l ≡ n → order ≡ 0 → Turn l n order w k rest → Turn (set l (n - 1 - k) (rest % 256)) n order w (k + 1) (rest / 256)
+turn-big l n order w k rest h e z t =
+    let i : n - 1 - k ≡ n - k - 1 = omega arith in
+    let j : n - (k + 1) ≡ n - k - 1 = omega arith in
+    record {
+      big = λ q. rw (i, j) (put-more l n w (n - k) rest (omega arith) (omega arith) e (t.big z));
+      little = λ f. absurd (f z);
+    }
+
+pub turn-little : (l : List ℕ) (n order w k rest : ℕ) → k < n → length l ≡ n → (order ≡ 0 → ⊥) → Turn l n order w k rest → Turn (set l k (rest % 256)) n order w (k + 1) (rest / 256)
+turn-little l n order w k rest h e z t = record {
+  big = λ q. absurd (z q);
+  little = λ f. little-more l n w k rest h e (t.little z);
+}
+
+pub turn-all : (l : List ℕ) (n order w k rest : ℕ) → length l ≡ n → n ≤ k → Turn l n order w k rest → l ≡ bytes_of order n w
+unfolding bytes_of
+turn-all l n order w k rest e h t = go (cases_eq order 0)
+  where
+    z : n - k ≡ 0
+    z = omega arith
+
+    go : (order ≡ 0) ⊎ (order ≡ 0 → ⊥) → l ≡ cond (eqb order 0) (big_bytes n w) (little_bytes n w)
+    go (inl q) =
+        let p : drop (n - k) l ≡ big_bytes (n - (n - k)) w = (t.big q).tail in
+        rw (eq-eqb order 0 q) (rw (z, sub-zero) at p)
+    go (inr q) =
+        let p : little_bytes n w ≡ take k l ++ little_bytes (n - k) rest = t.little q in
+        let a : take k l ≡ l = take_all k l (omega arith) in
+        rw (ne_eqb order 0 q) (sym (rw (z, append-nil, a) at p))
 
 -- ---- what is written is read back, modulo the width
 

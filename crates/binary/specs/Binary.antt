@@ -2,7 +2,8 @@
 use Rattle.std.specs.Prelude.{List, Bool, true, false, not, ◌&&◌, ◌||◌, cond, ℕ, ◌-◌, ◌/◌, ◌^◌, eqb, leb, length}
 use Rattle.lists.specs.Scan.{every_by}
 use Rattle.value.specs.Answer.{Answer}
-use Rattle.value.specs.Number.{Whole, some, read_in, unlawful}
+use Rattle.value.specs.declared.Whole.{Whole}
+use Rattle.value.specs.Number.{some, read_in, unlawful}
 use Rattle.value.specs.Word.{word_of}
 use Rattle.binary.specs.Bytes.{word_in, bytes_of}
 

@@ -9,7 +9,8 @@ use Rattle.value.specs.declared.Scalar.{Scalar}
 use Rattle.value.specs.declared.Scalar.TheVariants.{Null, Text, Int, Decimal, Float, FloatBits, Bool as BoolV}
 use Rattle.value.specs.Answer.{Answer, refused, given}
 use Rattle.value.specs.Digits.{value_of, is_digit, digit_in, limit}
-use Rattle.value.specs.Number.{Whole, some, read_in, unlawful, no_number}
+use Rattle.value.specs.declared.Whole.{Whole}
+use Rattle.value.specs.Number.{some, read_in, unlawful, no_number}
 use Rattle.value.proofs.Answers.{Numbered, numbered-cond, numbered-in}
 use Rattle.lists.specs.Scan.{every_by}
 use Rattle.numerals.specs.Numerals.{trimmed, is_sign}

@@ -9,7 +9,8 @@ use lib.Seq.{drop-cons}
 use borrow.Author.Tests.{lt-ltb}
 use Rattle.value.specs.Answer.{Answer}
 use Rattle.value.specs.Digits.{value_from, is_digit, digit_in}
-use Rattle.value.specs.Number.{Whole, read_in, unlawful}
+use Rattle.value.specs.declared.Whole.{Whole}
+use Rattle.value.specs.Number.{read_in, unlawful}
 use Rattle.value.proofs.Digits.{cap-answer}
 use Rattle.value.proofs.Answers.{read-capped}
 use Rattle.lists.specs.Scan.{every_by}

@@ -3,7 +3,6 @@ use mathlib.Core.Path.{◌≡◌, refl, sym, ◌∙◌, ap}
 use mathlib.Core.List.{List, [], ◌∷◌, map}
 use mathlib.Core.Bool.{Bool, true, false, cond, false≢true}
 use Prim.Native.Nat.{ℕ, ◌+◌, ◌-◌, ◌^◌, ◌<◌, ◌≤◌}
-use native.Mathlib.Nat.{sub-zero}
 use native.Mathlib.Omega.{arith}
 use lib.Dec.{eqb}
 use lib.ListN.{length, get_or, take, drop, length-map}
@@ -26,8 +25,8 @@ none-at sign = by (eqb sign 2) (eqb sign 3)
     by false false = refl
 
 module _ (g : ℕ → ℕ) (s : List ℕ) (sign : ℕ) where
-  pub sign-none : length s ≡ 0 → sign_at sign (map g s) ≡ 0
-  sign-none h = by s h
+  pub sign_none : length s ≡ 0 → sign_at sign (map g s) ≡ 0
+  sign_none h = by s h
     where
       by : (l : List ℕ) → length l ≡ 0 → sign_at sign (map g l) ≡ 0
       by [] e = none-at sign
@@ -41,9 +40,9 @@ module _ (g : ℕ → ℕ) (s : List ℕ) (sign : ℕ) where
   unfolding sign_at
   sign-last e h = rw (ne_eqb sign 2 (omega arith), eq-eqb sign 3 e, length-map s g) (get_d_map g s (length s - 1) (omega arith))
 
-  pub sign-nowhere : ¬ (sign ≡ 2) → ¬ (sign ≡ 3) → sign_at sign (map g s) ≡ 0
+  pub sign_nowhere : ¬ (sign ≡ 2) → ¬ (sign ≡ 3) → sign_at sign (map g s) ≡ 0
   unfolding sign_at
-  sign-nowhere a b = rw (ne_eqb sign 2 a, ne_eqb sign 3 b)
+  sign_nowhere a b = rw (ne_eqb sign 2 a, ne_eqb sign 3 b)
 
   pub sign-some : is_sign (sign_at sign (map g s)) ≡ true → 1 ≤ length s
   sign-some h = by s h
@@ -56,9 +55,9 @@ module _ (g : ℕ → ℕ) (s : List ℕ) (sign : ℕ) where
   unfolding rest_of
   rest-first e h = rw (h, eq-eqb sign 2 e) (ap (map g) (tail-part s 1) ∙ map-drop g 1 s)
 
-  pub rest-last : ¬ (sign ≡ 2) → is_sign (sign_at sign (map g s)) ≡ true → map g (take (length s - 1 - 0) s) ≡ rest_of sign (map g s)
+  pub rest-last : ¬ (sign ≡ 2) → is_sign (sign_at sign (map g s)) ≡ true → map g (take (length s - 1) s) ≡ rest_of sign (map g s)
   unfolding rest_of
-  rest-last e h = rw (h, ne_eqb sign 2 e, length-map s g, sub-zero (length s - 1)) (map-take g (length s - 1) s)
+  rest-last e h = rw (h, ne_eqb sign 2 e, length-map s g) (map-take g (length s - 1) s)
 
   pub rest_all : is_sign (sign_at sign (map g s)) ≡ false → map g s ≡ rest_of sign (map g s)
   unfolding rest_of
@@ -71,20 +70,18 @@ unfolding whole_of digits_in
 whole-none g [] h = refl
 whole-none g (x ∷ s) h = absurd (omega arith)
 
-module _ (g : ℕ → ℕ) (s : List ℕ) (some : 0 < length s) where
-  pub whole-minus : g (get_or s 0 0) ≡ 45 → digits_in (2 ^ 63 + 1) true (map g (take (length s - 1) (drop 1 s))) ≡ whole_of (map g s)
+module _ (g : ℕ → ℕ) (s rest : List ℕ) (x : ℕ) (e : s ≡ x ∷ rest) where
+  pub whole-minus : g x ≡ 45 → digits_in (2 ^ 63 + 1) true (map g rest) ≡ whole_of (map g s)
   unfolding whole_of
-  whole-minus e = rw (get_d_map g s 0 some, eq-eqb (g (get_or s 0 0)) 45 e) (ap (digits_in (2 ^ 63 + 1) true) (ap (map g) (tail-part s 1) ∙ map-drop g 1 s))
+  whole-minus h = rw (e, eq-eqb (g x) 45 h)
 
-  pub whole-plus : g (get_or s 0 0) ≡ 43 → digits_in (2 ^ 63) false (map g (take (length s - 1) (drop 1 s))) ≡ whole_of (map g s)
+  pub whole-plus : g x ≡ 43 → digits_in (2 ^ 63) false (map g rest) ≡ whole_of (map g s)
   unfolding whole_of
-  whole-plus e =
-      rw (get_d_map g s 0 some, ne_eqb (g (get_or s 0 0)) 45 (omega arith), eq-eqb (g (get_or s 0 0)) 43 e)
-      (ap (digits_in (2 ^ 63) false) (ap (map g) (tail-part s 1) ∙ map-drop g 1 s))
+  whole-plus h = rw (e, ne_eqb (g x) 45 (omega arith), eq-eqb (g x) 43 h)
 
-  pub whole_plain : ¬ (g (get_or s 0 0) ≡ 45) → ¬ (g (get_or s 0 0) ≡ 43) → digits_in (2 ^ 63) false (map g s) ≡ whole_of (map g s)
+  pub whole_plain : ¬ (g x ≡ 45) → ¬ (g x ≡ 43) → digits_in (2 ^ 63) false (map g s) ≡ whole_of (map g s)
   unfolding whole_of
-  whole_plain a b = rw (get_d_map g s 0 some, ne_eqb (g (get_or s 0 0)) 45 a, ne_eqb (g (get_or s 0 0)) 43 b)
+  whole_plain a b = rw (e, ne_eqb (g x) 45 a, ne_eqb (g x) 43 b)
 
 -- ---- a field by its parts: t the trimmed text, rest without its separate sign, u that trimmed again
 

@@ -2,17 +2,17 @@
 use mathlib.Core.Path.{◌≡◌, sym, ◌∙◌, ap}
 use mathlib.Core.List.{List, [], ◌∷◌, ◌++◌, map}
 use mathlib.Core.Bool.{Bool, true, false}
-use Prim.Native.Nat.{ℕ, suc, ◌-◌, ◌<◌, ◌≤◌}
+use Prim.Native.Nat.{ℕ, suc, ◌-◌, ◌<◌}
 use native.Mathlib.Omega.{arith}
 use lib.ListN.{length, set}
-use borrow.Author.Tests.{lt-leb, le-leb, eq-eqb, ne_eqb}
+use borrow.Author.Tests.{eq-eqb, ne_eqb}
 use Rattle.value.specs.Digits.{digit_text}
 use Rattle.value.proofs.Room.{room-some}
 use Rattle.lists.proofs.Lists.{map-append}
 use Rattle.ebcdic.specs.Ebcdic.{onto_page}
 use Rattle.numerals.specs.Numerals.{sign_byte}
 use Rattle.numerals.proofs.Writing.{text-length, set-behind}
-use Rattle.display.specs.Display.{is_separate, int_fits, int_bytes, int_written, has_sign, decimal_fits, decimal_written}
+use Rattle.display.specs.Display.{is_separate, int_fits, int_bytes, int_written}
 
 -- a separate sign has a digit beside it
 pub separate-width : (w : ℕ) (negative : Bool) (size : ℕ) (signed : Bool) (sign : ℕ) → is_separate sign ≡ true → int_fits w negative size signed sign ≡ true → 1 < w
@@ -58,12 +58,3 @@ module _ (page : ℕ) (negative : Bool) (size : ℕ) (signed : Bool) (sign : ℕ
     pub encode-plain : (l : List ℕ) → ¬ (sign ≡ 2) → ¬ (sign ≡ 3) → l ≡ map (onto_page page) (digit_text (length part) size) → l ≡ int_written page negative size signed sign part
     unfolding int_written int_bytes
     encode-plain l a b el = rw (h, ne_eqb sign 2 a, ne_eqb sign 3 b) el
-
-module _ (page precision : ℕ) (negative : Bool) (size : ℕ) (sign : ℕ) (part : List ℕ) where
-  pub decimal-not : length part < precision → part ≡ decimal_written page precision negative size sign part
-  unfolding decimal_written decimal_fits
-  decimal-not h = rw (lt-leb precision (length part) h)
-
-  pub decimal-as : precision ≤ length part → int_written page negative size (has_sign sign) sign part ≡ decimal_written page precision negative size sign part
-  unfolding decimal_written int_written decimal_fits
-  decimal-as h = rw (le-leb precision (length part) h)

@@ -2,7 +2,8 @@
 use Rattle.std.specs.Prelude.{List, [], ◌∷◌, ◌++◌, map, Bool, true, false, ◌&&◌, ◌||◌, not, cond, ℕ, ◌+◌, ◌-◌, ◌^◌, ltb, leb, eqb, length, get_or, take, drop}
 use Rattle.value.specs.Digits.{value_of, digit_text, is_digit, digit_in, limit, room_for}
 use Rattle.value.specs.Answer.{Answer, refused, given}
-use Rattle.value.specs.Number.{Whole, some, read_in, unlawful, no_number}
+use Rattle.value.specs.declared.Whole.{Whole}
+use Rattle.value.specs.Number.{some, read_in, unlawful, no_number}
 use Rattle.value.specs.Field.{last_of}
 use Rattle.value.specs.declared.Scalar.{Scalar}
 use Rattle.value.specs.declared.Scalar.TheVariants.{Null, Text, Int, Decimal, Float, FloatBits, Bool as BoolV}

@@ -2,269 +2,208 @@
 
 #![tactic(auto)]
 
-ghost use Rattle.std.specs.Prelude.{◌≡◌, map, [], Bool, ◌&&◌, not, length};
-ghost use Rattle.value.specs.Scalar.{decimal};
-ghost use Rattle.value.specs.Number.{read_as, written_as};
+ghost use Rattle.std.specs.Prelude.{◌≡◌, map, cond, length};
+ghost use Rattle.codes.specs.Refusals.{number_in};
+ghost use Rattle.value.specs.Answer.{answered};
 ghost use Rattle.ebcdic.specs.Ebcdic.{from_page};
 ghost use Rattle.numerals.specs.Numerals.{trimmed};
 ghost use Rattle.display.specs.Display.{is_separate, sign_at, rest_of, digits_in, whole_of, int_of, decimal_of, or_refused, whole_in};
 ghost use Rattle.display.specs.Display.{int_fits, int_written, has_sign, decimal_fits, decimal_written};
 
-use value::{Number, Scalar};
+use codes::Refusal;
+use value::{Scalar, Whole};
 
 // ---- a separate sign
 
 fn is_separate(sign: u32) -> bool
     ensures { result ≡ is_separate sign }
 {
-    if sign == 2 {
-        return true;
-    }
-    sign == 3
+    matches!(sign, 2 | 3)
 }
 
 // The byte of a trimmed text where a separate sign may stand; 0 where none may.
+#[tactic(auto, using(crate::proofs::Signs::sign_none, crate::proofs::Signs::sign_nowhere))]
 fn sign_at(part: &[u8], page: u32, sign: u32) -> u8
     ensures { result ≡ sign_at sign (map (from_page page) part.now) }
 {
-    let n = part.len();
-    if n == 0 {
-        return 0;
+    match (sign, part) {
+        (2, [b, ..]) => ebcdic::from_page(page, *b),
+        (3, [.., b]) => ebcdic::from_page(page, *b),
+        _ => 0,
     }
-    if sign == 2 {
-        let b = part[0];
-        return ebcdic::from_page(page, b);
-    }
-    if sign == 3 {
-        let b = part[n - 1];
-        return ebcdic::from_page(page, b);
-    }
-    0
 }
 
-// A trimmed text without its separate sign.
-fn strip_separate_sign(part: &[u8], page: u32, sign: u32) -> &[u8]
-    ensures { map (from_page page) result.now ≡ rest_of sign (map (from_page page) part.now) }
+// The byte of a trimmed text where a separate sign may stand, and the text without such a sign.
+fn strip_separate_sign(part: &[u8], page: u32, sign: u32) -> (u8, &[u8])
+    ensures byte { result.0 ≡ sign_at sign (map (from_page page) part.now) }
+    ensures rest { map (from_page page) result.1.now ≡ rest_of sign (map (from_page page) part.now) }
 {
     let b = sign_at(part, page, sign);
-    if numerals::is_sign(b) {
-        let n = part.len();
-        if sign == 2 {
-            return &part[1..n];
-        }
-        return &part[0..n - 1];
+    if !numerals::is_sign(b) {
+        (b, part)
+    } else if sign == 2 {
+        (b, &part[1..])
+    } else {
+        (b, &part[..part.len() - 1])
     }
-    part
 }
 
 // ---- reading
 
 // The number of a text of digits alone.
-fn digits_in(part: &[u8], page: u32, bound: u64, negative: bool) -> Number
-    ensures { read_as result ≡ digits_in bound negative (map (from_page page) part.now) }
+fn digits_in(part: &[u8], page: u32, bound: u64, negative: bool) -> Result<Whole, Refusal>
+    ensures { answered result ≡ digits_in bound negative (map (from_page page) part.now) }
 {
-    let n = part.len();
-    if n == 0 {
-        return Number::Bad;
+    if part.is_empty() {
+        return Err(Refusal::UnlawfulBytes);
     }
     let mut size: u64 = 0;
-    let mut i = 0;
-    while i < n {
-        let b = part[i];
-        let x = ebcdic::from_page(page, b);
-        if value::is_digit(x) {
-            size = value::push_digit(size, value::digit_in(x), bound);
-            i += 1;
-        } else {
-            return Number::Bad;
+    for b in part {
+        let x = ebcdic::from_page(page, *b);
+        if !value::is_digit(x) {
+            return Err(Refusal::UnlawfulBytes);
         }
+        size = value::push_digit(size, value::digit_in(x), bound);
     }
     value::number_in(bound, negative, size)
 }
 
 // The number of a text of digits with one leading sign or none.
-fn whole_of(part: &[u8], page: u32) -> Number
-    ensures { read_as result ≡ whole_of (map (from_page page) part.now) }
+fn whole_of(part: &[u8], page: u32) -> Result<Whole, Refusal>
+    ensures { answered result ≡ whole_of (map (from_page page) part.now) }
 {
-    let n = part.len();
-    if n == 0 {
-        return Number::Bad;
+    let Some((first, rest)) = part.split_first() else {
+        return Err(Refusal::UnlawfulBytes);
+    };
+    match ebcdic::from_page(page, *first) {
+        b'-' => digits_in(rest, page, value::INT_LIMIT + 1, true),
+        b'+' => digits_in(rest, page, value::INT_LIMIT, false),
+        _ => digits_in(part, page, value::INT_LIMIT, false),
     }
-    let b = part[0];
-    let x = ebcdic::from_page(page, b);
-    if x == 45 {
-        let t = &part[1..n];
-        return digits_in(t, page, value::INT_LIMIT + 1, true);
-    }
-    if x == 43 {
-        let t = &part[1..n];
-        return digits_in(t, page, value::INT_LIMIT, false);
-    }
-    digits_in(part, page, value::INT_LIMIT, false)
 }
 
 // The number of an Int field.
-pub fn parse_display_int(part: &[u8], page: u32, sign: u32) -> Number
-    ensures { read_as result ≡ int_of sign (map (from_page page) part.now) }
+pub fn parse_display_int(part: &[u8], page: u32, sign: u32) -> Result<Whole, Refusal>
+    ensures { answered result ≡ int_of sign (map (from_page page) part.now) }
 {
     let t = numerals::trim(part, page);
-    let b = sign_at(t, page, sign);
-    let rest = strip_separate_sign(t, page, sign);
+    let (b, rest) = strip_separate_sign(t, page, sign);
     let u = numerals::trim(rest, page);
-    let n = u.len();
-    if n == 0 {
-        return Number::Of(false, 0);
+    if u.is_empty() {
+        Ok(value::signed_size(false, 0))
+    } else if numerals::is_sign(b) {
+        digits_in(u, page, value::INT_LIMIT, b == b'-')
+    } else {
+        whole_of(u, page)
     }
-    if numerals::is_sign(b) {
-        return digits_in(u, page, value::INT_LIMIT, b == 45);
-    }
-    whole_of(u, page)
 }
 
 // The unscaled number of a Display field.
-pub fn parse_display_decimal(part: &[u8], page: u32, sign: u32) -> Number
-    ensures { read_as result ≡ decimal_of sign (map (from_page page) part.now) }
+pub fn parse_display_decimal(part: &[u8], page: u32, sign: u32) -> Result<Whole, Refusal>
+    ensures { answered result ≡ decimal_of sign (map (from_page page) part.now) }
 {
     let t = numerals::trim(part, page);
-    let b = sign_at(t, page, sign);
-    let rest = strip_separate_sign(t, page, sign);
-    let k = numerals::kept_digits(rest, page);
-    value::with_sign(b == 45, k)
+    let (b, rest) = strip_separate_sign(t, page, sign);
+    value::with_sign(b == b'-', numerals::kept_digits(rest, page))
 }
 
-fn or_refused(n: Number) -> Number
-    ensures { written_as result ≡ or_refused (read_as n) }
+// A text that is meant as a number is refused by one question, whatever refuses it as one.
+fn or_refused(n: Result<Whole, Refusal>) -> Result<Whole, Refusal>
+    ensures { answered result ≡ or_refused (answered n) }
 {
-    match n {
-        Number::Of(negative, size) => Number::Of(negative, size),
-        Number::Bad => Number::Bad,
-        Number::Big => Number::Bad,
-    }
+    n.map_err(|_| Refusal::WrongKind)
 }
 
-fn text_whole(text: &[u8]) -> Number
-    ensures { written_as result ≡ or_refused (whole_of (trimmed text.now)) }
+fn text_whole(text: &[u8]) -> Result<Whole, Refusal>
+    ensures { answered result ≡ or_refused (whole_of (trimmed text.now)) }
 {
-    let t = numerals::trim(text, 0);
-    or_refused(whole_of(t, 0))
+    or_refused(whole_of(numerals::trim(text, 0), 0))
 }
 
-fn decimal_whole(negative: bool, size: u64, scale: u64) -> Number
-    ensures { written_as result ≡ whole_in (decimal negative size scale) [] }
-{
-    if scale == 0 {
-        return value::signed_size(negative, size);
-    }
-    Number::Bad
-}
-
-// The integer that a scalar stands for; `text` holds the bytes of a Text. Bad where there is none.
-pub fn as_i128(v: Scalar, text: &[u8]) -> Number
-    ensures { written_as result ≡ whole_in v text.now }
+// The integer that a scalar stands for; `text` holds the bytes of a Text.
+pub fn as_i128(v: Scalar, text: &[u8]) -> Result<Whole, Refusal>
+    ensures { answered result ≡ whole_in v text.now }
 {
     match v {
-        Scalar::Null => Number::Of(false, 0),
+        Scalar::Null => Ok(value::signed_size(false, 0)),
         Scalar::Text(_, _) => text_whole(text),
-        Scalar::Int(negative, size) => value::signed_size(negative, size),
-        Scalar::Decimal(negative, size, scale) => decimal_whole(negative, size, scale),
-        Scalar::Float(_) => Number::Bad,
-        Scalar::FloatBits(_) => Number::Bad,
-        Scalar::Bool(_) => Number::Bad,
+        Scalar::Int(negative, size) | Scalar::Decimal(negative, size, 0) => {
+            Ok(value::signed_size(negative, size))
+        }
+        _ => Err(Refusal::WrongKind),
     }
 }
 
 // ---- writing
 
-// A minus in a field that has none.
-fn lacks_sign(negative: bool, signed: bool) -> bool
-    ensures { result ≡ (negative && not signed) }
-{
-    if negative {
-        if signed {
-            return false;
-        }
-        return true;
-    }
-    false
-}
-
-pub fn fits_int(width: usize, negative: bool, size: u64, signed: bool, sign: u32) -> bool
-    ensures { result ≡ int_fits width negative size signed sign }
+#[tactic(auto, unfolding(crate::specs::Display::int_fits))]
+pub fn fits_int(width: usize, n: Whole, signed: bool, sign: u32) -> bool
+    ensures { result ≡ int_fits width n.negative n.size signed sign }
 {
     if is_separate(sign) {
-        if width == 0 {
-            return false;
-        }
-        return value::has_room(width - 1, size);
+        width > 0 && value::has_room(width - 1, n.size)
+    } else {
+        (signed || !n.negative) && value::has_room(width, n.size)
     }
-    if lacks_sign(negative, signed) {
-        return false;
-    }
-    value::has_room(width, size)
 }
 
-// Writes a number into an Int field, and answers whether it fits; a field that it does not fit stays as it was.
+// Writes a number into an Int field; a field that it does not fit stays as it was.
 pub fn encode_display_int(
     part: &mut [u8],
     page: u32,
-    negative: bool,
-    size: u64,
+    n: Whole,
     signed: bool,
     sign: u32,
-) -> bool
-    ensures { (result ≡ int_fits (length part.old) negative size signed sign) × (part.new ≡ int_written page negative size signed sign part.old) }
+) -> Result<(), Refusal>
+    ensures value { number_in result ≡ cond (int_fits (length part.old) n.negative n.size signed sign) 0 14 }
+    ensures part_after { part.new ≡ int_written page n.negative n.size signed sign part.old }
 {
     let w = part.len();
-    if fits_int(w, negative, size, signed, sign) {
-        if sign == 2 {
-            numerals::zero_pad(part, page, size);
-            part[0] = numerals::sign_on(page, negative);
-            return true;
-        }
-        if sign == 3 {
-            let last = w - 1;
-            numerals::zero_pad(&mut part[0..last], page, size);
-            part[last] = numerals::sign_on(page, negative);
-            return true;
-        }
-        numerals::zero_pad(part, page, size);
-        return true;
+    if !fits_int(w, n, signed, sign) {
+        return Err(Refusal::Misfit);
     }
-    false
+    match sign {
+        2 => {
+            numerals::zero_pad(part, page, n.size);
+            part[0] = numerals::sign_on(page, n.negative);
+        }
+        3 => {
+            let last = w - 1;
+            numerals::zero_pad(&mut part[..last], page, n.size);
+            part[last] = numerals::sign_on(page, n.negative);
+        }
+        _ => numerals::zero_pad(part, page, n.size),
+    }
+    Ok(())
 }
 
 fn has_sign(sign: u32) -> bool
     ensures { result ≡ has_sign sign }
 {
-    if sign == 0 {
-        return false;
-    }
-    sign <= 3
+    matches!(sign, 1..=3)
 }
 
-pub fn fits_decimal(width: usize, precision: u32, negative: bool, size: u64, sign: u32) -> bool
-    ensures { result ≡ decimal_fits width precision negative size sign }
+#[tactic(auto, unfolding(crate::specs::Display::decimal_fits))]
+pub fn fits_decimal(width: usize, precision: u32, n: Whole, sign: u32) -> bool
+    ensures { result ≡ decimal_fits width precision n.negative n.size sign }
 {
-    if precision as usize > width {
-        return false;
-    }
-    fits_int(width, negative, size, has_sign(sign), sign)
+    precision as usize <= width && fits_int(width, n, has_sign(sign), sign)
 }
 
-// Writes an unscaled number into a Display field, and answers whether it fits; a field that it does not fit stays as it was.
+// Writes an unscaled number into a Display field; a field that it does not fit stays as it was.
+#[tactic(auto, unfolding(crate::specs::Display::decimal_fits, crate::specs::Display::decimal_written, crate::specs::Display::int_written))]
 pub fn encode_display_decimal(
     part: &mut [u8],
     page: u32,
     precision: u32,
-    negative: bool,
-    size: u64,
+    n: Whole,
     sign: u32,
-) -> bool
-    ensures { (result ≡ decimal_fits (length part.old) precision negative size sign) × (part.new ≡ decimal_written page precision negative size sign part.old) }
+) -> Result<(), Refusal>
+    ensures value { number_in result ≡ cond (decimal_fits (length part.old) precision n.negative n.size sign) 0 14 }
+    ensures part_after { part.new ≡ decimal_written page precision n.negative n.size sign part.old }
 {
-    let w = part.len();
-    if precision as usize > w {
-        return false;
+    if precision as usize > part.len() {
+        return Err(Refusal::Misfit);
     }
-    encode_display_int(part, page, negative, size, has_sign(sign), sign)
+    encode_display_int(part, page, n, has_sign(sign), sign)
 }

@@ -62,22 +62,13 @@ pub fn from_page(page: u32, b: u8) -> u8
     if page == 0 {
         return b;
     }
-    if b < 0xF0 {
-        if b == 0x40 {
-            return 0x20;
-        }
-        if b == 0x4E {
-            return 0x2B;
-        }
-        if b == 0x60 {
-            return 0x2D;
-        }
-        return to_ascii(b);
+    match b {
+        0xF0..=0xF9 => b - 0xC0,
+        0x40 => b' ',
+        0x4E => b'+',
+        0x60 => b'-',
+        _ => to_ascii(b),
     }
-    if b <= 0xF9 {
-        return b - 0xC0;
-    }
-    to_ascii(b)
 }
 
 // A byte as written to a page; digits, the blank and the signs again go without the table.
@@ -87,38 +78,27 @@ pub fn onto_page(page: u32, b: u8) -> u8
     if page == 0 {
         return b;
     }
-    if b < 0x30 {
-        if b == 0x20 {
-            return 0x40;
-        }
-        if b == 0x2B {
-            return 0x4E;
-        }
-        if b == 0x2D {
-            return 0x60;
-        }
-        return to_ebcdic(b);
+    match b {
+        b'0'..=b'9' => b + 0xC0,
+        b' ' => 0x40,
+        b'+' => 0x4E,
+        b'-' => 0x60,
+        _ => to_ebcdic(b),
     }
-    if b <= 0x39 {
-        return b + 0xC0;
-    }
-    to_ebcdic(b)
 }
 
 // What a table has for each byte to the front of a buffer, as far as it has room.
 fn translate(src: &[u8], table: &[u8; 256], out: &mut [u8])
     ensures { out.new ≡ copied (λ b. get_or table.now b 0) src.now out.old }
 {
-    let n = lists::least(src.len(), out.len());
-    let mut i = 0;
-    while i < n {
-        let b = src[i];
-        out[i] = table[b as usize];
-        i += 1;
+    // Kept: an index into the buffer; of what `out.iter_mut().zip(src)` writes no contract says anything.
+    let n = src.len().min(out.len());
+    for (i, b) in src[..n].iter().enumerate() {
+        out[i] = table[*b as usize];
     }
 }
 
-// Bytes of a page to the front of a buffer, as many as it has room for; the table is copied once.
+// Bytes of a page to the front of a buffer, as many as it has room for; the table is copied once. Kept beside encode_slice: two names over one function, each with its table.
 pub fn decode_slice(src: &[u8], page: u32, out: &mut [u8])
     ensures { out.new ≡ copied (from_page page) src.now out.old }
 {

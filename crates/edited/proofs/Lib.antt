@@ -1,5 +1,4 @@
 pub mod Turns
-pub mod Ends
 pub mod Marks
 pub mod Back
 pub mod Sign

@@ -12,7 +12,8 @@ use Rattle.lists.proofs.Scan.{every_true}
 use Rattle.lists.proofs.Lists.{get_d_map}
 use Rattle.value.specs.Answer.{Answer, refused, given}
 use Rattle.value.specs.Digits.{value_of, limit, is_digit, digit_in}
-use Rattle.value.specs.Number.{Whole, number, some, read_in, unlawful}
+use Rattle.value.specs.declared.Whole.{Whole}
+use Rattle.value.specs.Number.{number, some, read_in, unlawful}
 use Rattle.value.proofs.Answers.{number_in-fits, number_in-small, Numbered}
 use Rattle.ebcdic.specs.Ebcdic.{from_page, onto_page}
 use Rattle.ebcdic.proofs.Laws.{bytes_back, onto-byte}
@@ -80,18 +81,18 @@ module _ (signed negative : Bool) (size : ℕ) (mask : List ℕ) (f : Fits signe
 
 pub written-length : (page : ℕ) (mask : List ℕ) (n : Answer Whole) (part : List ℕ) → length (written_of page mask n part) ≡ length part
 unfolding written_of
-written-length page mask (given (number negative size)) part = by (judged mask (given (number negative size)))
+written-length page mask (given n) part = by (judged mask (given n))
   where
     wide : (b : Bool) → eqb (length part) (length mask) ≡ b
-        → length (cond (eqb (cond b 0 14) 0) (map (onto_page page) (edited negative size mask)) part) ≡ length part
-    wide true e = page-length page negative size mask ∙ sym (eqb-true (length part) (length mask) e)
+        → length (cond (eqb (cond b 0 14) 0) (map (onto_page page) (edited n.negative n.size mask)) part) ≡ length part
+    wide true e = page-length page n.negative n.size mask ∙ sym (eqb-true (length part) (length mask) e)
     wide false e = refl
 
-    by : (j : ℕ) → length (cond (eqb (cond (eqb j 0) (cond (eqb (length part) (length mask)) 0 14) j) 0) (map (onto_page page) (edited negative size mask)) part) ≡ length part
+    by : (j : ℕ) → length (cond (eqb (cond (eqb j 0) (cond (eqb (length part) (length mask)) 0 14) j) 0) (map (onto_page page) (edited n.negative n.size mask)) part) ≡ length part
     by j = at (eqb j 0) refl
       where
         at : (t : Bool) → eqb j 0 ≡ t
-            → length (cond (eqb (cond t (cond (eqb (length part) (length mask)) 0 14) j) 0) (map (onto_page page) (edited negative size mask)) part) ≡ length part
+            → length (cond (eqb (cond t (cond (eqb (length part) (length mask)) 0 14) j) 0) (map (onto_page page) (edited n.negative n.size mask)) part) ≡ length part
         at true e = wide (eqb (length part) (length mask)) refl
         at false e = rw e
 written-length page mask (refused question) part = refl

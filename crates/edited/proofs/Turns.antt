@@ -8,28 +8,21 @@ use native.Mathlib.Numerals.{add-one}
 use native.Mathlib.Omega.{arith}
 use lib.Dec.{eqb, lit<, lit≤}
 use lib.ListN.{length, get_or, set, take, drop, drop_of_length-le}
-use lib.Seq.{drop-cons, take-suc-set, drop-length, take_all}
-use borrow.Author.Tests.{lt-ltb, eq-eqb, ne_eqb}
-use Rattle.value.specs.Answer.{Answer, refused, given}
-use Rattle.value.specs.Number.{Whole, number}
-use Rattle.ebcdic.specs.Ebcdic.{onto_page}
+use lib.Seq.{drop-cons, take-suc-set, take_all}
+use borrow.Author.Tests.{lt-ltb}
 use Rattle.value.specs.Word.{power_ten}
-use Rattle.edited.specs.Edited.{count_by, is_digit_pos, positions, is_floating, follows, lawful_from, judged, digit_byte, edit_byte, sup_after, edit_from, edited, answer_of, written_of}
+use Rattle.std.specs.List.{count_by as std_count_by}
+use Rattle.std.proofs.lemmas.List.Recursion.{is_count_by}
+use Rattle.edited.specs.Edited.{count_by, is_digit_pos, positions, follows, lawful_from, digit_byte, edit_byte, sup_after, edit_from}
 
--- ---- counting, from the right
+-- ---- counting, as std counts
 
-pub count-end : (f : ℕ → Bool) (mask : List ℕ) (i : ℕ) → i ≡ length mask → 0 ≡ count_by f (drop i mask)
+pub count-is : (f : ℕ → Bool) (mask : List ℕ) → std_count_by f mask ≡ count_by f mask
 unfolding count_by
-count-end f mask i e = rw (e, drop-length)
-
-pub count-step : (f : ℕ → Bool) (mask : List ℕ) (i : ℕ) → 0 < i → i ≤ length mask
-    → count_by f (drop (i - 1) mask) ≡ cond (f (get_or mask (i - 1) 0)) (count_by f (drop i mask) + 1) (count_by f (drop i mask))
-unfolding count_by
-count-step f mask i h k =
-    let q : suc (i - 1) ≡ i = omega arith in
-    let l : i - 1 < length mask = omega arith in
-    let e : drop (i - 1) mask ≡ get_or mask (i - 1) 0 ∷ drop i mask = drop-cons mask (i - 1) 0 l ∙ ap (λ (n : ℕ). get_or mask (i - 1) 0 ∷ drop n mask) q in
-    rw e
+count-is f mask = sym (is_count_by (count_by f) f refl one mask)
+  where
+    one : (c : ℕ) (m : List ℕ) → count_by f (c ∷ m) ≡ cond (f c) (1 + count_by f m) (count_by f m)
+    one c m = let e : count_by f m + 1 ≡ 1 + count_by f m = omega arith in ap (λ (n : ℕ). cond (f c) n (count_by f m)) e
 
 -- ---- judging a mask, from the left
 
@@ -82,30 +75,3 @@ module _ (f : ℕ → ℕ) (negative : Bool) (pad size : ℕ) (mask : List ℕ) 
   pub edit-end : (prev : ℕ) (sup : Bool) (i : ℕ) (out whole : List ℕ) → length mask ≤ i → length out ≤ i → whole ≡ take i out ++ map f (edit_from negative pad size prev (drop i mask) sup) → out ≡ whole
   unfolding edit_from
   edit-end prev sup i out whole h k e = sym (e ∙ rw (drop_of_length-le mask h, append-nil) (take_all i out k))
-
--- ---- what encode answers and leaves
-
-module _ (page : ℕ) (mask : List ℕ) (negative : Bool) (size : ℕ) (part : List ℕ) where
-  abbrev n : Answer Whole
-  n = given (number negative size)
-
-  pub encode-fits : judged mask n ≡ 0 → length part ≡ length mask
-      → (0 ≡ answer_of (length part) mask n) × (map (onto_page page) (edited negative size mask) ≡ written_of page mask n part)
-  unfolding written_of
-  encode-fits j l = rw (eq-eqb (judged mask n) 0 j, eq-eqb (length part) (length mask) l) (refl, refl)
-
-  pub encode-long : judged mask n ≡ 0 → (length part ≡ length mask → ⊥) → (14 ≡ answer_of (length part) mask n) × (part ≡ written_of page mask n part)
-  unfolding written_of
-  encode-long j l = rw (eq-eqb (judged mask n) 0 j, ne_eqb (length part) (length mask) l) (refl, refl)
-
-  pub encode-not : (judged mask n ≡ 0 → ⊥) → (judged mask n ≡ answer_of (length part) mask n) × (part ≡ written_of page mask n part)
-  unfolding written_of
-  encode-not j = let e = ne_eqb (judged mask n) 0 j in rw (e, e) (refl, refl)
-
-pub answer-big : (width : ℕ) (mask : List ℕ) → ◌≡◌ {A = ℕ} (cond (is_floating mask) 15 14) (answer_of width mask (refused 14))
-unfolding judged
-answer-big width mask = by (is_floating mask)
-  where
-    by : (t : Bool) → ◌≡◌ {A = ℕ} (cond t 15 14) (cond (eqb (cond t 15 14) 0) (cond (eqb width (length mask)) 0 14) (cond t 15 14))
-    by true = refl
-    by false = refl

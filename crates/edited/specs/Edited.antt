@@ -2,7 +2,8 @@
 use Rattle.std.specs.Prelude.{ℕ, ◌+◌, ◌-◌, Bool, true, false, ◌&&◌, ◌||◌, not, cond, List, [], ◌∷◌, map, eqb, leb, ltb, length, get_or}
 use Rattle.value.specs.Answer.{Answer, refused, given}
 use Rattle.value.specs.Digits.{digit_at, limit, room_for}
-use Rattle.value.specs.Number.{Whole, number, read_in, unlawful}
+use Rattle.value.specs.declared.Whole.{Whole}
+use Rattle.value.specs.Number.{read_in, unlawful}
 use Rattle.value.specs.Field.{last_of}
 use Rattle.numerals.specs.Numerals.{trimmed, kept_by}
 use Rattle.ebcdic.specs.Ebcdic.{onto_page}
@@ -81,7 +82,7 @@ fits_in n size = ltb size limit && room_for n size
 -- 13: value of a kind Rust takes; 15: mask without a repeated $, + or -; 14: value fits; 15: mask characters lawful; 0: none refuses
 unfoldable pub judged : List ℕ → Answer Whole → ℕ
 judged mask (refused question) = cond (eqb question 13) 13 (cond (is_floating mask) 15 question)
-judged mask (given (number negative size)) = cond (is_floating mask) 15 (cond (fits_in (positions mask) size) (cond (is_lawful mask) 0 15) 14)
+judged mask (given n) = cond (is_floating mask) 15 (cond (fits_in (positions mask) n.size) (cond (is_lawful mask) 0 15) 14)
 
 -- ---- the bytes
 
@@ -133,5 +134,5 @@ answer_of width mask n = cond (eqb (judged mask n) 0) (cond (eqb width (length m
 -- the part after writing: the edited number where it may be written, and what it was elsewhere
 unfoldable pub written_of : ℕ → List ℕ → Answer Whole → List ℕ → List ℕ
 written_of page mask (refused question) part = part
-written_of page mask (given (number negative size)) part =
-    cond (eqb (answer_of (length part) mask (given (number negative size))) 0) (map (onto_page page) (edited negative size mask)) part
+written_of page mask (given n) part =
+    cond (eqb (answer_of (length part) mask (given n)) 0) (map (onto_page page) (edited n.negative n.size mask)) part

@@ -5,7 +5,8 @@ use lib.Ieee.Fits.{down_pos}
 use lib.Ieee.Exact.{HasValue}
 use Rattle.value.specs.Answer.{Answer}
 use Rattle.value.specs.Digits.{limit, capped}
-use Rattle.value.specs.Number.{Whole, no_number, amount_of}
+use Rattle.value.specs.declared.Whole.{Whole}
+use Rattle.value.specs.Number.{no_number, amount_of}
 use Rattle.value.specs.Rounding.{rounded}
 use Rattle.value.proofs.Nearest.{nearest-rounded, rounded-whole}
 use Rattle.float.specs.Decimal.{decimal_of, to_decimal, ProductNearest}
@@ -43,9 +44,6 @@ size-high m j k e =
     ∙ rounded-whole (m * 2 ^ k)
 
 -- ---- a size that stops counting
-pub cap-below : (n : ℕ) → n < limit → n ≡ capped n
-cap-below n h = omega arith
-
 pub cap-above : (n : ℕ) → limit ≤ n → limit ≡ capped n
 cap-above n h = omega arith
 

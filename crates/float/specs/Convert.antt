@@ -6,10 +6,9 @@ use Rattle.value.specs.Answer.{Answer, refused, given}
 use Rattle.value.specs.declared.Scalar.{Scalar}
 use Rattle.value.specs.declared.Scalar.TheVariants.{Null, Text, Int, Decimal, Float as FloatV, FloatBits, Bool as BoolV}
 use Rattle.value.specs.Digits.{signed_of}
-use Rattle.value.specs.Number.{Whole, some, no_number, amount_of}
+use Rattle.value.specs.declared.Whole.{Whole}
+use Rattle.value.specs.Number.{some, no_number, amount_of}
 use Rattle.value.specs.Rounding.{rescaled}
-use Rattle.float.specs.declared.Floated.{Floated}
-use Rattle.float.specs.declared.Floated.TheVariants.{Word, Refused}
 use Rattle.float.specs.Decimal.{to_decimal, of_decimal}
 
 -- the f64 word for a Float field; Text and Bool are refused (13), and a scale above 18 too
@@ -21,10 +20,6 @@ floated_of (Decimal negative size scale) = cond (nat_lt 18 scale) (refused 13) (
 floated_of (FloatV x) = given (to_bits binary64 x)
 floated_of (FloatBits w) = given w
 floated_of (BoolV b) = refused 13
-
-abbrev pub floated_as : Floated → Answer ℕ
-floated_as (Word w) = given w
-floated_as Refused = refused 13
 
 -- the number for a Decimal field of a scale; Text, NaN and Bool are refused
 unfoldable pub decimal_for : Scalar → ℕ → Answer Whole

@@ -5,7 +5,8 @@ use Rattle.std.specs.Float.Ieee.{up, down, of_int, mul, div}
 use Rattle.std.specs.Float.Ieee.Exact.{HasValue}
 use Rattle.value.specs.Answer.{Answer, refused}
 use Rattle.value.specs.Digits.{signed_of}
-use Rattle.value.specs.Number.{Whole, no_number, amount_of}
+use Rattle.value.specs.declared.Whole.{Whole}
+use Rattle.value.specs.Number.{no_number, amount_of}
 use Rattle.value.specs.Rounding.{Nearest, rounded}
 
 -- a float as a decimal of scale 0, rounded as a Decimal is that loses scale; a size from 10^18 on is too big; "NaN into Decimal" is refused

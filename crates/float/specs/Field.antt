@@ -6,8 +6,6 @@ use Rattle.value.specs.declared.Scalar.{Scalar}
 use Rattle.value.specs.Answer.{Answer, refused, given}
 use Rattle.value.specs.Scalar.{float_of}
 use Rattle.binary.specs.Bytes.{word_in, bytes_of}
-use Rattle.float.specs.declared.Parsed.{Parsed}
-use Rattle.float.specs.declared.Parsed.TheVariants.{Value, Bad}
 use Rattle.float.specs.Half.{half_word}
 use Rattle.float.specs.Single.{single_pattern, wide_word}
 use Rattle.float.specs.Narrow.{half_pattern}
@@ -26,10 +24,6 @@ pattern_for bits w = cond (bits == 16) (half_pattern w) (cond (bits == 32) (sing
 -- what a field's bytes are read as
 unfoldable pub float_in : ℕ → ℕ → List ℕ → Answer Scalar
 float_in order bits s = cond (field_ok bits (length s)) (given (float_of (word_for bits (word_in order s)))) (refused 8)
-
-abbrev pub parsed_as : Parsed → Answer Scalar
-parsed_as (Value v) = given v
-parsed_as Bad = refused 8
 
 -- the bytes that are written for an f64's word
 unfoldable pub float_bytes : ℕ → ℕ → ℕ → ℕ → List ℕ

@@ -7,33 +7,23 @@ ghost use Rattle.std.specs.Float.Ieee as Ieee;
 ghost use Rattle.std.specs.Float.{binary32, binary64};
 ghost use Rattle.std.specs.Float.Ieee.Exact.{HasValue};
 ghost use Rattle.value.specs.Digits.{capped, signed_of};
-ghost use Rattle.value.specs.Answer.{refused, given};
-ghost use Rattle.value.specs.Number.{amount_as};
+ghost use Rattle.value.specs.Answer.{refused, given, answered};
+ghost use Rattle.codes.specs.Refusals.{number_in};
 ghost use Rattle.value.specs.Rounding.{rounded};
 ghost use Rattle.float.specs.Half.{sig, half_word};
-ghost use Rattle.float.specs.Single.{single_pattern, wide_word};
-ghost use Rattle.float.specs.Narrow.{NarrowFormat, narrowed, infinity_at, pattern_of, half_pattern};
+ghost use Rattle.float.specs.Single.{wide_word};
+ghost use Rattle.float.specs.Narrow.{NarrowFormat, narrowed, infinity_at, pattern_of};
 ghost use Rattle.float.specs.Decimal.{to_decimal, of_decimal};
-ghost use Rattle.float.specs.Convert.{floated_of, floated_as, decimal_for};
-ghost use Rattle.float.specs.Field.{field_ok, word_for, pattern_for, float_in, parsed_as, float_bytes, nan_half, exact_in};
+ghost use Rattle.float.specs.Convert.{floated_of, decimal_for};
+ghost use Rattle.float.specs.Field.{field_ok, word_for, pattern_for, float_in, float_bytes, nan_half, exact_in};
 
-use value::{Amount, Scalar};
-
-// The f64 word of a value, where it has one.
-#[derive(Clone, Copy)]
-pub enum Floated {
-    Word(u64),
-    Refused,
-}
-
-// What reading a Float field answers.
-#[derive(Clone, Copy)]
-pub enum Parsed {
-    Value(Scalar),
-    Bad,
-}
+use codes::Refusal;
+use value::{Scalar, Whole};
 
 // ---- binary16 and binary32, read
+
+// The word that a NaN of 16 or 32 bits is read as.
+const NAN: u64 = 0x7FF8_0000_0000_0000;
 
 // 2^(e - 25) at e, and at 0 as at 1.
 const POWERS: [f64; 31] = [
@@ -94,14 +84,12 @@ fn half_word(h: u64) -> u64
     let e = h % 32768 / 1024;
     let t = h % 1024;
     if e == 31 {
-        if t == 0 {
-            if h < 32768 {
-                0x7FF0_0000_0000_0000
-            } else {
-                0xFFF0_0000_0000_0000
-            }
+        if t != 0 {
+            NAN
+        } else if h < 32768 {
+            0x7FF0_0000_0000_0000
         } else {
-            0x7FF8_0000_0000_0000
+            0xFFF0_0000_0000_0000
         }
     } else {
         let x = scaled(significand(1024, e, t), e as usize);
@@ -113,15 +101,22 @@ fn half_word(h: u64) -> u64
     }
 }
 
-// A binary32 pattern as an f64's word.
+fn is_single_nan(v: u64) -> bool
+    ensures { result ≡ Ieee.nan_bits binary32 v }
+{
+    v % 0x8000_0000 > 0x7F80_0000
+}
+
+// A binary32 pattern as an f64's word. Kept beside half_word: f64::from widens binary32 in one step, and nothing does so for binary16.
 fn wide_word(v: u64) -> u64
     requires { v < 2 ^ 32 }
     ensures { result ≡ wide_word v }
 {
-    if v % 0x8000_0000 > 0x7F80_0000 {
-        return 0x7FF8_0000_0000_0000;
+    if is_single_nan(v) {
+        NAN
+    } else {
+        f64::to_bits(f64::from(f32::from_bits(v as u32)))
     }
-    f64::to_bits(f32::from_bits(v as u32) as f64)
 }
 
 // ---- binary32 and binary16, written
@@ -138,9 +133,10 @@ fn nearest_even(m: u64, k: u64) -> u64
     let q = m / u;
     let rest = m % u;
     if value::goes_up(rest, u - rest, q) {
-        return q + 1;
+        q + 1
+    } else {
+        q
     }
-    q
 }
 
 // The leading one's weight in a significand of p digits.
@@ -151,63 +147,64 @@ fn leading(p: u64) -> u64
     1 << (p - 1)
 }
 
-// The pattern of the size of a finite f64 with the exponent's field x and the digits t, in a format with p digits in a significand,
-// the smallest positive number 2^-low and the infinity's field `ones`.
-fn narrow_size(p: u64, low: u64, ones: u64, x: u64, t: u64) -> u64
-    requires { NarrowFormat p low ones × (t < 2 ^ 52) }
-    ensures { result ≡ narrowed p (infinity_at p ones) (sig (2 ^ 52) x t * 2 ^ (x - 1) * 2 ^ low) (2 ^ 1074) }
+// A narrow format of IEEE 754: p binary digits in a significand, the smallest positive number 2^-low, and the infinity's field `ones`.
+#[derive(Clone, Copy)]
+struct Format {
+    p: u64,
+    low: u64,
+    ones: u64,
+}
+
+const HALF: Format = Format {
+    p: 11,
+    low: 24,
+    ones: 31,
+};
+
+const SINGLE: Format = Format {
+    p: 24,
+    low: 149,
+    ones: 255,
+};
+
+// The pattern of the size of a finite f64 with the exponent's field x and the digits t.
+fn narrow_size(f: Format, x: u64, t: u64) -> u64
+    requires { NarrowFormat f.p f.low f.ones × (t < 2 ^ 52) }
+    ensures { result ≡ narrowed f.p (infinity_at f.p f.ones) (sig (2 ^ 52) x t * 2 ^ (x - 1) * 2 ^ f.low) (2 ^ 1074) }
 {
     let m = significand(0x10_0000_0000_0000, x, t);
     if x == 0 {
-        return nearest_even(m, 1074 - low);
+        return nearest_even(m, 1074 - f.low);
     }
-    let normal = 1022 + p - low;
+    let normal = 1022 + f.p - f.low;
     if x < normal {
-        return nearest_even(m, 1075 - low - x);
+        return nearest_even(m, 1075 - f.low - x);
     }
     let k = x - normal;
-    let h = leading(p);
-    if k + 1 < ones {
-        return k * h + nearest_even(m, 53 - p);
+    let h = leading(f.p);
+    if k + 1 < f.ones {
+        k * h + nearest_even(m, 53 - f.p)
+    } else {
+        f.ones * h
     }
-    ones * h
 }
 
-// The pattern of an f64's word in such a format.
-fn narrow_word(p: u64, low: u64, ones: u64, w: u64) -> u64
-    requires { NarrowFormat p low ones }
-    ensures { result ≡ pattern_of p low ones (Ieee.of_bits binary64 w) }
+// The pattern of an f64's word.
+fn narrow_word(f: Format, w: u64) -> u64
+    requires { NarrowFormat f.p f.low f.ones }
+    ensures { result ≡ pattern_of f.p f.low f.ones (Ieee.of_bits binary64 w) }
 {
-    let h = leading(p);
+    let h = leading(f.p);
     let size = w % 0x8000_0000_0000_0000;
     if size > 0x7FF0_0000_0000_0000 {
-        return ones * h + h / 2;
+        return f.ones * h + h / 2;
     }
-    let a = narrow_size(
-        p,
-        low,
-        ones,
-        size / 0x10_0000_0000_0000,
-        w % 0x10_0000_0000_0000,
-    );
+    let a = narrow_size(f, size / 0x10_0000_0000_0000, w % 0x10_0000_0000_0000);
     if w < 0x8000_0000_0000_0000 {
-        return a;
+        a
+    } else {
+        (f.ones + 1) * h + a
     }
-    (ones + 1) * h + a
-}
-
-// The binary16 pattern of an f64's word.
-fn half_pattern(w: u64) -> u64
-    ensures { result ≡ half_pattern w }
-{
-    narrow_word(11, 24, 31, w)
-}
-
-// The binary32 pattern of an f64's word.
-fn single_pattern(w: u64) -> u64
-    ensures { result ≡ single_pattern w }
-{
-    narrow_word(24, 149, 255, w)
 }
 
 // ---- decimals
@@ -238,8 +235,7 @@ fn ten(k: u64) -> f64
     requires { k < 19 }
     ensures { result ≡ Ieee.of_int binary64 (pos (10 ^ k)) }
 {
-    let i = k as usize;
-    TENS[i]
+    TENS[k as usize]
 }
 
 // The size of a finite f64 with the exponent's field x and the digits t, as a whole number that stops counting at 10^18.
@@ -258,29 +254,25 @@ fn whole_size(x: u64, t: u64) -> u64
     if k > 10 {
         return value::LIMIT;
     }
-    let n = m << k;
-    if n < value::LIMIT {
-        return n;
-    }
-    value::LIMIT
+    (m << k).min(value::LIMIT)
 }
 
 // x * 10^scale as a whole number.
-fn to_decimal(x: f64, scale: u64) -> Amount
-    ensures { amount_as result ≡ to_decimal x scale }
+fn to_decimal(x: f64, scale: u64) -> Result<Whole, Refusal>
+    ensures { answered result ≡ to_decimal x scale }
 {
     if scale > 18 {
-        return Amount::Bad;
+        return Err(Refusal::WrongKind);
     }
     let y = x * ten(scale);
     if y != y {
-        return Amount::Bad;
+        return Err(Refusal::WrongKind);
     }
     let b = f64::to_bits(y);
     let e = b % 0x8000_0000_0000_0000 / 0x10_0000_0000_0000;
     let t = b % 0x10_0000_0000_0000;
     if e == 2047 {
-        return Amount::Big;
+        return Err(Refusal::Misfit);
     }
     value::amount_of(value::is_minus(b), whole_size(e, t))
 }
@@ -293,10 +285,7 @@ fn nearest_float(negative: bool, size: u64) -> f64
         return 0.0;
     }
     let x = std::num::nearest_u64_to_f64(size);
-    if negative {
-        return -x;
-    }
-    x
+    if negative { -x } else { x }
 }
 
 // The decimal's integer over 10^scale.
@@ -310,43 +299,38 @@ fn of_decimal(negative: bool, size: u64, scale: u64) -> f64
 // ---- scalars
 
 // The f64 word that a scalar gives a Float field.
-pub fn as_f64(v: Scalar) -> Floated
-    ensures { floated_as result ≡ floated_of v }
+pub fn as_f64(v: Scalar) -> Result<u64, Refusal>
+    ensures { answered result ≡ floated_of v }
 {
     match v {
-        Scalar::Null => Floated::Word(0),
-        Scalar::Text(_, _) => Floated::Refused,
-        Scalar::Int(negative, size) => Floated::Word(value::float_word(nearest_float(
-            negative, size,
-        ))),
+        Scalar::Null => Ok(0),
+        Scalar::Int(negative, size) => Ok(value::float_word(nearest_float(negative, size))),
         Scalar::Decimal(negative, size, scale) => decimal_word(negative, size, scale),
-        Scalar::Float(x) => Floated::Word(value::float_word(x)),
-        Scalar::FloatBits(w) => Floated::Word(w),
-        Scalar::Bool(_) => Floated::Refused,
+        Scalar::Float(x) => Ok(value::float_word(x)),
+        Scalar::FloatBits(w) => Ok(w),
+        Scalar::Text(_, _) | Scalar::Bool(_) => Err(Refusal::WrongKind),
     }
 }
 
-fn decimal_word(negative: bool, size: u64, scale: u64) -> Floated
-    ensures { floated_as result ≡ (if nat_lt 18 scale then refused 13 else given (Ieee.to_bits binary64 (of_decimal negative size scale))) }
+fn decimal_word(negative: bool, size: u64, scale: u64) -> Result<u64, Refusal>
+    ensures { answered result ≡ (if nat_lt 18 scale then refused 13 else given (Ieee.to_bits binary64 (of_decimal negative size scale))) }
 {
     if scale > 18 {
-        return Floated::Refused;
+        return Err(Refusal::WrongKind);
     }
-    Floated::Word(value::float_word(of_decimal(negative, size, scale)))
+    Ok(value::float_word(of_decimal(negative, size, scale)))
 }
 
 // The number that a scalar gives a Decimal field of a scale.
-pub fn as_decimal(v: Scalar, scale: u64) -> Amount
-    ensures { amount_as result ≡ decimal_for v scale }
+pub fn as_decimal(v: Scalar, scale: u64) -> Result<Whole, Refusal>
+    ensures { answered result ≡ decimal_for v scale }
 {
     match v {
-        Scalar::Null => Amount::Of(false, 0),
-        Scalar::Text(_, _) => Amount::Bad,
+        Scalar::Null => Ok(value::signed_size(false, 0)),
         Scalar::Int(negative, size) => value::rescale(negative, size, 0, scale),
         Scalar::Decimal(negative, size, from) => value::rescale(negative, size, from, scale),
         Scalar::Float(x) => to_decimal(x, scale),
-        Scalar::FloatBits(_) => Amount::Bad,
-        Scalar::Bool(_) => Amount::Bad,
+        Scalar::Text(_, _) | Scalar::FloatBits(_) | Scalar::Bool(_) => Err(Refusal::WrongKind),
     }
 }
 
@@ -379,64 +363,51 @@ fn pattern_for(bits: u32, w: u64) -> u64
     ensures { result ≡ pattern_for bits w }
 {
     match bits {
-        16 => half_pattern(w),
-        32 => single_pattern(w),
+        16 => narrow_word(HALF, w),
+        32 => narrow_word(SINGLE, w),
         _ => w,
     }
 }
 
 // The value of a Float field.
-pub fn parse_float(part: &[u8], bits: u32, order: u32) -> Parsed
-    ensures { parsed_as result ≡ float_in order bits part.now }
+pub fn parse_float(part: &[u8], bits: u32, order: u32) -> Result<Scalar, Refusal>
+    ensures { answered result ≡ float_in order bits part.now }
 {
-    if field_ok(bits, part.len()) {
-        let v = binary::read_word(part, order);
-        return Parsed::Value(value::float_scalar(word_for(bits, v)));
+    if !field_ok(bits, part.len()) {
+        return Err(Refusal::UnlawfulBytes);
     }
-    Parsed::Bad
+    let v = binary::read_word(part, order);
+    Ok(value::float_scalar(word_for(bits, v)))
 }
 
 // Writes an f64's word; refuses a width that a Float field can't have, and leaves the part as it was.
-pub fn encode_float(part: &mut [u8], word: u64, bits: u32, order: u32) -> bool
-    ensures value { result ≡ field_ok bits (length part.old) }
+pub fn encode_float(part: &mut [u8], word: u64, bits: u32, order: u32) -> Result<(), Refusal>
+    ensures value { number_in result ≡ (if field_ok bits (length part.old) then 0 else 14) }
     ensures part_after { part.new ≡ (if field_ok bits (length part.old) then float_bytes order bits (length part.old) word else part.old) }
 {
-    if field_ok(bits, part.len()) {
-        binary::put_word(part, order, pattern_for(bits, word));
-        return true;
+    if !field_ok(bits, part.len()) {
+        return Err(Refusal::Misfit);
     }
-    false
+    binary::put_word(part, order, pattern_for(bits, word));
+    Ok(())
 }
 
 // ---- the words that a field keeps
 
-fn exact_half(w: u64) -> bool
-    ensures { result ≡ (not (nan_half (half_pattern w)) && half_word (half_pattern w) == w) }
+fn is_half_nan(v: u64) -> bool
+    ensures { result ≡ nan_half v }
 {
-    let h = half_pattern(w);
-    if h % 32768 > 31744 {
-        return false;
-    }
-    half_word(h) == w
+    v % 32768 > 31744
 }
 
-fn exact_single(w: u64) -> bool
-    ensures { result ≡ (not (Ieee.nan_bits binary32 (single_pattern w)) && wide_word (single_pattern w) == w) }
-{
-    let v = single_pattern(w);
-    if v % 0x8000_0000 > 0x7F80_0000 {
-        return false;
-    }
-    wide_word(v) == w
-}
-
-// Whether a field of so many bits keeps an f64's word.
+// Whether a field of so many bits keeps an f64's word: what is written for it is no NaN and reads as the word; 64 bits keep each word.
 pub fn exact(bits: u32, w: u64) -> bool
     ensures { result ≡ exact_in bits w }
 {
+    let v = pattern_for(bits, w);
     match bits {
-        16 => exact_half(w),
-        32 => exact_single(w),
+        16 => !is_half_nan(v) && half_word(v) == w,
+        32 => !is_single_nan(v) && wide_word(v) == w,
         64 => true,
         _ => false,
     }

@@ -3,12 +3,12 @@ use mathlib.Core.Path.{◌≡◌, refl, sym, ◌∙◌, ap}
 use mathlib.Core.List.{List, map}
 use mathlib.Core.Bool.{Bool, true, false, cond}
 use Prim.Native.Nat.{ℕ, suc, ◌+◌, ◌-◌, ◌*◌, ◌<◌, ◌≤◌, min}
+use native.Mathlib.Nat.{sub-zero}
 use native.Mathlib.Numerals.{add-one}
 use native.Mathlib.Omega.{arith}
 use lib.Dec.{ltb}
 use lib.ListN.{length, get_or, take, drop, drop_of_length-le}
 use lib.Seq.{drop-cons}
-use borrow.Author.Tests.{lt-ltb, le-ltb}
 use Rattle.value.specs.Digits.{value_from, value_of, is_digit, digit_in}
 use Rattle.value.specs.Answer.{refused}
 use Rattle.value.specs.Number.{some, read_in, unlawful, with_sign}
@@ -25,9 +25,10 @@ blank_on page b = is_blank (from_page page b)
 
 pub trim-is : (page : ℕ) (s : List ℕ) (a e : ℕ) → drop a s ≡ left_by (blank_on page) s
     → take e (take (length s - a) (drop a s)) ≡ right_by (blank_on page) (take (length s - a) (drop a s))
-    → map (from_page page) (take (e - 0) (take (length s - a) (drop a s))) ≡ trimmed (map (from_page page) s)
+    → map (from_page page) (take e (take (length s - a) (drop a s))) ≡ trimmed (map (from_page page) s)
 trim-is page s a e p q =
-    ap (map (from_page page)) (both_ends (blank_on page) s a e p q)
+    ap (λ (n : ℕ). map (from_page page) (take n (take (length s - a) (drop a s)))) (sym (sub-zero e))
+    ∙ ap (map (from_page page)) (both_ends (blank_on page) s a e p q)
     ∙ map-right is_blank (blank_on page) (from_page page) (left_by (blank_on page) s) (λ k b. refl)
     ∙ ap (right_by is_blank) (map-left is_blank (blank_on page) (from_page page) s (λ k b. refl))
 
@@ -45,19 +46,19 @@ module _ {X : Type 0} (answer : ℕ → X) (bad : X) where
   kept-is s = refl
 
   module _ (g : ℕ → ℕ) (s : List ℕ) (i v : ℕ) (below : i < length s) where
-    pub kept_high : 128 ≤ g (get_or s i 0) → kept_from answer bad v (map g (drop i s)) ≡ bad
+    pub kept_high : is_ascii (g (get_or s i 0)) ≡ false → kept_from answer bad v (map g (drop i s)) ≡ bad
     unfolding kept_from every_by
-    kept_high h = rw (drop-cons s i 0 below, le-ltb (g (get_or s i 0)) 128 h)
+    kept_high h = rw (drop-cons s i 0 below, h)
 
-    pub kept-skip : g (get_or s i 0) < 128 → is_digit (g (get_or s i 0)) ≡ false → kept_from answer bad v (map g (drop i s)) ≡ kept_from answer bad v (map g (drop (i + 1) s))
+    pub kept-skip : is_ascii (g (get_or s i 0)) ≡ true → is_digit (g (get_or s i 0)) ≡ false → kept_from answer bad v (map g (drop i s)) ≡ kept_from answer bad v (map g (drop (i + 1) s))
     unfolding kept_from every_by keep_by
-    kept-skip h e = rw (add-one, drop-cons s i 0 below, lt-ltb (g (get_or s i 0)) 128 h, e)
+    kept-skip h e = rw (add-one, drop-cons s i 0 below, h, e)
 
-    pub kept-go : (cap : ℕ) → ((n : ℕ) → answer (min n cap) ≡ answer n) → (next : ℕ) → g (get_or s i 0) < 128 → is_digit (g (get_or s i 0)) ≡ true
+    pub kept-go : (cap : ℕ) → ((n : ℕ) → answer (min n cap) ≡ answer n) → (next : ℕ) → is_ascii (g (get_or s i 0)) ≡ true → is_digit (g (get_or s i 0)) ≡ true
         → next ≡ min (v * 10 + digit_in (g (get_or s i 0))) cap → kept_from answer bad v (map g (drop i s)) ≡ kept_from answer bad next (map g (drop (i + 1) s))
     unfolding kept_from every_by keep_by
     kept-go cap same next h e n =
-        rw (add-one, n, drop-cons s i 0 below, lt-ltb (g (get_or s i 0)) 128 h, e)
+        rw (add-one, n, drop-cons s i 0 below, h, e)
         (ap (λ (m : X). cond (every_by is_ascii (map g (drop (suc i) s))) m bad)
         (sym (cap-answer answer cap same (v * 10 + digit_in (g (get_or s i 0))) (map digit_in (keep_by is_digit (map g (drop (suc i) s)))))))
 

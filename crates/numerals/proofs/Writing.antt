@@ -2,7 +2,7 @@
 use mathlib.Core.Path.{◌≡◌, refl, ◌∙◌, ap}
 use mathlib.Core.List.{List, [], ◌∷◌, ◌++◌, map}
 use Prim.Native.Nat.{ℕ, suc, ◌+◌, ◌-◌, ◌/◌, ◌%◌, ◌^◌, ◌<◌, ◌≤◌}
-use native.Mathlib.Nat.{div-one, sub-zero, pow-zero}
+use native.Mathlib.Nat.{div-one, pow-zero}
 use native.Mathlib.Omega.{arith}
 use lib.ListN.{length, take, drop, set, drop_of_length-le, length-map, length-drop, length-append}
 use lib.Seq.{length-take-le}
@@ -41,20 +41,20 @@ text-length f w size = length-map (digit_text w size) f ∙ length-digit_text w 
 
 -- ---- all bytes but the last, lent
 
-mid-is : (xs : List ℕ) → length (take (length xs - 1 - 0) xs) ≡ length xs - 1
-mid-is xs = length-take-le (length xs - 1 - 0) xs (omega arith) ∙ sub-zero (length xs - 1)
+mid-is : (xs : List ℕ) → length (take (length xs - 1) xs) ≡ length xs - 1
+mid-is xs = length-take-le (length xs - 1) xs (omega arith)
 
-pub last-left : (xs : List ℕ) → 0 < length xs → length (drop (length xs - 1 - 0) xs) ≡ 1
-last-left xs h = length-drop (length xs - 1 - 0) xs ∙ omega arith
+pub last-left : (xs : List ℕ) → 0 < length xs → length (drop (length xs - 1) xs) ≡ 1
+last-left xs h = length-drop (length xs - 1) xs ∙ omega arith
 
-pub last-piece : (f : ℕ → ℕ) (xs l : List ℕ) (size : ℕ) → l ≡ map f (digit_text (length (take (length xs - 1 - 0) xs)) size) → l ≡ map f (digit_text (length xs - 1) size)
+pub last-piece : (f : ℕ → ℕ) (xs l : List ℕ) (size : ℕ) → l ≡ map f (digit_text (length (take (length xs - 1) xs)) size) → l ≡ map f (digit_text (length xs - 1) size)
 last-piece f xs l size e = rw (mid-is xs) at e
 
-pub last-all : (xs l : List ℕ) → 0 < length xs → length l ≡ length (take (length xs - 1 - 0) xs) → length xs - 1 < length (l ++ drop (length xs - 1 - 0) xs)
+pub last-all : (xs l : List ℕ) → 0 < length xs → length l ≡ length (take (length xs - 1) xs) → length xs - 1 < length (l ++ drop (length xs - 1) xs)
 last-all xs l h e =
     let m = mid-is xs in
     let d = last-left xs h in
-    let s : length (l ++ drop (length xs - 1 - 0) xs) ≡ length l + length (drop (length xs - 1 - 0) xs) = length-append l (drop (length xs - 1 - 0) xs) in
+    let s : length (l ++ drop (length xs - 1) xs) ≡ length l + length (drop (length xs - 1) xs) = length-append l (drop (length xs - 1) xs) in
     omega arith
 
 pub set-behind : (ys zs : List ℕ) (b k : ℕ) → k ≡ length ys → length zs ≡ 1 → set (ys ++ zs) k b ≡ ys ++ (b ∷ [])

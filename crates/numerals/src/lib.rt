@@ -6,24 +6,20 @@ ghost use Rattle.std.specs.Prelude.{◌≡◌, map, Bool, false, ◌+◌, ◌≤
 ghost use Rattle.lists.specs.Part.{place_in};
 ghost use Rattle.lists.specs.Scan.{left_by, left_count, right_by};
 ghost use Rattle.value.specs.Digits.{digit_text, limit};
-ghost use Rattle.value.specs.Number.{read_as, read_in, unlawful};
+ghost use Rattle.value.specs.Answer.{answered};
+ghost use Rattle.value.specs.Number.{read_in, unlawful};
 ghost use Rattle.ebcdic.specs.Ebcdic.{from_page, onto_page};
-ghost use Rattle.numerals.specs.Numerals.{is_blank, trimmed, kept_by, is_sign, sign_byte};
+ghost use Rattle.numerals.specs.Numerals.{is_blank, trimmed, is_ascii, kept_by, is_sign, sign_byte};
 
-use value::Number;
+use codes::Refusal;
+use value::Whole;
 
 // ---- reading
 
 pub fn is_blank(x: u8) -> bool
     ensures { result ≡ is_blank x }
 {
-    if x == 32 {
-        return true;
-    }
-    if x < 9 {
-        return false;
-    }
-    x <= 13
+    matches!(x, b' ' | 9..=13)
 }
 
 fn blank_on(page: u32, b: u8) -> bool
@@ -35,31 +31,23 @@ fn blank_on(page: u32, b: u8) -> bool
 fn blanks_left(part: &[u8], page: u32) -> usize
     ensures { (result ≤ length part.now) × (drop result part.now ≡ left_by (λ b. is_blank (from_page page b)) part.now) }
 {
-    let mut i = 0;
-    while i < part.len() {
-        let b = part[i];
-        if blank_on(page, b) {
-            i += 1;
-        } else {
+    for (i, b) in part.iter().enumerate() {
+        if !blank_on(page, *b) {
             return i;
         }
     }
-    i
+    part.len()
 }
 
 fn blanks_right(part: &[u8], page: u32) -> usize
     ensures { (result ≤ length part.now) × (take result part.now ≡ right_by (λ b. is_blank (from_page page b)) part.now) }
 {
-    let mut e = part.len();
-    while 0 < e {
-        let b = part[e - 1];
-        if blank_on(page, b) {
-            e -= 1;
-        } else {
-            return e;
+    for i in (0..part.len()).rev() {
+        if !blank_on(page, part[i]) {
+            return i + 1;
         }
     }
-    e
+    0
 }
 
 // The text without the blanks at its ends, as a part of it.
@@ -67,29 +55,28 @@ pub fn trim(part: &[u8], page: u32) -> &[u8]
     ensures result_value { map (from_page page) result.now ≡ trimmed (map (from_page page) part.now) }
     ensures ref_ptr_value { result.ref_ptr ≡ place_in part.entry (left_count is_blank (map (from_page page) part.now)) }
 {
-    let a = blanks_left(part, page);
-    let t = &part[a..];
-    let e = blanks_right(t, page);
-    &t[0..e]
+    let t = &part[blanks_left(part, page)..];
+    &t[..blanks_right(t, page)]
+}
+
+fn is_ascii(x: u8) -> bool
+    ensures { result ≡ is_ascii x }
+{
+    x.is_ascii()
 }
 
 // The size that the digits of a text spell, other bytes skipped.
-pub fn kept_digits(part: &[u8], page: u32) -> Number
-    ensures { read_as result ≡ kept_by (read_in limit false) unlawful (map (from_page page) part.now) }
+pub fn kept_digits(part: &[u8], page: u32) -> Result<Whole, Refusal>
+    ensures { answered result ≡ kept_by (read_in limit false) unlawful (map (from_page page) part.now) }
 {
     let mut size: u64 = 0;
-    let mut i = 0;
-    while i < part.len() {
-        let b = part[i];
-        let x = ebcdic::from_page(page, b);
-        if x >= 128 {
-            return Number::Bad;
+    for b in part {
+        let x = ebcdic::from_page(page, *b);
+        if !is_ascii(x) {
+            return Err(Refusal::UnlawfulBytes);
         }
         if value::is_digit(x) {
             size = value::push_digit(size, value::digit_in(x), value::LIMIT);
-            i += 1;
-        } else {
-            i += 1;
         }
     }
     value::number_in(value::LIMIT, false, size)
@@ -98,10 +85,7 @@ pub fn kept_digits(part: &[u8], page: u32) -> Number
 pub fn is_sign(x: u8) -> bool
     ensures { result ≡ is_sign x }
 {
-    if x == 45 {
-        return true;
-    }
-    x == 43
+    x == b'-' || x == b'+'
 }
 
 // ---- writing
@@ -110,18 +94,16 @@ fn digit_on(page: u32, d: u8) -> u8
     requires { d < 10 }
     ensures { result ≡ onto_page page (48 + d) }
 {
-    ebcdic::onto_page(page, 48 + d)
+    ebcdic::onto_page(page, b'0' + d)
 }
 
 // The low digits of a size, as many as there are places.
 pub fn zero_pad(part: &mut [u8], page: u32, size: u64)
     ensures { part.new ≡ map (onto_page page) (digit_text (length part.old) size) }
 {
-    let w = part.len();
     let mut rest = size;
-    let mut i = w;
-    while i > 0 {
-        i -= 1;
+    // Kept: an index; of what `part.iter_mut().rev()` writes no contract says anything.
+    for i in (0..part.len()).rev() {
         part[i] = digit_on(page, value::last_digit(rest));
         rest = value::drop_digit(rest);
     }
@@ -130,8 +112,5 @@ pub fn zero_pad(part: &mut [u8], page: u32, size: u64)
 pub fn sign_on(page: u32, negative: bool) -> u8
     ensures { result ≡ onto_page page (sign_byte negative) }
 {
-    if negative {
-        return ebcdic::onto_page(page, 45);
-    }
-    ebcdic::onto_page(page, 43)
+    ebcdic::onto_page(page, if negative { b'-' } else { b'+' })
 }

@@ -9,7 +9,8 @@ use lib.ListN.{length, get_or}
 use borrow.Author.Tests.{le-ltb, le-leb, lt-leb}
 use Rattle.value.specs.Answer.{Answer, given}
 use Rattle.value.specs.Digits.{limit}
-use Rattle.value.specs.Number.{Whole, number, read_in, unlawful}
+use Rattle.value.specs.declared.Whole.{Whole}
+use Rattle.value.specs.Number.{number, read_in, unlawful}
 use Rattle.value.specs.Field.{last_of}
 use Rattle.value.proofs.Answers.{number_in-small, Numbered, numbered-in}
 use Rattle.value.proofs.Field as Field

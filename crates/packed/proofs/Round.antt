@@ -13,7 +13,8 @@ use borrow.Author.Tests.{lt-ltb}
 use Rattle.value.specs.Answer.{Answer, refused, given}
 use lib.IntN.{ℤ, pos}
 use Rattle.value.specs.Digits.{digit_at, digits_of, spread, limit, signed_of}
-use Rattle.value.specs.Number.{Whole, number, some, read_in, unlawful}
+use Rattle.value.specs.declared.Whole.{Whole}
+use Rattle.value.specs.Number.{some, read_in, unlawful}
 use Rattle.value.specs.Field.{last_of, digits_by}
 use Rattle.value.proofs.Digits.{ok-digits, value-of-digits, digit-below, high_digit, low_digit}
 use Rattle.value.proofs.Answers.{number_in-fits}
@@ -126,7 +127,7 @@ decoded w negative size signed h l = within limit w negative size signed h l
 
 -- the same in ℤ, of a field with a sign: -0 is 0
 abbrev pub integer_in : Answer Whole → ℤ
-integer_in (given (number negative size)) = signed_of negative size
+integer_in (given n) = signed_of n.negative n.size
 integer_in (refused question) = pos 0
 
 zero-unsigned : (negative : Bool) (size : ℕ) → signed_of (ltb 0 size && negative) size ≡ signed_of negative size

@@ -2,7 +2,8 @@
 use Rattle.std.specs.Prelude.{List, [], ◌∷◌, ◌++◌, Bool, ◌||◌, cond, ◌≡◌, ℕ, ◌+◌, ◌-◌, ◌*◌, ◌/◌, ◌%◌, ◌<◌, leb, eqb, length, get_or}
 use Rattle.value.specs.Digits.{digit_at, digits_of, limit, room_for}
 use Rattle.value.specs.Answer.{Answer}
-use Rattle.value.specs.Number.{Whole, read_in, unlawful}
+use Rattle.value.specs.declared.Whole.{Whole}
+use Rattle.value.specs.Number.{read_in, unlawful}
 use Rattle.value.specs.Field.{field_of}
 
 -- a byte's two nibbles

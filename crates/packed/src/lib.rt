@@ -2,69 +2,50 @@
 
 #![tactic(auto)]
 
-ghost use Rattle.std.specs.Prelude.{◌≡◌, length, true, ◌+◌, ◌*◌, ◌<◌};
-ghost use Rattle.value.specs.Number.{read_as};
+ghost use Rattle.std.specs.Prelude.{◌≡◌, length, true, cond, ◌+◌, ◌*◌, ◌<◌};
+ghost use Rattle.codes.specs.Refusals.{number_in};
+ghost use Rattle.value.specs.Answer.{answered};
 ghost use Rattle.packed.specs.Packed.{decode_of, fits_of, written_of, sign_of, is_negative, ByPlace};
 
-use value::Number;
+use codes::Refusal;
+use value::Whole;
 
 // The number of a packed field.
-pub fn decode(part: &[u8]) -> Number
-    ensures { read_as result ≡ decode_of part.now }
+pub fn decode(part: &[u8]) -> Result<Whole, Refusal>
+    ensures { answered result ≡ decode_of part.now }
 {
-    let n = part.len();
-    if n == 0 {
-        return Number::Bad;
-    }
-    let last = n - 1;
+    let Some((last, front)) = part.split_last() else {
+        return Err(Refusal::UnlawfulBytes);
+    };
     let mut size: u64 = 0;
-    let mut i = 0;
-    while i < last {
-        let b = part[i];
-        let high = b / 16;
-        let low = b % 16;
-        if high >= 10 {
-            return Number::Bad;
-        }
-        if low >= 10 {
-            return Number::Bad;
+    for b in front {
+        let high = *b / 16;
+        let low = *b % 16;
+        if high >= 10 || low >= 10 {
+            return Err(Refusal::UnlawfulBytes);
         }
         size = value::push_pair(size, high, low);
-        i += 1;
     }
-    let b = part[last];
-    let high = b / 16;
-    let sign = b % 16;
-    if high >= 10 {
-        return Number::Bad;
+    let digit = *last / 16;
+    let sign = *last % 16;
+    if digit >= 10 || sign < 10 {
+        return Err(Refusal::UnlawfulBytes);
     }
-    if sign < 10 {
-        return Number::Bad;
-    }
-    let total = value::push_digit(size, high, value::LIMIT);
+    let total = value::push_digit(size, digit, value::LIMIT);
     value::number_in(value::LIMIT, is_negative(sign), total)
 }
 
 fn is_negative(sign: u8) -> bool
     ensures { result ≡ is_negative sign }
 {
-    if sign == 11 {
-        return true;
-    }
-    sign == 13
+    sign == 0xB || sign == 0xD
 }
 
 // Whether a size has no more digits than a field has places.
 pub fn fits(width: usize, size: u64) -> bool
     ensures { result ≡ fits_of width size }
 {
-    if width == 0 {
-        return false;
-    }
-    if width >= 11 {
-        return true;
-    }
-    value::has_room(2 * width - 1, size)
+    width >= 11 || width > 0 && value::has_room(2 * width - 1, size)
 }
 
 // Two digits in a byte.
@@ -80,12 +61,11 @@ fn write(part: &mut [u8], size: u64, sign: u8)
     requires { (0 < length part.old) × (sign < 16) }
     ensures { ByPlace part.new size sign }
 {
-    let w = part.len();
-    let mut i = w - 1;
-    part[i] = pair_of(value::last_digit(size), sign);
+    let last = part.len() - 1;
+    part[last] = pair_of(value::last_digit(size), sign);
     let mut rest = value::drop_digit(size);
-    while i > 0 {
-        i -= 1;
+    // Kept: an index; of what `iter_mut().rev()` writes no contract says anything.
+    for i in (0..last).rev() {
         let pair = value::last_pair(rest);
         part[i] = pair_of(pair / 10, pair % 10);
         rest = value::drop_pair(rest);
@@ -95,25 +75,21 @@ fn write(part: &mut [u8], size: u64, sign: u8)
 fn sign_of(signed: bool, negative: bool) -> u8
     ensures { (result ≡ sign_of signed negative) × (result < 16) }
 {
-    if signed {
-        if negative {
-            return 13;
-        }
-        return 12;
+    match (signed, negative) {
+        (true, true) => 0xD,
+        (true, false) => 0xC,
+        (false, _) => 0xF,
     }
-    15
 }
 
-// Writes a number into a packed field, and answers whether it fits; a field that it does not fit stays as it was.
-pub fn encode(part: &mut [u8], negative: bool, size: u64, signed: bool) -> bool
-    ensures value { (result ≡ fits_of (length part.old) size) × (part.new ≡ written_of part.old negative size signed) }
-    ensures by_place { fits_of (length part.old) size ≡ true → ByPlace part.new size (sign_of signed negative) }
+// Writes a number into a packed field; a field that it does not fit stays as it was.
+pub fn encode(part: &mut [u8], n: Whole, signed: bool) -> Result<(), Refusal>
+    ensures value { (number_in result ≡ cond (fits_of (length part.old) n.size) 0 14) × (part.new ≡ written_of part.old n.negative n.size signed) }
+    ensures by_place { fits_of (length part.old) n.size ≡ true → ByPlace part.new n.size (sign_of signed n.negative) }
 {
-    let w = part.len();
-    if fits(w, size) {
-        let sign = sign_of(signed, negative);
-        write(part, size, sign);
-        return true;
+    if !fits(part.len(), n.size) {
+        return Err(Refusal::Misfit);
     }
-    false
+    write(part, n.size, sign_of(signed, n.negative));
+    Ok(())
 }

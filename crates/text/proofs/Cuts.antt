@@ -3,7 +3,7 @@ use mathlib.Core.Path.{◌≡◌, refl, sym, ap, ◌∙◌}
 use mathlib.Core.Bool.{Bool, true, false, cond}
 use mathlib.Core.List.{List, [], ◌∷◌, map}
 use Prim.Native.Nat.{ℕ, zero, suc, ◌-◌, ◌≤◌, ◌<◌, suc-le-suc}
-use native.Mathlib.Nat.{not-suc-le-zero, le_of_suc-le-suc, zero-lt-suc, sub-zero}
+use native.Mathlib.Nat.{not-suc-le-zero, le_of_suc-le-suc, zero-lt-suc}
 use native.Mathlib.Omega.{arith}
 use lib.ListN.{length, get_or, take, drop}
 use lib.Seq.{take-take, length-take-le}
@@ -85,16 +85,14 @@ module _ (page pad : ℕ) (p : pad < 256) (s : List ℕ) (h : Bytes s) where
   -- the parts that the code takes
   pub right-part : (q a z : ℕ) → q ≡ onto_page page pad → drop a s ≡ left_by (is_byte q) s
       → take z (take (length s - a) (drop a s)) ≡ before_by (is_byte 0) (take (length s - a) (drop a s))
-      → map (from_page page) (take (z - 0) (take (length s - a) (drop a s))) ≡ read_text page true true pad s
+      → map (from_page page) (take z (take (length s - a) (drop a s))) ≡ read_text page true true pad s
   right-part q a z r e f =
-      ap (λ (n : ℕ). map (from_page page) (take n (take (length s - a) (drop a s)))) (sub-zero z)
-      ∙ ap (map (from_page page)) (f ∙ ap (before_by (is_byte 0)) (tail-part s a ∙ e ∙ ap (λ (b : ℕ). left_by (is_byte b) s) r))
+      ap (map (from_page page)) (f ∙ ap (before_by (is_byte 0)) (tail-part s a ∙ e ∙ ap (λ (b : ℕ). left_by (is_byte b) s) r))
       ∙ right-cut
 
-  pub left-part : (q e : ℕ) → q ≡ onto_page page pad → take e s ≡ right_by (is_byte q) (before_by (is_byte 0) s) → map (from_page page) (take (e - 0) s) ≡ read_text page false true pad s
+  pub left-part : (q e : ℕ) → q ≡ onto_page page pad → take e s ≡ right_by (is_byte q) (before_by (is_byte 0) s) → map (from_page page) (take e s) ≡ read_text page false true pad s
   left-part q e r i =
-      ap (λ (n : ℕ). map (from_page page) (take n s)) (sub-zero e)
-      ∙ ap (map (from_page page)) (i ∙ ap (λ (b : ℕ). right_by (is_byte b) (before_by (is_byte 0) s)) r)
+      ap (map (from_page page)) (i ∙ ap (λ (b : ℕ). right_by (is_byte b) (before_by (is_byte 0) s)) r)
       ∙ left_cut
 
   -- where the first of them starts
@@ -114,20 +112,20 @@ from-right pad s = refl
 
 -- ---- where a left-justified text ends: the pads at the end are passed, then the first 0 byte is looked for, and then the pads before it are passed
 
-module _ (f g : ℕ → Bool) (s : List ℕ) (e z : ℕ) (i : e ≤ length s) (j : z ≤ length (take (e - 0) s)) (k : take e s ≡ right_by f s)
-    (l : take z (take (e - 0) s) ≡ before_by g (take (e - 0) s)) where
-  first-cut : take z (take (e - 0) s) ≡ before_by g (right_by f s)
-  first-cut = l ∙ ap (before_by g) (ap (λ (n : ℕ). take n s) (sub-zero e) ∙ k)
+module _ (f g : ℕ → Bool) (s : List ℕ) (e z : ℕ) (i : e ≤ length s) (j : z ≤ length (take e s)) (k : take e s ≡ right_by f s)
+    (l : take z (take e s) ≡ before_by g (take e s)) where
+  first-cut : take z (take e s) ≡ before_by g (right_by f s)
+  first-cut = l ∙ ap (before_by g) k
 
   -- there is no 0 byte
   pub end_kept : z ≡ e → take e s ≡ right_by f (before_by g s)
   end_kept m =
-      let whole : before_by g (right_by f s) ≡ right_by f s = sym first-cut ∙ ap (λ (n : ℕ). take n (take (e - 0) s)) m ∙ take-take e (e - 0) s (omega arith) ∙ k in
+      let whole : before_by g (right_by f s) ≡ right_by f s = sym first-cut ∙ ap (λ (n : ℕ). take n (take e s)) m ∙ take-take e e s (omega arith) ∙ k in
       k ∙ sym (right-twice f s) ∙ ap (right_by f) (sym whole) ∙ right-spared f g s
 
-  pub end-cut : (r : ℕ) → r ≤ length (take (z - 0) s) → take r (take (z - 0) s) ≡ right_by f (take (z - 0) s) → (r ≤ length s) × (take r s ≡ right_by f (before_by g s))
+  pub end-cut : (r : ℕ) → r ≤ length (take z s) → take r (take z s) ≡ right_by f (take z s) → (r ≤ length s) × (take r s ≡ right_by f (before_by g s))
   end-cut r m n =
-      let d : length (take (e - 0) s) ≡ e - 0 = length-take-le (e - 0) s (omega arith) in
-      let h : length (take (z - 0) s) ≡ z - 0 = length-take-le (z - 0) s (omega arith) in
-      let u : take (z - 0) s ≡ before_by g (right_by f s) = ap (λ (v : ℕ). take v s) (sub-zero z) ∙ sym (take-take z (e - 0) s (omega arith)) ∙ first-cut in
-      (omega arith, sym (take-take r (z - 0) s (omega arith)) ∙ n ∙ ap (right_by f) u ∙ right-spared f g s)
+      let d : length (take e s) ≡ e = length-take-le e s (omega arith) in
+      let h : length (take z s) ≡ z = length-take-le z s (omega arith) in
+      let u : take z s ≡ before_by g (right_by f s) = sym (take-take z e s (omega arith)) ∙ first-cut in
+      (omega arith, sym (take-take r z s (omega arith)) ∙ n ∙ ap (right_by f) u ∙ right-spared f g s)

@@ -3,6 +3,7 @@ pub mod Write
 pub mod Count
 pub mod Places
 pub mod Showing
-pub mod Answers
 pub mod Back
 pub mod Changed
+pub mod Ends
+pub mod Answers

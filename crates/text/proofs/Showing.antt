@@ -1,5 +1,5 @@
 -- A scalar's text, piece by piece; 24 bytes hold any.
-use mathlib.Core.Path.{◌≡◌, refl, sym, ap, ◌∙◌, subst}
+use mathlib.Core.Path.{◌≡◌, sym, ap, ◌∙◌, subst}
 use mathlib.Core.Bool.{Bool, true, false, ◌&&◌, cond}
 use mathlib.Core.List.{List, [], ◌∷◌, ◌++◌, append_assoc}
 use Prim.Native.Nat.{ℕ, suc, ◌+◌, ◌-◌, ◌*◌, ◌/◌, ◌^◌, ◌≤◌, ◌<◌}
@@ -7,14 +7,14 @@ use native.Mathlib.Nat.{div-lt_iff_lt-mul, lt_of_lt_of_le}
 use native.Mathlib.Omega.{arith}
 use borrow.Author.Tests.{ne_eqb, eq-eqb}
 use lib.Dec.{ltb, lit≤}
-use lib.ListN.{length, set, length-append}
+use lib.ListN.{length, length-append}
 use lib.Pow.{pow-add}
 use Rattle.value.specs.Word.{power_ten}
 use Rattle.value.proofs.Digits.{pow-pos10}
 use Rattle.value.proofs.Word.{power-is}
 use Rattle.text.specs.Text.{front}
 use Rattle.value.specs.Digits.{digit_text}
-use Rattle.text.specs.Shown.{digit_count, whole_text, minus_text, int_text, decimal_text, bool_text, placed}
+use Rattle.text.specs.Shown.{digit_count, whole_text, minus_text, int_text, decimal_text, placed}
 use Rattle.value.proofs.Digits.{length-digit_text}
 use Rattle.text.proofs.Count.{count-below}
 use Rattle.text.proofs.Places.{placed-front}
@@ -66,20 +66,3 @@ unfolding decimal_text
 decimal-parts negative size scale p h k e =
     let q : p ≡ 10 ^ scale = e ∙ power-is scale (omega arith) in
     rw (ne_eqb scale 0 h, q) (append_assoc (minus_text negative size) (whole_text (size / 10 ^ scale)) (46 ∷ digit_text scale size))
-
--- ---- Bools
-
-pub true-front : (l : List ℕ) → 24 ≤ length l → set (set (set (set l 0 116) 1 114) 2 117) 3 101 ≡ front (bool_text true) l
-true-front [] k = absurd (omega arith)
-true-front (x ∷ []) k = absurd (omega arith)
-true-front (x ∷ y ∷ []) k = absurd (omega arith)
-true-front (x ∷ y ∷ z ∷ []) k = absurd (omega arith)
-true-front (x ∷ y ∷ z ∷ w ∷ l) k = refl
-
-pub false-front : (l : List ℕ) → 24 ≤ length l → set (set (set (set (set l 0 102) 1 97) 2 108) 3 115) 4 101 ≡ front (bool_text false) l
-false-front [] k = absurd (omega arith)
-false-front (x ∷ []) k = absurd (omega arith)
-false-front (x ∷ y ∷ []) k = absurd (omega arith)
-false-front (x ∷ y ∷ z ∷ []) k = absurd (omega arith)
-false-front (x ∷ y ∷ z ∷ w ∷ []) k = absurd (omega arith)
-false-front (x ∷ y ∷ z ∷ w ∷ v ∷ l) k = refl

@@ -1,15 +1,27 @@
 -- What the writing functions leave is what the definitions say.
 use mathlib.Core.Path.{◌≡◌, refl, sym, ap, ◌∙◌, subst}
-use mathlib.Core.Bool.{true, false}
+use mathlib.Core.Bool.{true, false, cond}
+use mathlib.Core.Logic.{◌⊎◌, inl, inr}
+use Rattle.std.proofs.lemmas.Bool.{cases_lt}
+use borrow.Author.Tests.{lt-leb}
+use lib.Dec.{leb}
 use mathlib.Core.List.{List, [], ◌∷◌, ◌++◌, map, append-nil}
-use Prim.Native.Nat.{ℕ, ◌-◌, ◌≤◌}
+use Prim.Native.Nat.{ℕ, ◌-◌, ◌≤◌, ◌<◌}
 use native.Mathlib.Nat.{le_refl, le_of_eq}
 use native.Mathlib.Omega.{arith}
-use lib.ListN.{length, take, drop, replicate, length-replicate, length-map}
+use lib.ListN.{length, take, drop, replicate, length-replicate, length-map, drop_of_length-le}
 use lib.Seq.{take_all}
 use Rattle.lists.proofs.Lists.{map-append, map-replicate, take-replicate, drop-replicate}
 use Rattle.ebcdic.specs.Ebcdic.{onto_page, copied}
 use Rattle.text.specs.Text.{written, padded}
+
+-- a text that is not refused at a width has room
+pub room-told : (m n : ℕ) → ◌≡◌ {A = ℕ} 0 (cond (leb m n) 0 14) → m ≤ n
+room-told m n e = go (cases_lt n m)
+  where
+    go : (n < m) ⊎ (m ≤ n) → m ≤ n
+    go (inr h) = h
+    go (inl h) = let z : ◌≡◌ {A = ℕ} 0 14 = rw (lt-leb m n h) at e in absurd (omega arith)
 
 -- a copy that has room
 pub copied_all : (f : ℕ → ℕ) (s out : List ℕ) → length s ≤ length out → copied f s out ≡ map f s ++ drop (length s) out
@@ -20,7 +32,7 @@ module _ (page : ℕ) (text : List ℕ) (pad n : ℕ) (h : length text ≤ n) wh
   abbrev g : ℕ → ℕ
   g = onto_page page
 
-  pub left-written : (fl cp : List ℕ) → fl ≡ padded page pad n → cp ≡ copied g text fl → cp ≡ written page false pad n text
+  left-written : (fl cp : List ℕ) → fl ≡ padded page pad n → cp ≡ copied g text fl → cp ≡ written page false pad n text
   unfolding written
   left-written fl cp e q =
       let l : length text ≤ length fl = rw (e, length-replicate) h in
@@ -42,6 +54,15 @@ module _ (page : ℕ) (text : List ℕ) (pad n : ℕ) (h : length text ≤ n) wh
   unfolding written
   right-written fl cp e q =
       rw (q, e) (right-core (length (replicate n (g pad)) - length text) (length (replicate n (g pad)) - (length (replicate n (g pad)) - length text)) (rw length-replicate (omega arith)) (rw length-replicate refl))
+
+  -- the same where the text starts at 0
+  pub left-from-start : (fl cp : List ℕ) → fl ≡ padded page pad n → cp ≡ copied g text (take (length fl - 0) (drop 0 fl))
+      → take 0 fl ++ (cp ++ drop (length fl - 0) (drop 0 fl)) ≡ written page false pad n text
+  left-from-start fl cp e q =
+      let z : length fl - 0 ≡ length fl = omega arith in
+      let whole : take (length fl) fl ≡ fl = take_all (length fl) fl (le_refl (length fl)) in
+      let none : drop (length fl) fl ≡ [] = drop_of_length-le fl (le_refl (length fl)) in
+      rw (z, none, append-nil) (left-written fl cp e (rw (z, whole) at q))
 
 -- page 0 leaves a text as it is
 pub ascii-page : (s : List ℕ) → map (onto_page 0) s ≡ s

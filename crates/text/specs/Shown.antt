@@ -5,8 +5,6 @@ use Rattle.value.specs.declared.Scalar.{Scalar}
 use Rattle.value.specs.declared.Scalar.TheVariants.{Null, Text, Int, Decimal, Float as FloatV, FloatBits, Bool as BoolV}
 use Rattle.value.specs.Answer.{Answer, refused, given}
 use Rattle.text.specs.Text.{front, written_in}
-use Rattle.text.specs.declared.Shown.{Shown}
-use Rattle.text.specs.declared.Shown.TheVariants.{Length, Refused}
 
 -- how many digits v has: one if it is below 10, which the Bool says, else one more than its tenth
 abbrev pub count_in : ℕ → Bool → ℕ → ℕ
@@ -74,10 +72,6 @@ text_in v bytes = cond (is_text v) (shows bytes) (shown_of v)
 abbrev pub answer_of : Shows → Answer ℕ
 answer_of (shows t) = given (length t)
 answer_of none = refused 13
-
-abbrev pub shown_as : Shown → Answer ℕ
-shown_as (Length n) = given n
-shown_as Refused = refused 13
 
 -- the text at the front of the array; its other bytes stay
 abbrev pub shown_in : Shows → List ℕ → List ℕ

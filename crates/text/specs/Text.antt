@@ -3,8 +3,6 @@ use Rattle.std.specs.Prelude.{ℕ, ◌-◌, ◌≤◌, ◌<◌, ◌≡◌, Bool,
 use Rattle.lists.specs.Scan.{left_by, left_count, right_by, before_by}
 use Rattle.ebcdic.specs.Ebcdic.{from_page, onto_page}
 use Rattle.value.specs.Answer.{Answer, refused, given}
-use Rattle.text.specs.declared.Put.{Put}
-use Rattle.text.specs.declared.Put.TheVariants.{Length, Full}
 
 -- a byte is the byte b
 abbrev pub is_byte : ℕ → ℕ → Bool
@@ -30,10 +28,6 @@ front t out = t ++ drop (length t) out
 -- a text to the front of a buffer, if it has room; else the buffer stays. "Place for item and text? 16"
 abbrev pub put_of : List ℕ → List ℕ → Answer ℕ
 put_of t out = cond (leb (length t) (length out)) (given (length t)) (refused 16)
-
-abbrev pub put_as : Put → Answer ℕ
-put_as (Length n) = given n
-put_as Full = refused 16
 
 abbrev pub put_in : List ℕ → List ℕ → List ℕ
 put_in t out = cond (leb (length t) (length out)) (front t out) out

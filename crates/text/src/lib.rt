@@ -6,26 +6,15 @@ ghost use Rattle.std.specs.Prelude.{◌≡◌, Bool, cond, ◌∷◌, map, ◌+�
 ghost use Rattle.lists.specs.Part.{place_in};
 ghost use Rattle.lists.specs.Scan.{left_by, left_count, right_by, before_by};
 ghost use Rattle.ebcdic.specs.Ebcdic.{from_page};
-ghost use Rattle.text.specs.Text.{is_byte, read_text, cut_from, front, put_of, put_as, put_in, written_in, padded};
+ghost use Rattle.value.specs.Answer.{answered};
+ghost use Rattle.codes.specs.Refusals.{number_in};
+ghost use Rattle.text.specs.Text.{is_byte, read_text, cut_from, front, put_of, put_in, written_in, padded};
 ghost use Rattle.value.specs.Digits.{digit_text};
 ghost use Rattle.text.specs.Shown.{digit_count, whole_text, minus_text, int_text, decimal_text, bool_text, placed};
-ghost use Rattle.text.specs.Shown.{shows, is_text, shown_of, text_in, answer_of, shown_as, shown_in, room_of, refusal_at, encoded_in};
+ghost use Rattle.text.specs.Shown.{shows, is_text, shown_of, text_in, answer_of, shown_in, room_of, refusal_at, encoded_in};
 
+use codes::Refusal;
 use value::Scalar;
-
-// What put_text answers: the length of the text that it put, or that it had no room.
-#[derive(Clone, Copy)]
-pub enum Put {
-    Length(usize),
-    Full,
-}
-
-// What display_scalar answers: the length of the text, or that the scalar has none.
-#[derive(Clone, Copy)]
-pub enum Shown {
-    Length(usize),
-    Refused,
-}
 
 // ---- reading
 
@@ -33,42 +22,21 @@ pub enum Shown {
 pub fn pad_start(s: &[u8], pad: u8) -> usize
     ensures { (result ≡ left_count (is_byte pad) s.now) × (drop result s.now ≡ left_by (is_byte pad) s.now) }
 {
-    let mut i = 0;
-    while i < s.len() {
-        if s[i] != pad {
-            return i;
-        }
-        i += 1;
-    }
-    i
+    s.iter().position(|b| *b != pad).unwrap_or(s.len())
 }
 
 // Where the pads at the right end start.
 fn pad_end(s: &[u8], pad: u8) -> usize
     ensures { (result ≤ length s.now) × (take result s.now ≡ right_by (is_byte pad) s.now) }
 {
-    let mut e = s.len();
-    while 0 < e {
-        if s[e - 1] != pad {
-            return e;
-        }
-        e -= 1;
-    }
-    e
+    s.len() - s.iter().rev().position(|b| *b != pad).unwrap_or(s.len())
 }
 
 // Where the first 0 byte stands, or the length.
 fn zero_at(s: &[u8]) -> usize
     ensures { (result ≤ length s.now) × (take result s.now ≡ before_by (is_byte 0) s.now) }
 {
-    let mut i = 0;
-    while i < s.len() {
-        if s[i] == 0 {
-            return i;
-        }
-        i += 1;
-    }
-    i
+    s.iter().position(|b| *b == 0).unwrap_or(s.len())
 }
 
 // Where a left-justified text ends: before the first 0 byte and the pads in front of it. The pads at the right end are passed first, so that they are not searched for a 0 byte.
@@ -76,13 +44,8 @@ fn text_end(s: &[u8], pad: u8) -> usize
     ensures { (result ≤ length s.now) × (take result s.now ≡ right_by (is_byte pad) (before_by (is_byte 0) s.now)) }
 {
     let e = pad_end(s, pad);
-    let t = &s[0..e];
-    let z = zero_at(t);
-    if z == e {
-        return e;
-    }
-    let u = &s[0..z];
-    pad_end(u, pad)
+    let z = zero_at(&s[..e]);
+    if z == e { e } else { pad_end(&s[..z], pad) }
 }
 
 // The bytes of a field that are its text, as a part of it. The pad is looked for as it stands on the page.
@@ -90,34 +53,36 @@ pub fn trimmed(s: &[u8], page: u32, right: bool, trim: bool, pad: u8) -> &[u8]
     ensures result_value { map (from_page page) result.now ≡ read_text page right trim pad s.now }
     ensures ref_ptr_value { result.ref_ptr ≡ place_in s.entry (cut_from right trim pad (map (from_page page) s.now)) }
 {
-    if trim {
-        let p = ebcdic::onto_page(page, pad);
-        if right {
-            let a = pad_start(s, p);
-            let t = &s[a..];
-            let z = zero_at(t);
-            return &t[0..z];
-        } else {
-            let e = text_end(s, p);
-            return &s[0..e];
-        }
-    } else {
+    if !trim {
         return s;
+    }
+    let p = ebcdic::onto_page(page, pad);
+    if right {
+        let t = &s[pad_start(s, p)..];
+        &t[..zero_at(t)]
+    } else {
+        &s[..text_end(s, p)]
     }
 }
 
-// The reader's leaf: the text of a field's bytes to the front of a buffer, if it has room.
-pub fn put_text(s: &[u8], page: u32, right: bool, trim: bool, pad: u8, out: &mut [u8]) -> Put
-    ensures result_value { put_as result ≡ put_of (read_text page right trim pad s.now) out.old }
+// The reader's leaf: the text of a field's bytes to the front of a buffer, if it has room, and its length.
+pub fn put_text(
+    s: &[u8],
+    page: u32,
+    right: bool,
+    trim: bool,
+    pad: u8,
+    out: &mut [u8],
+) -> Result<usize, Refusal>
+    ensures result_value { answered result ≡ put_of (read_text page right trim pad s.now) out.old }
     ensures out_after { out.new ≡ put_in (read_text page right trim pad s.now) out.old }
 {
     let t = trimmed(s, page, right, trim, pad);
-    if t.len() <= out.len() {
-        ebcdic::decode_slice(t, page, out);
-        Put::Length(t.len())
-    } else {
-        Put::Full
+    if t.len() > out.len() {
+        return Err(Refusal::NoRoom);
     }
+    ebcdic::decode_slice(t, page, out);
+    Ok(t.len())
 }
 
 // ---- writing
@@ -126,27 +91,29 @@ pub fn put_text(s: &[u8], page: u32, right: bool, trim: bool, pad: u8, out: &mut
 pub fn fill_pad(part: &mut [u8], pad: u8, page: u32)
     ensures { part.new ≡ padded page pad (length part.old) }
 {
-    let p = ebcdic::onto_page(page, pad);
-    lists::fill(part, p);
+    part.fill(ebcdic::onto_page(page, pad));
 }
 
-// The text at the left or right of a field's bytes, pads elsewhere, each byte on its page; whether it has room.
-fn justify_pad(part: &mut [u8], text: &[u8], right: bool, pad: u8, page: u32) -> bool
-    ensures value { result ≡ leb (length text.now) (length part.old) }
+// The text at the left or right of a field's bytes, pads elsewhere, each byte on its page, if it has room.
+fn justify_pad(part: &mut [u8], text: &[u8], right: bool, pad: u8, page: u32) -> Result<(), Refusal>
+    ensures value { number_in result ≡ refusal_at (length part.old) (shows text.now) }
     ensures part_after { part.new ≡ written_in page right pad part.old text.now }
 {
-    if text.len() <= part.len() {
-        fill_pad(part, pad, page);
-        if right {
-            let gap = part.len() - text.len();
-            ebcdic::encode_slice(text, page, &mut part[gap..]);
-            return true;
-        } else {
-            ebcdic::encode_slice(text, page, part);
-            return true;
-        }
+    fits(part.len(), text.len())?;
+    fill_pad(part, pad, page);
+    let start = if right { part.len() - text.len() } else { 0 };
+    ebcdic::encode_slice(text, page, &mut part[start..]);
+    Ok(())
+}
+
+// Whether a text of n bytes fits a width.
+fn fits(width: usize, n: usize) -> Result<(), Refusal>
+    ensures { number_in result ≡ cond (leb n width) 0 14 }
+{
+    if n <= width {
+        Ok(())
     } else {
-        return false;
+        Err(Refusal::Misfit)
     }
 }
 
@@ -156,14 +123,12 @@ fn justify_pad(part: &mut [u8], text: &[u8], right: bool, pad: u8, page: u32) ->
 fn digit_count(v: u64) -> usize
     ensures { result ≡ digit_count v }
 {
-    let mut n: usize = 1;
-    while n < 20 {
+    for n in 1..20 {
         if v < value::ten_to(n as u64) {
             return n;
         }
-        n += 1;
     }
-    n
+    20
 }
 
 // The low digits of a size in all bytes of a part.
@@ -179,14 +144,12 @@ fn put_minus(out: &mut [u8], negative: bool, size: u64) -> usize
     ensures value { result ≡ length (minus_text negative size) }
     ensures out_after { out.new ≡ front (minus_text negative size) out.old }
 {
-    if size == 0 {
-        return 0;
+    if negative && size != 0 {
+        out[0] = b'-';
+        1
+    } else {
+        0
     }
-    if negative {
-        out[0] = 45;
-        return 1;
-    }
-    0
 }
 
 // A size without leading zeros at a place; where the next byte goes.
@@ -207,7 +170,7 @@ fn put_fraction(out: &mut [u8], at: usize, size: u64, scale: usize) -> usize
     ensures value { result ≡ at + length (46 ∷ digit_text scale size) }
     ensures out_after { out.new ≡ placed at (46 ∷ digit_text scale size) out.old }
 {
-    out[at] = 46;
+    out[at] = b'.';
     let start = at + 1;
     let end = start + scale;
     spell(&mut out[start..end], size);
@@ -245,131 +208,66 @@ fn show_bool(out: &mut [u8], b: bool) -> usize
     ensures value { (result ≡ length (bool_text b)) × (result ≤ 24) }
     ensures out_after { out.new ≡ front (bool_text b) out.old }
 {
-    if b {
-        out[0] = 116;
-        out[1] = 114;
-        out[2] = 117;
-        out[3] = 101;
-        return 4;
-    } else {
-        out[0] = 102;
-        out[1] = 97;
-        out[2] = 108;
-        out[3] = 115;
-        out[4] = 101;
-        return 5;
-    }
+    let text: &[u8] = if b { b"true" } else { b"false" };
+    out[..text.len()].copy_from_slice(text);
+    text.len()
 }
 
 fn is_text(v: Scalar) -> bool
     ensures { result ≡ is_text v }
 {
-    match v {
-        Scalar::Null => false,
-        Scalar::Text(_, _) => true,
-        Scalar::Int(_, _) => false,
-        Scalar::Decimal(_, _, _) => false,
-        Scalar::Float(_) => false,
-        Scalar::FloatBits(_) => false,
-        Scalar::Bool(_) => false,
-    }
+    matches!(v, Scalar::Text(_, _))
 }
 
-// The text of a scalar that is no Text to the front of an array; the array's other bytes stay.
-pub fn display_scalar(v: Scalar, out: &mut [u8; 24]) -> Shown
-    ensures result_value { shown_as result ≡ answer_of (shown_of v) }
+// The text of a scalar that is no Text to the front of an array, and its length; the array's other bytes stay.
+pub fn display_scalar(v: Scalar, out: &mut [u8; 24]) -> Result<usize, Refusal>
+    ensures result_value { answered result ≡ answer_of (shown_of v) }
     ensures out_after { out.new ≡ shown_in (shown_of v) out.old }
     ensures v_bound { room_of (shown_of v) ≤ 24 }
 {
     match v {
-        Scalar::Null => {
-            return Shown::Length(0);
+        Scalar::Null => Ok(0),
+        Scalar::Int(negative, size) => Ok(show_int(out, negative, size)),
+        Scalar::Decimal(negative, size, scale) if scale <= 18 => {
+            Ok(show_decimal(out, negative, size, scale))
         }
-        Scalar::Text(_, _) => {
-            return Shown::Refused;
-        }
-        Scalar::Int(negative, size) => {
-            let n = show_int(out, negative, size);
-            return Shown::Length(n);
-        }
-        Scalar::Decimal(negative, size, scale) => {
-            if scale <= 18 {
-                let n = show_decimal(out, negative, size, scale);
-                return Shown::Length(n);
-            } else {
-                return Shown::Refused;
-            }
-        }
-        Scalar::Float(_) => {
-            return Shown::Refused;
-        }
-        Scalar::FloatBits(_) => {
-            return Shown::Refused;
-        }
-        Scalar::Bool(b) => {
-            let n = show_bool(out, b);
-            return Shown::Length(n);
+        Scalar::Bool(b) => Ok(show_bool(out, b)),
+        Scalar::Text(_, _) | Scalar::Decimal(_, _, _) | Scalar::Float(_) | Scalar::FloatBits(_) => {
+            Err(Refusal::WrongKind)
         }
     }
 }
 
 // ---- a scalar into a Text field
 
-// Whether a text of n bytes fits a width, as a refusal's number.
-fn fits(width: usize, n: usize) -> u32
-    ensures { result ≡ cond (leb n width) 0 14 }
-{
-    if n <= width {
-        return 0;
-    }
-    14
-}
-
-fn put_fitting(part: &mut [u8], text: &[u8], right: bool, pad: u8, page: u32) -> u32
-    ensures value { result ≡ refusal_at (length part.old) (shows text.now) }
-    ensures part_after { part.new ≡ written_in page right pad part.old text.now }
-{
-    if justify_pad(part, text, right, pad, page) {
-        return 0;
-    } else {
-        return 14;
-    }
-}
-
-// Writes a scalar into a Text field; text is a Text's bytes. 0, or the number it is refused by, and then the field stays as it was.
-pub fn encode_text(part: &mut [u8], v: Scalar, text: &[u8], right: bool, pad: u8, page: u32) -> u32
-    ensures value { result ≡ refusal_at (length part.old) (text_in v text.now) }
+// Writes a scalar into a Text field; text is a Text's bytes. A scalar that is refused leaves the field as it was.
+pub fn encode_text(
+    part: &mut [u8],
+    v: Scalar,
+    text: &[u8],
+    right: bool,
+    pad: u8,
+    page: u32,
+) -> Result<(), Refusal>
+    ensures value { number_in result ≡ refusal_at (length part.old) (text_in v text.now) }
     ensures part_after { part.new ≡ encoded_in page right pad part.old (text_in v text.now) }
 {
     if is_text(v) {
-        return put_fitting(part, text, right, pad, page);
+        return justify_pad(part, text, right, pad, page);
     }
     let mut shown = [0u8; 24];
-    match display_scalar(v, &mut shown) {
-        Shown::Length(n) => {
-            let t = &shown[0..n];
-            return put_fitting(part, t, right, pad, page);
-        }
-        Shown::Refused => {
-            return 13;
-        }
-    }
+    let n = display_scalar(v, &mut shown)?;
+    justify_pad(part, &shown[..n], right, pad, page)
 }
 
-// The number that encode_text would answer at a width.
-pub fn fits_text(width: usize, v: Scalar, text: &[u8]) -> u32
-    ensures { result ≡ refusal_at width (text_in v text.now) }
+// What encode_text would answer at a width.
+pub fn fits_text(width: usize, v: Scalar, text: &[u8]) -> Result<(), Refusal>
+    ensures { number_in result ≡ refusal_at width (text_in v text.now) }
 {
     if is_text(v) {
         return fits(width, text.len());
     }
     let mut shown = [0u8; 24];
-    match display_scalar(v, &mut shown) {
-        Shown::Length(n) => {
-            return fits(width, n);
-        }
-        Shown::Refused => {
-            return 13;
-        }
-    }
+    let n = display_scalar(v, &mut shown)?;
+    fits(width, n)
 }

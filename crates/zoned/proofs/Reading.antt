@@ -5,8 +5,7 @@ use mathlib.Core.Bool.{Bool}
 use Prim.Native.Nat.{ℕ, ◌+◌, ◌-◌, ◌*◌, ◌<◌, ◌≤◌, min}
 use native.Mathlib.Omega.{arith}
 use lib.ListN.{length, get_or, length-map}
-use native.Mathlib.Decide.{dec_lt}
-use borrow.Author.Tests.{lt-ltb, le-ltb, le-leb, lt-leb, ne_eqb}
+use borrow.Author.Tests.{le-ltb}
 use Rattle.lists.proofs.Lists.{get_d_map}
 use Rattle.ebcdic.specs.Ebcdic.{from_page}
 use Rattle.value.specs.Number.{read_in, unlawful}
@@ -67,15 +66,6 @@ module _ (page : ℕ) (part : List ℕ) where
         let p : i ≡ length ascii - 1 = omega arith in
         rw (m, ← y)
         (Field.read_all zone last_digit any_sign lawful bad ascii cap (λ b v. same (minus b) v) size total (omega arith) (rw p at r) (rw (y, ← f) k) refl (rw (y, ← f) t))
-
--- below a colon the last byte has a digit as the others have one
-pub low-last : (b : ℕ) → b < 0x3A → digit_of b ≡ last_digit b
-low-last b h = go (dec_lt b 0x30)
-  where
-    go : Dec (b < 0x30) → digit_of b ≡ last_digit b
-    go (yes k) =
-        rw (lt-ltb b 0x30 k, lt-leb 48 b k, lt-leb 0x41 b (omega arith), lt-leb 0x4A b (omega arith), ne_eqb b 0x7B (omega arith), ne_eqb b 0x7D (omega arith))
-    go (no k) = rw (le-ltb b 0x30 (omega arith), le-leb 48 b (omega arith), le-leb b 57 (omega arith))
 
 pub decode-numbered : (part : List ℕ) → Numbered (decode_of part)
 unfolding decode_of

@@ -13,10 +13,10 @@ use Rattle.zoned.specs.Zoned.{overpunch, encoded_of}
 
 -- the part after its first bytes were lent and written, and the last one was stored
 pub written : (page : ℕ) (part new : List ℕ) (size d : ℕ) (negative signed : Bool) (b x : ℕ) → 0 < length part
-    → new ≡ map (onto_page page) (digit_text (length (take (length part - 1 - 0) (drop 0 part))) (size / 10)) → d ≡ size % 10 → x ≡ cond signed (overpunch d negative) (48 + d) → b ≡ onto_page page x
-    → set (take 0 part ++ (new ++ drop (length part - 1 - 0) (drop 0 part))) (length part - 1) b ≡ map (onto_page page) (encoded_of (length part) negative size signed)
+    → new ≡ map (onto_page page) (digit_text (length (take (length part - 1) part)) (size / 10)) → d ≡ size % 10 → x ≡ cond signed (overpunch d negative) (48 + d) → b ≡ onto_page page x
+    → set (new ++ drop (length part - 1) part) (length part - 1) b ≡ map (onto_page page) (encoded_of (length part) negative size signed)
 written page part new size d negative signed b x h n e f g =
     let m : new ≡ map (onto_page page) (digit_text (length part - 1) (size / 10)) = last-piece (onto_page page) part new (size / 10) n in
     let l : length part - 1 ≡ length new = sym (ap length m ∙ text-length (onto_page page) (length part - 1) (size / 10)) in
     let u : digit_at 0 size ≡ size % 10 = ap (λ (v : ℕ). v % 10) (div-one size) in
-    set-behind new (drop (length part - 1 - 0) part) b (length part - 1) l (last-left part h) ∙ rw (map-append, g, f, e, ← u, m)
+    set-behind new (drop (length part - 1) part) b (length part - 1) l (last-left part h) ∙ rw (map-append, g, f, e, ← u, m)

@@ -2,7 +2,8 @@
 use Rattle.std.specs.Prelude.{List, [], ◌∷◌, ◌++◌, Bool, true, ◌&&◌, ◌||◌, cond, ℕ, ◌+◌, ◌-◌, ◌/◌, ltb, leb, eqb}
 use Rattle.value.specs.Digits.{is_digit, digit_in, digit_at, digit_text, limit, room_for}
 use Rattle.value.specs.Answer.{Answer}
-use Rattle.value.specs.Number.{Whole, read_in, unlawful}
+use Rattle.value.specs.declared.Whole.{Whole}
+use Rattle.value.specs.Number.{read_in, unlawful}
 use Rattle.value.specs.Field.{field_of}
 
 -- a digit's byte, 0x30 to 0x39; any other is no digit, 10 or more

@@ -3,92 +3,68 @@
 #![tactic(auto)]
 
 ghost use Rattle.std.specs.Prelude.{◌≡◌, Bool, cond, List, [], ◌∷◌, ◌++◌, map, ℕ, ◌+◌, ◌<◌, ◌≤◌, length};
-ghost use Rattle.value.specs.Number.{read_in, unlawful, read_as};
+ghost use Rattle.codes.specs.Refusals.{number_in};
+ghost use Rattle.value.specs.Answer.{answered};
+ghost use Rattle.value.specs.Number.{read_in, unlawful};
 ghost use Rattle.ebcdic.specs.Ebcdic.{from_page, onto_page};
 ghost use Rattle.zoned.specs.Zoned.{zoned_by, decode_of, digit_of, last_digit, minus, overpunch, encoded_of, fits_of};
 
-use value::Number;
+use codes::Refusal;
+use value::Whole;
 
 // The digit of a byte, or 10 or more.
 fn digit(b: u8) -> u8
     ensures { result ≡ digit_of b }
 {
-    if b < 0x30 {
-        return 10;
-    }
-    b - 0x30
+    if b < b'0' { 10 } else { b - b'0' }
 }
 
 // The digit of an overpunched last byte, or 10 or more.
 fn decode_overpunch(b: u8) -> u8
     ensures { result ≡ last_digit b }
 {
-    if b < 0x3A {
-        return digit(b);
+    match b {
+        b'0'..=b'9' => b - b'0',
+        b'A'..=b'I' => b - 0x40,
+        b'J'..=b'R' => b - 0x49,
+        b'{' | b'}' => 0,
+        _ => 10,
     }
-    if b < 0x41 {
-        return 10;
-    }
-    if b < 0x4A {
-        return b - 0x40;
-    }
-    if b < 0x53 {
-        return b - 0x49;
-    }
-    if b == 0x7B {
-        return 0;
-    }
-    if b == 0x7D {
-        return 0;
-    }
-    10
 }
 
 fn is_minus(b: u8) -> bool
     ensures { result ≡ minus b }
 {
-    if b < 0x4A {
-        return false;
-    }
-    if b < 0x53 {
-        return true;
-    }
-    b == 0x7D
+    matches!(b, b'J'..=b'R' | b'}')
 }
 
 // The number of a zoned field, whose size is to be below a bound.
-pub fn decode_within(part: &[u8], page: u32, bound: u64) -> Number
-    ensures { read_as result ≡ zoned_by (read_in bound) unlawful (map (from_page page) part.now) }
+pub fn decode_within(part: &[u8], page: u32, bound: u64) -> Result<Whole, Refusal>
+    ensures { answered result ≡ zoned_by (read_in bound) unlawful (map (from_page page) part.now) }
 {
-    let n = part.len();
-    if n == 0 {
-        return Number::Bad;
-    }
-    let last = n - 1;
+    let Some((last, front)) = part.split_last() else {
+        return Err(Refusal::UnlawfulBytes);
+    };
     let mut size: u64 = 0;
-    let mut i = 0;
-    while i < last {
-        let b = part[i];
-        let d = digit(ebcdic::from_page(page, b));
+    for b in front {
+        let d = digit(ebcdic::from_page(page, *b));
         if d >= 10 {
-            return Number::Bad;
+            return Err(Refusal::UnlawfulBytes);
         }
         size = value::push_digit(size, d, bound);
-        i += 1;
     }
-    let z = part[last];
-    let b = ebcdic::from_page(page, z);
-    let d = decode_overpunch(b);
-    if d >= 10 {
-        return Number::Bad;
+    let z = ebcdic::from_page(page, *last);
+    let units = decode_overpunch(z);
+    if units >= 10 {
+        return Err(Refusal::UnlawfulBytes);
     }
-    let total = value::push_digit(size, d, bound);
-    value::number_in(bound, is_minus(b), total)
+    let total = value::push_digit(size, units, bound);
+    value::number_in(bound, is_minus(z), total)
 }
 
 // The number of a zoned field.
-pub fn decode(part: &[u8], page: u32) -> Number
-    ensures { read_as result ≡ decode_of (map (from_page page) part.now) }
+pub fn decode(part: &[u8], page: u32) -> Result<Whole, Refusal>
+    ensures { answered result ≡ decode_of (map (from_page page) part.now) }
 {
     decode_within(part, page, value::LIMIT)
 }
@@ -98,16 +74,12 @@ fn encode_overpunch(d: u8, negative: bool) -> u8
     requires { d < 10 }
     ensures { result ≡ overpunch d negative }
 {
-    if d == 0 {
-        if negative {
-            return 0x7D;
-        }
-        return 0x7B;
+    match (d, negative) {
+        (0, true) => b'}',
+        (0, false) => b'{',
+        (_, true) => 0x49 + d,
+        (_, false) => 0x40 + d,
     }
-    if negative {
-        return 0x49 + d;
-    }
-    0x40 + d
 }
 
 fn last_byte(d: u8, negative: bool, signed: bool) -> u8
@@ -115,9 +87,10 @@ fn last_byte(d: u8, negative: bool, signed: bool) -> u8
     ensures { result ≡ cond signed (overpunch d negative) (48 + d) }
 {
     if signed {
-        return encode_overpunch(d, negative);
+        encode_overpunch(d, negative)
+    } else {
+        b'0' + d
     }
-    48 + d
 }
 
 // Whether a size has no more digits than a field has bytes.
@@ -127,18 +100,17 @@ pub fn fits(width: usize, size: u64) -> bool
     value::has_room(width, size)
 }
 
-// Writes a number into a zoned field, and answers whether it fits; a field that it does not fit stays as it was.
-pub fn encode(part: &mut [u8], page: u32, negative: bool, size: u64, signed: bool) -> bool
-    ensures value { result ≡ fits_of (length part.old) size }
-    ensures part_after { part.new ≡ cond (fits_of (length part.old) size) (map (onto_page page) (encoded_of (length part.old) negative size signed)) part.old }
+// Writes a number into a zoned field; a field that it does not fit stays as it was.
+pub fn encode(part: &mut [u8], page: u32, n: Whole, signed: bool) -> Result<(), Refusal>
+    ensures value { number_in result ≡ cond (fits_of (length part.old) n.size) 0 14 }
+    ensures part_after { part.new ≡ cond (fits_of (length part.old) n.size) (map (onto_page page) (encoded_of (length part.old) n.negative n.size signed)) part.old }
 {
-    let w = part.len();
-    if fits(w, size) {
-        let last = w - 1;
-        numerals::zero_pad(&mut part[0..last], page, value::drop_digit(size));
-        let b = last_byte(value::last_digit(size), negative, signed);
-        part[last] = ebcdic::onto_page(page, b);
-        return true;
+    if !fits(part.len(), n.size) {
+        return Err(Refusal::Misfit);
     }
-    false
+    let last = part.len() - 1;
+    numerals::zero_pad(&mut part[..last], page, value::drop_digit(n.size));
+    let b = last_byte(value::last_digit(n.size), n.negative, signed);
+    part[last] = ebcdic::onto_page(page, b);
+    Ok(())
 }

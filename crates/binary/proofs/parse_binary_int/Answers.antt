@@ -1,40 +1,36 @@
-use mathlib.Core.Path.{sym, ◌∙◌}
-use native.Mathlib.Omega.{arith}
-use Rattle.value.specs.Number.{read_as}
-use Rattle.binary.proofs.Integers.{word_small, read-signed, read_plain, read-big, read-bad}
+-- A word of at most eight bytes is read whole.
+use Rattle.std.proofs.Common.{ap, sym, ◌∙◌, ◌≡◌, true, false, length, arith}
+use Rattle.binary.specs.Bytes.{word_in}
+use Rattle.binary.specs.Binary.{width_ok, signed_word, unsigned_word, integer_of}
+use Rattle.binary.proofs.Words.{word_below}
+use Rattle.binary.proofs.Integers.{word-is}
 use Rattle.binary.proofs.parse_binary_int.Goals as goal
+
+pub returns-then-not-width_ok : goal.returns-then-not-width_ok
+unfolding integer_of
+returns-then-not-width_ok c =
+    let no : width_ok (length c.args.part.now) ≡ false = sym c.width_ok.ensures ∙ c.if-not-width_ok.true in
+    rw no
 
 pub signed_word-requires : goal.signed_word-requires
 signed_word-requires c =
-    let ok = sym c.width_ok.ensures ∙ c.if-width_ok.true in
-    (ok, word_small c.args.order c.args.part.now (λ k h. omega (arith, c.type_inv.part k)) ok c.read_word-v.result c.read_word-v.ensures)
+    let s = c.args.part.now in
+    let ok : width_ok (length s) ≡ true = sym c.width_ok.ensures ∙ c.if-not-width_ok.false in
+    let e : c.read_word-v.result ≡ word_in c.args.order s = c.read_word-v.ensures ∙ word-is c.args.order s (λ k h. omega (arith, c.type_inv.part k)) ok in
+    (ok, rw e (word_below c.args.order s (λ k h. omega (arith, c.type_inv.part k))))
 
 pub returns-then-signed : goal.returns-then-signed
+unfolding integer_of
 returns-then-signed c =
-    let at-args = c.args in
-    let at-shared-slice-known = c.shared_slice_known-1 in
-    let at-width-ok = c.width_ok in
-    let at-if1 = c.if-width_ok in
-    let at-read-word = c.read_word-v in
-    read-signed at-args.order at-args.part.now (λ k h. omega (arith, at-shared-slice-known.given k)) (sym at-width-ok.ensures ∙ at-if1.true) at-read-word.result at-read-word.ensures at-args.signed (read_as c.signed_word.result) c.if-signed.true c.signed_word.ensures
+    let s = c.args.part.now in
+    let ok : width_ok (length s) ≡ true = sym c.width_ok.ensures ∙ c.if-not-width_ok.false in
+    let e : c.read_word-v.result ≡ word_in c.args.order s = c.read_word-v.ensures ∙ word-is c.args.order s (λ k h. omega (arith, c.type_inv.part k)) ok in
+    rw (ok, c.if-signed.true) (c.signed_word.ensures ∙ ap (signed_word (length s)) e)
 
-pub returns-then-v-lt-INT_LIMIT : goal.returns-then-v-lt-INT_LIMIT
-returns-then-v-lt-INT_LIMIT c =
-    let at-args = c.args in
-    let at-shared-slice-known = c.shared_slice_known-1 in
-    let at-width-ok = c.width_ok in
-    let at-if1 = c.if-width_ok in
-    let at-read-word = c.read_word-v in
-    read_plain at-args.order at-args.part.now (λ k h. omega (arith, at-shared-slice-known.given k)) (sym at-width-ok.ensures ∙ at-if1.true) at-read-word.result at-read-word.ensures at-args.signed c.if-signed.false c.if-v-lt-INT_LIMIT.true
-
-pub returns-then-width_ok : goal.returns-then-width_ok
-returns-then-width_ok c =
-    let at-args = c.args in
-    let at-shared-slice-known = c.shared_slice_known-1 in
-    let at-width-ok = c.width_ok in
-    let at-if1 = c.if-width_ok in
-    let at-read-word = c.read_word-v in
-    read-big at-args.order at-args.part.now (λ k h. omega (arith, at-shared-slice-known.given k)) (sym at-width-ok.ensures ∙ at-if1.true) at-read-word.result at-read-word.ensures at-args.signed c.if-signed.false c.if-v-lt-INT_LIMIT.false
-
-pub returns : goal.returns
-returns c = read-bad c.args.order c.args.signed c.args.part.now (sym c.width_ok.ensures ∙ c.if-width_ok.false)
+pub returns-else-signed : goal.returns-else-signed
+unfolding integer_of
+returns-else-signed c =
+    let s = c.args.part.now in
+    let ok : width_ok (length s) ≡ true = sym c.width_ok.ensures ∙ c.if-not-width_ok.false in
+    let e : c.read_word-v.result ≡ word_in c.args.order s = c.read_word-v.ensures ∙ word-is c.args.order s (λ k h. omega (arith, c.type_inv.part k)) ok in
+    rw (ok, c.if-signed.false) (c.number_in.ensures ∙ ap unsigned_word e)

@@ -1,22 +1,15 @@
-use mathlib.Core.Path.{refl, sym, ap, ◌∙◌}
-use native.Mathlib.Omega.{arith}
-use Rattle.lists.proofs.Scan.{every-go, every-stop, every-end}
+-- A field is true where not all of its bytes stand for false.
+use Rattle.std.proofs.Common.{◌≡◌, rules, not, ap, ◌∙◌}
+use Rattle.std.specs.List.{list_all}
+use Rattle.std.proofs.lemmas.Iterator.{YieldsList-from_slice}
+use Rattle.std.proofs.lemmas.Iterator.Search.{all_from_yields_List}
 use Rattle.binary.specs.Binary.{is_false, bool_of}
-use mathlib.Core.Bool.{not}
+use Rattle.binary.proofs.Bools.{all-every}
 use Rattle.binary.proofs.parse_bool.Goals as goal
-
-pub loop-i-init : goal.loop-i-init
-loop-i-init c = (omega arith, refl)
-
-pub loop-i-preserved : goal.loop-i-preserved
-loop-i-preserved c =
-    (omega arith, c.loop-i.invariant.1 ∙ every-go is_false c.args.part.now c.loop-i.i c.loop-i-test.true (sym c.is_false.ensures ∙ c.if-is_false.true))
-
-pub returns-else-is_false : goal.returns-else-is_false
-unfolding bool_of
-returns-else-is_false c =
-    sym (ap not (c.loop-i.invariant.1 ∙ every-stop is_false c.args.part.now c.loop-i.i c.loop-i-test.true (sym c.is_false.ensures ∙ c.if-is_false.false)))
 
 pub returns : goal.returns
 unfolding bool_of
-returns c = sym (ap not (c.loop-i.invariant.1 ∙ every-end is_false c.args.part.now c.loop-i.i c.loop-i-test.false))
+returns c =
+    let e : c.all.result ≡ list_all is_false c.args.part.now =
+    all_from_yields_List is_false _ _ c.all.result c.all.ensures.ran (YieldsList-from_slice c.args.part.now cc) (λ x b q k. search rules) in
+    ap not (e ∙ all-every is_false c.args.part.now)

@@ -1,4 +1,5 @@
-use mathlib.Core.Path.{◌∙◌}
+-- The digits that are kept behind the sign, with that sign (`decimal-is`).
+use Rattle.std.proofs.Common.{◌∙◌}
 use Rattle.ebcdic.specs.Ebcdic.{from_page}
 use Rattle.display.proofs.Signs.{decimal-is}
 use Rattle.display.proofs.parse_display_decimal.Goals as goal
@@ -6,4 +7,7 @@ use Rattle.display.proofs.parse_display_decimal.Goals as goal
 pub returns : goal.returns
 returns c =
     let a = c.args in
-    c.with_sign.ensures ∙ rw (c.sign_at-b.ensures, c.kept_digits-k.ensures) (decimal-is (from_page a.page) a.sign a.part.now c.trim-t.result.now c.strip_separate_sign-rest.result.now c.trim-t.ensures.result_value c.strip_separate_sign-rest.ensures)
+    let t = c.trim-t in
+    let s = c.strip_separate_sign-b in
+    c.with_sign.ensures ∙ rw (s.ensures.byte, c.kept_digits.ensures)
+    (decimal-is (from_page a.page) a.sign a.part.now t.result.now s.result.1.now t.ensures.result_value s.ensures.rest)

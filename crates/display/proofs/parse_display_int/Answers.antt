@@ -1,34 +1,40 @@
-use mathlib.Core.Path.{sym, ap, ◌∙◌}
+-- What is left of the text decides: nothing, digits behind a separate sign, or a number with one leading sign or none.
+use Rattle.std.proofs.Common.{sym, ap, ◌∙◌}
+use borrow.Author.Tests.{eqb-true, eqb-false}
 use Rattle.ebcdic.specs.Ebcdic.{from_page}
 use Rattle.numerals.specs.Numerals.{is_sign}
 use Rattle.display.proofs.Signs.{int-empty, int-taken, int-plain}
 use Rattle.display.proofs.parse_display_int.Goals as goal
 
-pub returns-then-n-eq0 : goal.returns-then-n-eq0
-returns-then-n-eq0 c =
+pub returns-then-is_empty : goal.returns-then-is_empty
+returns-then-is_empty c =
     let a = c.args in
-    int-empty (from_page a.page) a.sign a.part.now c.trim-t.result.now c.strip_separate_sign-rest.result.now c.trim-t.ensures.result_value c.strip_separate_sign-rest.ensures c.trim-u.result.now c.trim-u.ensures.result_value c.if-n-eq0.true
+    let t = c.trim-t in
+    let s = c.strip_separate_sign-b in
+    let u = c.trim-u in
+    let n = eqb-true _ 0 (sym c.is_empty.ensures ∙ c.if-is_empty.true) in
+    c.signed_size.ensures
+    ∙ int-empty (from_page a.page) a.sign a.part.now t.result.now s.result.1.now t.ensures.result_value s.ensures.rest u.result.now u.ensures.result_value n
 
 pub returns-then-is_sign : goal.returns-then-is_sign
 returns-then-is_sign c =
-    let at-args = c.args in
-    let at-trim = c.trim-t in
-    let at-sign-at = c.sign_at-b in
-    let at-strip-separate-sign = c.strip_separate_sign-rest in
-    let at-trim2 = c.trim-u in
-    let at-if1 = c.if-n-eq0 in
-    let at-is-sign = c.is_sign in
-    let a = at-args in
-    c.digits_in.ensures ∙ rw at-sign-at.ensures (int-taken (from_page a.page) a.sign a.part.now at-trim.result.now at-strip-separate-sign.result.now at-trim.ensures.result_value at-strip-separate-sign.ensures at-trim2.result.now at-trim2.ensures.result_value at-if1.false (ap is_sign (sym at-sign-at.ensures) ∙ sym at-is-sign.ensures ∙ c.if-is_sign.true))
+    let a = c.args in
+    let t = c.trim-t in
+    let s = c.strip_separate_sign-b in
+    let u = c.trim-u in
+    let n = eqb-false _ 0 (sym c.is_empty.ensures ∙ c.if-is_empty.false) in
+    c.digits_in.ensures
+    ∙ rw s.ensures.byte
+    (int-taken (from_page a.page) a.sign a.part.now t.result.now s.result.1.now t.ensures.result_value s.ensures.rest u.result.now u.ensures.result_value n
+    (ap is_sign (sym s.ensures.byte) ∙ sym c.is_sign.ensures ∙ c.if-is_sign.true))
 
-pub returns : goal.returns
-returns c =
-    let at-args = c.args in
-    let at-trim = c.trim-t in
-    let at-sign-at = c.sign_at-b in
-    let at-strip-separate-sign = c.strip_separate_sign-rest in
-    let at-trim2 = c.trim-u in
-    let at-if1 = c.if-n-eq0 in
-    let at-is-sign = c.is_sign in
-    let a = at-args in
-    c.whole_of.ensures ∙ int-plain (from_page a.page) a.sign a.part.now at-trim.result.now at-strip-separate-sign.result.now at-trim.ensures.result_value at-strip-separate-sign.ensures at-trim2.result.now at-trim2.ensures.result_value at-if1.false (ap is_sign (sym at-sign-at.ensures) ∙ sym at-is-sign.ensures ∙ c.if-is_sign.false)
+pub returns-else-is_sign : goal.returns-else-is_sign
+returns-else-is_sign c =
+    let a = c.args in
+    let t = c.trim-t in
+    let s = c.strip_separate_sign-b in
+    let u = c.trim-u in
+    let n = eqb-false _ 0 (sym c.is_empty.ensures ∙ c.if-is_empty.false) in
+    c.whole_of.ensures
+    ∙ int-plain (from_page a.page) a.sign a.part.now t.result.now s.result.1.now t.ensures.result_value s.ensures.rest u.result.now u.ensures.result_value n
+    (ap is_sign (sym s.ensures.byte) ∙ sym c.is_sign.ensures ∙ c.if-is_sign.false)

@@ -1,34 +1,14 @@
--- `ebcdic::translate` meets its contract. The invariant: the first i bytes of the buffer are the table's for those of the source, the rest is as it was. The bytes left fall.
-use mathlib.Core.Path.{refl, ◌∙◌}
-use Prim.Native.Nat.{◌<◌}
-use native.Mathlib.Nat.{le_antisymm}
-use native.Mathlib.Omega.{arith}
-use lib.ListN.{length, get_or, length-set}
-use Rattle.lists.proofs.Lists.{copy-go, copy-all}
+-- A turn stores the table's byte at i (`copy-go`); at the end the source or the buffer is used up.
+use Rattle.std.proofs.Common.{◌<◌, get_or, arith, length-take-le}
+use Rattle.std.proofs.lemmas.List.{get_or-take}
+use Rattle.lists.proofs.Lists.{copy-go}
 use Rattle.ebcdic.proofs.translate.Goals as goal
-
-pub loop-i-init : goal.loop-i-init
-loop-i-init c = (omega arith, (refl, refl))
-
-pub overflow_cast-out : goal.overflow_cast-out
-overflow_cast-out c = omega (arith, c.type_inv.src c.loop-i.i)
-
-pub bounds-table-b : goal.bounds-table-b
-bounds-table-b c = omega (arith, c.type_inv.src c.loop-i.i)
 
 pub loop-i-preserved : goal.loop-i-preserved
 loop-i-preserved c =
     let a = c.args in
-    let at-loop = c.loop-i in
-    let h : at-loop.i < length a.out.now = omega arith in
-    let k : at-loop.i < length a.src.now = omega arith in
-    (omega arith, (rw at-loop.invariant.1.0 (copy-go (λ b. get_or a.table.now b 0) a.src.now a.out.now at-loop.i k h), simp length-set at-loop.invariant.1.1))
-
-pub shape_of-out : goal.shape_of-out
-shape_of-out c = c.loop-i.invariant.1.1
-
-pub returns : goal.returns
-returns c =
-    let a = c.args in
-    let at-loop = c.loop-i in
-    at-loop.invariant.1.0 ∙ copy-all (λ b. get_or a.table.now b 0) a.src.now a.out.now at-loop.i (le_antisymm at-loop.invariant.0 c.loop-i-test.false ∙ c.least-n.ensures.2)
+    let i = c.loop-i.i in
+    let n = c.min-n.result in
+    let h : i < n = omega (arith, c.min-n.ensures, length-take-le n a.src.now) in
+    let e = get_or-take n a.src.now i 0 h in
+    rw (c.loop-i.invariant, e) (copy-go (λ b. get_or a.table.now b 0) a.src.now a.out.now i (omega arith) (omega arith))

@@ -1,4 +1,4 @@
-use Rattle.std.proofs.Common.{sym, ap, ◌∙◌}
+use Rattle.std.proofs.Common.{sym, ap, ◌∙◌, inl, inr}
 use lib.Ieee.{binary64, to_bits}
 use Rattle.value.specs.Answer.{given}
 use Rattle.float.specs.Convert.{floated_of}
@@ -10,7 +10,7 @@ returns-in-Null c = sym (ap floated_of c.in-Null.is)
 
 pub returns-in-Text : goal.returns-in-Text
 unfolding floated_of
-returns-in-Text c = sym (ap floated_of c.in-Text.is)
+returns-in-Text c = elim c.in-Text.is [ inl e ↦ sym (ap floated_of e.2) | inr e ↦ sym (ap floated_of e.1) ]
 
 pub returns-in-Int : goal.returns-in-Int
 unfolding floated_of
@@ -28,7 +28,3 @@ returns-in-Float c = ap given c.float_word-in-Float.ensures ∙ sym (ap floated_
 pub returns-in-FloatBits : goal.returns-in-FloatBits
 unfolding floated_of
 returns-in-FloatBits c = sym (ap floated_of c.in-FloatBits.is)
-
-pub returns-in-Bool : goal.returns-in-Bool
-unfolding floated_of
-returns-in-Bool c = sym (ap floated_of c.in-Bool.is)

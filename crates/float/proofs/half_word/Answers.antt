@@ -49,15 +49,15 @@ float_to_bits-result-else-h-lt32768-2 c = not-nan _ _ _ _ (neg_value _ _ _ _ c.s
 
 pub returns-then-h-lt32768 : goal.returns-then-h-lt32768
 unfolding to_bits
-returns-then-h-lt32768 c = word c.args.h (lt-leb _ _ c.if-h-lt32768.true) (eq-eqb _ _ c.if-e-eq31.true) (eq-eqb _ _ c.if-t-eq0.true)
+returns-then-h-lt32768 c = word c.args.h (lt-leb _ _ c.if-h-lt32768.true) (eq-eqb _ _ c.if-e-eq31.true) (eq-eqb _ _ c.if-t-ne0.false)
 
 pub returns-else-h-lt32768 : goal.returns-else-h-lt32768
 unfolding to_bits
-returns-else-h-lt32768 c = word c.args.h (le-leb _ _ c.if-h-lt32768.false) (eq-eqb _ _ c.if-e-eq31.true) (eq-eqb _ _ c.if-t-eq0.true)
+returns-else-h-lt32768 c = word c.args.h (le-leb _ _ c.if-h-lt32768.false) (eq-eqb _ _ c.if-e-eq31.true) (eq-eqb _ _ c.if-t-ne0.false)
 
-pub returns-else-t-eq0 : goal.returns-else-t-eq0
+pub returns-then-t-ne0 : goal.returns-then-t-ne0
 unfolding to_bits
-returns-else-t-eq0 c = word c.args.h refl (eq-eqb _ _ c.if-e-eq31.true) (ne_eqb _ _ c.if-t-eq0.false)
+returns-then-t-ne0 c = word c.args.h refl (eq-eqb _ _ c.if-e-eq31.true) (ne_eqb _ _ c.if-t-ne0.true)
 
 pub returns-then-h-lt32768-2 : goal.returns-then-h-lt32768-2
 returns-then-h-lt32768-2 c = number c.args.h false c.scaled-x.result (lt-leb _ _ c.if-h-lt32768-2.true) c.if-e-eq31.false (value c.args.h c.scaled-x.result c.significand.ensures c.scaled-x.ensures)

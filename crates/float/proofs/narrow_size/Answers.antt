@@ -45,7 +45,7 @@ nearest_even-requires c = m-lt c.args.x c.args.t c.significand-m.ensures c.requi
 pub returns-then-x-eq0 : goal.returns-then-x-eq0
 returns-then-x-eq0 c =
     let a = c.args in
-    of_low a.p a.low a.ones a.x a.t c.requires.0 c.requires.1 c.significand-m.ensures (1074 - a.low) c.nearest_even.ensures (omega arith) (omega arith)
+    of_low a.f.p a.f.low a.f.ones a.x a.t c.requires.0 c.requires.1 c.significand-m.ensures (1074 - a.f.low) c.nearest_even.ensures (omega arith) (omega arith)
 
 pub nearest_even-requires-then-x-normal : goal.nearest_even-requires-then-x-normal
 nearest_even-requires-then-x-normal c = m-lt c.args.x c.args.t c.significand-m.ensures c.requires.1
@@ -53,37 +53,37 @@ nearest_even-requires-then-x-normal c = m-lt c.args.x c.args.t c.significand-m.e
 pub returns-then-x-normal : goal.returns-then-x-normal
 returns-then-x-normal c =
     let a = c.args in
-    of_low a.p a.low a.ones a.x a.t c.requires.0 c.requires.1 c.significand-m.ensures (1075 - a.low - a.x) c.nearest_even-then-x-normal.ensures (omega arith) (omega arith)
+    of_low a.f.p a.f.low a.f.ones a.x a.t c.requires.0 c.requires.1 c.significand-m.ensures (1075 - a.f.low - a.x) c.nearest_even-then-x-normal.ensures (omega arith) (omega arith)
 
 pub overflow_mul-result : goal.overflow_mul-result
 overflow_mul-result c =
     let a = c.args in
-    let r = weight-le a.p a.ones (omega arith) (omega arith) c.leading-h.ensures.0 c.leading-h.ensures.1 (a.x - (1022 + a.p - a.low)) (omega arith) in
+    let r = weight-le a.f.p a.f.ones (omega arith) (omega arith) c.leading-h.ensures.0 c.leading-h.ensures.1 (a.x - (1022 + a.f.p - a.f.low)) (omega arith) in
     omega arith
 
-pub nearest_even-requires-then-k-ones : goal.nearest_even-requires-then-k-ones
-nearest_even-requires-then-k-ones c = m-lt c.args.x c.args.t c.significand-m.ensures c.requires.1
+pub nearest_even-requires-then-k-f : goal.nearest_even-requires-then-k-f
+nearest_even-requires-then-k-f c = m-lt c.args.x c.args.t c.significand-m.ensures c.requires.1
 
 pub overflow_add-result : goal.overflow_add-result
 overflow_add-result c =
     let a = c.args in
     let h = c.leading-h.ensures in
-    let r = weight-le a.p a.ones (omega arith) (omega arith) h.0 h.1 (a.x - (1022 + a.p - a.low)) (omega arith) in
-    let d = digits a.p a.low a.ones a.x a.t c.requires.0 c.requires.1 c.significand-m.ensures c.if-x-eq0.false c.if-x-normal.false h.0 c.nearest_even-then-k-ones.ensures in
+    let r = weight-le a.f.p a.f.ones (omega arith) (omega arith) h.0 h.1 (a.x - (1022 + a.f.p - a.f.low)) (omega arith) in
+    let d = digits a.f.p a.f.low a.f.ones a.x a.t c.requires.0 c.requires.1 c.significand-m.ensures c.if-x-eq0.false c.if-x-normal.false h.0 c.nearest_even-then-k-f.ensures in
     omega (arith, h.1)
 
-pub returns-then-k-ones : goal.returns-then-k-ones
-returns-then-k-ones c =
+pub returns-then-k-f : goal.returns-then-k-f
+returns-then-k-f c =
     let a = c.args in
-    of_high a.p a.low a.ones a.x a.t c.requires.0 c.requires.1 c.significand-m.ensures c.if-x-eq0.false c.if-x-normal.false c.leading-h.ensures.0 c.nearest_even-then-k-ones.ensures c.if-k-ones.true
+    of_high a.f.p a.f.low a.f.ones a.x a.t c.requires.0 c.requires.1 c.significand-m.ensures c.if-x-eq0.false c.if-x-normal.false c.leading-h.ensures.0 c.nearest_even-then-k-f.ensures c.if-k-f.true
 
-pub overflow_mul-result-2 : goal.overflow_mul-result-2
-overflow_mul-result-2 c =
+pub overflow_mul-result-else-k-f : goal.overflow_mul-result-else-k-f
+overflow_mul-result-else-k-f c =
     let a = c.args in
-    let r = weight-le a.p a.ones (omega arith) (omega arith) c.leading-h.ensures.0 c.leading-h.ensures.1 a.ones (omega arith) in
+    let r = weight-le a.f.p a.f.ones (omega arith) (omega arith) c.leading-h.ensures.0 c.leading-h.ensures.1 a.f.ones (omega arith) in
     omega arith
 
-pub returns : goal.returns
-returns c =
+pub returns-else-k-f : goal.returns-else-k-f
+returns-else-k-f c =
     let a = c.args in
-    of_over a.p a.low a.ones a.x a.t c.requires.0 c.requires.1 c.significand-m.ensures c.if-x-eq0.false c.if-x-normal.false c.leading-h.ensures.0 c.if-k-ones.false
+    of_over a.f.p a.f.low a.f.ones a.x a.t c.requires.0 c.requires.1 c.significand-m.ensures c.if-x-eq0.false c.if-x-normal.false c.leading-h.ensures.0 c.if-k-f.false

@@ -22,42 +22,42 @@ size_room p low ones x t P O e l q =
 
 pub overflow_mul-result : goal.overflow_mul-result
 overflow_mul-result c =
-    let r = weight-le c.args.p c.args.ones (omega arith) (omega arith) c.leading-h.ensures.0 c.leading-h.ensures.1 c.args.ones (omega arith) in omega arith
+    let r = weight-le c.args.f.p c.args.f.ones (omega arith) (omega arith) c.leading-h.ensures.0 c.leading-h.ensures.1 c.args.f.ones (omega arith) in omega arith
 
 pub overflow_add-result : goal.overflow_add-result
 overflow_add-result c =
     let h = c.leading-h.ensures in
-    let r = weight-le c.args.p c.args.ones (omega arith) (omega arith) h.0 h.1 c.args.ones (omega arith) in
+    let r = weight-le c.args.f.p c.args.f.ones (omega arith) (omega arith) h.0 h.1 c.args.f.ones (omega arith) in
     omega (arith, h.1)
 
 pub returns-then-size-gt9218868437227405312 : goal.returns-then-size-gt9218868437227405312
 returns-then-size-gt9218868437227405312 c =
     let a = c.args in
-    nan-weight a.p a.ones (omega arith) (omega arith) c.leading-h.ensures.0 c.leading-h.ensures.1 ∙ sym (word-nan a.p a.low a.ones a.w c.if-size-gt9218868437227405312.true)
+    nan-weight a.f.p a.f.ones (omega arith) (omega arith) c.leading-h.ensures.0 c.leading-h.ensures.1 ∙ sym (word-nan a.f.p a.f.low a.f.ones a.w c.if-size-gt9218868437227405312.true)
 
 pub returns-then-w-lt9223372036854775808 : goal.returns-then-w-lt9223372036854775808
 returns-then-w-lt9223372036854775808 c =
     let a = c.args in
     sym (zero-add c.narrow_size-a.result)
-    ∙ signed a.p a.low a.ones a.w false c.requires c.if-size-gt9218868437227405312.false c.narrow_size-a.ensures (lt-leb _ _ c.if-w-lt9223372036854775808.true)
+    ∙ signed a.f.p a.f.low a.f.ones a.w false c.requires c.if-size-gt9218868437227405312.false c.narrow_size-a.ensures (lt-leb _ _ c.if-w-lt9223372036854775808.true)
 
-pub overflow_mul-result-2 : goal.overflow_mul-result-2
-overflow_mul-result-2 c =
-    let r = weight-le c.args.p c.args.ones (omega arith) (omega arith) c.leading-h.ensures.0 c.leading-h.ensures.1 (c.args.ones + 1) (omega arith) in
+pub overflow_mul-result-else-w-lt9223372036854775808 : goal.overflow_mul-result-else-w-lt9223372036854775808
+overflow_mul-result-else-w-lt9223372036854775808 c =
+    let r = weight-le c.args.f.p c.args.f.ones (omega arith) (omega arith) c.leading-h.ensures.0 c.leading-h.ensures.1 (c.args.f.ones + 1) (omega arith) in
     omega arith
 
-pub overflow_add-result-3 : goal.overflow_add-result-3
-overflow_add-result-3 c =
+pub overflow_add-result-else-w-lt9223372036854775808-2 : goal.overflow_add-result-else-w-lt9223372036854775808-2
+overflow_add-result-else-w-lt9223372036854775808-2 c =
     let a = c.args in
     let h = c.leading-h.ensures in
-    let r = weight-le a.p a.ones (omega arith) (omega arith) h.0 h.1 (a.ones + 1) (omega arith) in
-    let q = size_room a.p a.low a.ones (a.w % 2 ^ 63 / 2 ^ 52) (a.w % 2 ^ 52) (omega arith) (omega arith) h.0 h.1 c.narrow_size-a.ensures in
+    let r = weight-le a.f.p a.f.ones (omega arith) (omega arith) h.0 h.1 (a.f.ones + 1) (omega arith) in
+    let q = size_room a.f.p a.f.low a.f.ones (a.w % 2 ^ 63 / 2 ^ 52) (a.w % 2 ^ 52) (omega arith) (omega arith) h.0 h.1 c.narrow_size-a.ensures in
     omega arith
 
-pub returns : goal.returns
-returns c =
+pub returns-else-w-lt9223372036854775808 : goal.returns-else-w-lt9223372036854775808
+returns-else-w-lt9223372036854775808 c =
     let a = c.args in
     let n = c.narrow_size-a.result in
-    ap (λ (h : ℕ). (a.ones + 1) * h + n) c.leading-h.ensures.0
-    ∙ ap (λ (k : ℕ). k * 2 ^ (a.p - 1) + n) (add-one a.ones)
-    ∙ signed a.p a.low a.ones a.w true c.requires c.if-size-gt9218868437227405312.false c.narrow_size-a.ensures (le-leb _ _ c.if-w-lt9223372036854775808.false)
+    ap (λ (h : ℕ). (a.f.ones + 1) * h + n) c.leading-h.ensures.0
+    ∙ ap (λ (k : ℕ). k * 2 ^ (a.f.p - 1) + n) (add-one a.f.ones)
+    ∙ signed a.f.p a.f.low a.f.ones a.w true c.requires c.if-size-gt9218868437227405312.false c.narrow_size-a.ensures (le-leb _ _ c.if-w-lt9223372036854775808.false)

@@ -26,5 +26,5 @@ overflow_add-result c = let a = c.args in omega (arith, div-le_self a.m (1 * 2 ^
 pub returns-then-goes_up : goal.returns-then-goes_up
 returns-then-goes_up c = rounded-up _ _ _ (bit c.args.k c.if-k-gt60.false) (sym c.goes_up.ensures ∙ c.if-goes_up.true)
 
-pub returns : goal.returns
-returns c = rounded-down _ _ _ (bit c.args.k c.if-k-gt60.false) (sym c.goes_up.ensures ∙ c.if-goes_up.false)
+pub returns-else-goes_up : goal.returns-else-goes_up
+returns-else-goes_up c = rounded-down _ _ _ (bit c.args.k c.if-k-gt60.false) (sym c.goes_up.ensures ∙ c.if-goes_up.false)

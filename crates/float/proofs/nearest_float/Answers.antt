@@ -16,6 +16,6 @@ pub returns-then-negative : goal.returns-then-negative
 returns-then-negative c =
     ap neg c.nearest_u64_to_f64-x.ensures ∙ neg-int binary64 c.args.size c.if-size-eq0.false ∙ ap (λ (s : Bool). of_int binary64 (signed_of s c.args.size)) (sym c.if-negative.true)
 
-pub returns : goal.returns
-returns c =
+pub returns-else-negative : goal.returns-else-negative
+returns-else-negative c =
     c.nearest_u64_to_f64-x.ensures ∙ ap (λ (s : Bool). of_int binary64 (signed_of s c.args.size)) (sym c.if-negative.false)

@@ -3,7 +3,8 @@ use lib.Ieee.{Float, binary64, mul, to_bits, of_int, fits}
 use lib.Ieee.Fits.{mul-fits}
 use lib.Ieee.Compare.{differs_from_itself}
 use Rattle.value.specs.Answer.{Answer}
-use Rattle.value.specs.Number.{Whole, amount_of}
+use Rattle.value.specs.declared.Whole.{Whole}
+use Rattle.value.specs.Number.{amount_of}
 use Rattle.value.specs.Digits.{capped, limit}
 use Rattle.value.specs.Rounding.{rounded}
 use Rattle.value.proofs.Answers.{number_in-capped}

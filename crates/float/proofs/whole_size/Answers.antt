@@ -4,7 +4,7 @@ use Rattle.value.specs.Digits.{limit, capped}
 use Rattle.value.specs.Rounding.{rounded}
 use Rattle.float.specs.Half.{sig}
 use Rattle.float.proofs.Fields.{m-lt, m-ge}
-use Rattle.float.proofs.Rounding.{size_low, size-high, cap-below, cap-above}
+use Rattle.float.proofs.Rounding.{size_low, size-high, cap-above}
 use Rattle.float.proofs.whole_size.Goals as goal
 
 low_sum : (x : ℕ) → (x ≡ 0 → ⊥) → x < 1075 → x - 1 + (1075 - x) ≡ 1074
@@ -21,9 +21,6 @@ kept : (m x : ℕ) → m < 2 ^ 53 → x - 1075 ≤ 10 → m * 2 ^ (x - 1075) % 2
 kept m x l h = shl_exact 53 (x - 1075) 64 l (omega arith)
 
 -- a size that stops counting, from a whole number that is the contract's
-small : (m x n : ℕ) → 1075 ≤ x → n ≡ m * 2 ^ (x - 1075) → n < limit → n ≡ capped (rounded (m * 2 ^ (x - 1)) (2 ^ 1074))
-small m x n h e l = cap-below n l ∙ ap capped (e ∙ sym (high m x h))
-
 large : (m x n : ℕ) → 1075 ≤ x → n ≡ m * 2 ^ (x - 1075) → limit ≤ n → limit ≡ capped (rounded (m * 2 ^ (x - 1)) (2 ^ 1074))
 large m x n h e l = cap-above n l ∙ ap capped (e ∙ sym (high m x h))
 
@@ -56,18 +53,11 @@ returns-then-k-gt10 c =
     let e = c.significand-m.ensures in
     done x t e (large c.significand-m.result x _ c.if-x-lt1075.false refl (le_trans (lit≤ tt) (mul-le-mul (m-ge x t e c.if-x-eq0.false) (pow_mono c.if-k-gt10.true))))
 
-pub returns-then-n-lt-LIMIT : goal.returns-then-n-lt-LIMIT
-returns-then-n-lt-LIMIT c =
-    let x = c.args.x in
-    let t = c.args.t in
-    let m = c.significand-m.result in
-    let e = c.significand-m.ensures in
-    done x t e (small m x _ c.if-x-lt1075.false (kept m x (m-lt x t e c.requires) c.if-k-gt10.false) c.if-n-lt-LIMIT.true)
-
 pub returns : goal.returns
 returns c =
     let x = c.args.x in
     let t = c.args.t in
     let m = c.significand-m.result in
     let e = c.significand-m.ensures in
-    done x t e (large m x _ c.if-x-lt1075.false (kept m x (m-lt x t e c.requires) c.if-k-gt10.false) c.if-n-lt-LIMIT.false)
+    let q = kept m x (m-lt x t e c.requires) c.if-k-gt10.false in
+    done x t e (c.min.ensures ∙ ap capped (q ∙ sym (high m x c.if-x-lt1075.false)))

@@ -1,30 +1,36 @@
-use mathlib.Core.Path.{sym, ◌∙◌}
-use Rattle.hex_field.proofs.Laws.{judged-start, judged-skip, judged-more, judged-bad, judged-odd, judged-long, judged-fine}
+-- The count is that of the digits so far, each of which is lawful.
+use Rattle.std.proofs.Common.{ℕ, ◌+◌, sym, ◌∙◌, subst}
+use Rattle.hex_field.proofs.Laws.{Judged, judged-skip, judged-more, judged-bad, judged-odd, judged-long, judged-fine}
 use Rattle.hex_field.proofs.judge_hex.Goals as goal
+use Rattle.hex_field.proofs.judge_hex.Goals.{then-not-is_blank+else-not-is_hex, else-not-is_blank}
 
-pub loop-i-init : goal.loop-i-init
-loop-i-init c = judged-start c.args.text.now
+pub loop-x-preserved : goal.loop-x-preserved
+loop-x-preserved c =
+    let l = c.loop-x in
+    let s = c.args.text.now in
+    let P : ℕ → Type 0 = λ n. Judged s (l.x-index + 1) n in
+    elim c.if-not-is_blank.branch [
+      | then-not-is_blank+else-not-is_hex w ↦
+          subst P (sym w.n-is) (judged-more s l.x-index l.n c.loop-x-test.true (sym c.is_blank.ensures ∙ w.if-not-is_blank.true) (sym w.is_hex.ensures ∙ w.if-not-is_hex.false) l.invariant)
+      | else-not-is_blank w ↦
+          subst P (sym w.n-is) (judged-skip s l.x-index l.n c.loop-x-test.true (sym c.is_blank.ensures ∙ w.if-not-is_blank.false) l.invariant)
+    ]
 
-pub loop-i-preserved-then-is_blank : goal.loop-i-preserved-then-is_blank
-loop-i-preserved-then-is_blank c =
-    judged-skip c.args.text.now c.loop-i.i c.loop-i.n c.loop-i-test.true (sym c.is_blank.ensures ∙ c.if-is_blank.true) c.loop-i.invariant
-
-pub loop-i-preserved : goal.loop-i-preserved
-loop-i-preserved c =
-    judged-more c.args.text.now c.loop-i.i c.loop-i.n c.loop-i-test.true (sym c.is_blank.ensures ∙ c.if-is_blank.false) (sym c.is_hex.ensures ∙ c.if-is_hex.true) c.loop-i.invariant
-
-pub returns-else-is_hex : goal.returns-else-is_hex
-returns-else-is_hex c =
-    judged-bad c.args.width c.args.text.now c.loop-i.i c.loop-i.n c.loop-i-test.true (sym c.is_blank.ensures ∙ c.if-is_blank.false) (sym c.is_hex.ensures ∙ c.if-is_hex.false) c.loop-i.invariant
+pub returns-then-not-is_hex : goal.returns-then-not-is_hex
+returns-then-not-is_hex c =
+    let l = c.loop-x in
+    judged-bad c.args.width c.args.text.now l.x-index l.n c.loop-x-test.true (sym c.is_blank.ensures ∙ c.if-not-is_blank.true) (sym c.is_hex.ensures ∙ c.if-not-is_hex.true) l.invariant
 
 pub returns-then-n-eq1 : goal.returns-then-n-eq1
 returns-then-n-eq1 c =
-    judged-odd c.args.width c.args.text.now c.loop-i.i c.loop-i.n c.loop-i-test.false c.loop-i.invariant c.if-n-eq1.true
+    let l = c.loop-x in judged-odd c.args.width c.args.text.now l.x-index l.n c.loop-x-test.false l.invariant c.if-n-eq1.true
 
 pub returns-then-width-n : goal.returns-then-width-n
 returns-then-width-n c =
-    judged-long c.args.width c.args.text.now c.loop-i.i c.loop-i.n c.loop-i-test.false c.loop-i.invariant c.if-n-eq1.false c.if-width-n.true
+    let l = c.loop-x in
+    judged-long c.args.width c.args.text.now l.x-index l.n c.loop-x-test.false l.invariant c.if-n-eq1.false c.if-width-n.true
 
-pub returns : goal.returns
-returns c =
-    judged-fine c.args.width c.args.text.now c.loop-i.i c.loop-i.n c.loop-i-test.false c.loop-i.invariant c.if-n-eq1.false c.if-width-n.false
+pub returns-else-width-n : goal.returns-else-width-n
+returns-else-width-n c =
+    let l = c.loop-x in
+    judged-fine c.args.width c.args.text.now l.x-index l.n c.loop-x-test.false l.invariant c.if-n-eq1.false c.if-width-n.false

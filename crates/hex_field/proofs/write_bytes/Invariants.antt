@@ -1,10 +1,6 @@
-use Prim.Native.Nat.{◌-◌}
-use lib.ListN.{length}
-use Rattle.hex_field.proofs.Laws.{Pairing}
+use Rattle.std.proofs.Common.{length}
+use Rattle.hex_field.proofs.Pairing.{Pairing}
 use Rattle.hex_field.proofs.write_bytes.Given as goal
 
-abbrev pub invariant-loop-i : goal.invariant-loop-i
-invariant-loop-i l = Pairing l.order l.text l.part (length l.initial.part) l.odd l.prev l.j l.i
-
-abbrev pub decreases-loop-i : goal.decreases-loop-i
-decreases-loop-i l = length l.text - l.i
+abbrev pub invariant-loop-x : goal.invariant-loop-x
+invariant-loop-x l = Pairing l.order l.text l.part (length l.fn.part) l.first l.j l.x-index

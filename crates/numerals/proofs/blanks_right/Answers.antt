@@ -1,22 +1,27 @@
-use mathlib.Core.Path.{sym, ap, ◌∙◌}
-use native.Mathlib.Omega.{arith}
-use lib.Seq.{take-length}
+-- A blank at the end goes (`right-go`), any other byte stays (`right-stop`), and of no bytes nothing is left.
+use Rattle.std.proofs.Common.{◌≡◌, ◌+◌, ◌-◌, sym, ap, ◌∙◌, arith}
+use Rattle.std.proofs.Math.Seq.{take-length}
 use Rattle.lists.specs.Scan.{right_by}
 use Rattle.lists.proofs.Scan.{right-go, right-stop, right_end}
 use Rattle.numerals.proofs.Reading.{blank_on}
 use Rattle.numerals.proofs.blanks_right.Goals as goal
 
-pub loop-e-init : goal.loop-e-init
-loop-e-init c = (omega arith, sym (ap (right_by (blank_on c.args.page)) (take-length c.args.part.now)))
+pub loop-i-init : goal.loop-i-init
+loop-i-init c = sym (ap (right_by (blank_on c.args.page)) (take-length c.args.part.now))
 
-pub loop-e-preserved : goal.loop-e-preserved
-loop-e-preserved c =
-    (omega arith, c.loop-e.invariant.1 ∙ right-go (blank_on c.args.page) c.args.part.now c.loop-e.e c.loop-e-test.true c.loop-e.invariant.0 (sym c.blank_on.ensures ∙ c.if-blank_on.true))
+pub loop-i-preserved : goal.loop-i-preserved
+loop-i-preserved c =
+    let l = c.loop-i in
+    l.invariant ∙ right-go (blank_on c.args.page) c.args.part.now l.i c.loop-i-test.true l.auto.i (sym c.blank_on.ensures ∙ c.if-not-blank_on.false)
 
-pub returns-else-blank_on : goal.returns-else-blank_on
-returns-else-blank_on c =
-    (omega arith, sym (c.loop-e.invariant.1 ∙ right-stop (blank_on c.args.page) c.args.part.now c.loop-e.e c.loop-e-test.true c.loop-e.invariant.0 (sym c.blank_on.ensures ∙ c.if-blank_on.false)))
+pub returns-then-not-blank_on : goal.returns-then-not-blank_on
+returns-then-not-blank_on c =
+    let l = c.loop-i in
+    let e : l.i - 1 + 1 ≡ l.i = omega arith in
+    rw e (l.auto.i, sym (l.invariant ∙ right-stop (blank_on c.args.page) c.args.part.now l.i c.loop-i-test.true l.auto.i (sym c.blank_on.ensures ∙ c.if-not-blank_on.true)))
 
 pub returns : goal.returns
 returns c =
-    (omega arith, sym (c.loop-e.invariant.1 ∙ right_end (blank_on c.args.page) c.args.part.now c.loop-e.e c.loop-e-test.false))
+    let l = c.loop-i in
+    let e : l.i ≡ 0 = omega arith in
+    (omega arith, sym (rw e at l.invariant ∙ right_end (blank_on c.args.page) c.args.part.now 0 (omega arith)))

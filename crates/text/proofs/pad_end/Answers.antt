@@ -1,26 +1,18 @@
-use mathlib.Core.Path.{sym, ap, ◌∙◌}
-use native.Mathlib.Omega.{arith}
-use borrow.Author.Tests.{eq-eqb, ne_eqb}
-use lib.Seq.{take-length}
-use Rattle.lists.specs.Scan.{right_by}
-use Rattle.lists.proofs.Scan.{right-go, right-stop, right_end}
+-- The last byte that is no pad stands in front of the pads at the end.
+use Rattle.std.proofs.Common.{◌≡◌, ◌-◌, ℕ, not, ◌∙◌, ap, take, length, reverse, rules, arith}
+use Rattle.std.specs.List.{position, suffix_len}
+use Rattle.std.specs.Option.{unwrap_or}
+use Rattle.std.proofs.lemmas.Iterator.Adapters.{YieldsList-from_rev_slice}
+use Rattle.std.proofs.lemmas.Iterator.Search.{position_from_yields_List}
 use Rattle.text.specs.Text.{is_byte}
+use Rattle.text.proofs.Ends.{other-right, suffix-right}
 use Rattle.text.proofs.pad_end.Goals as goal
-
-pub loop-e-init : goal.loop-e-init
-loop-e-init c = (omega arith, ap (right_by (is_byte c.args.pad)) (sym (take-length c.args.s.now)))
-
-pub returns-then-s-e : goal.returns-then-s-e
-returns-then-s-e c =
-    let a = c.args in
-    (omega arith, sym (c.loop-e.invariant.1 ∙ right-stop (is_byte a.pad) a.s.now c.loop-e.e c.loop-e-test.true c.loop-e.invariant.0 (ne_eqb _ _ c.if-s-e.true)))
-
-pub loop-e-preserved : goal.loop-e-preserved
-loop-e-preserved c =
-    let a = c.args in
-    (omega arith, c.loop-e.invariant.1 ∙ right-go (is_byte a.pad) a.s.now c.loop-e.e c.loop-e-test.true c.loop-e.invariant.0 (eq-eqb _ _ c.if-s-e.false))
 
 pub returns : goal.returns
 returns c =
-    let a = c.args in
-    (omega arith, sym (c.loop-e.invariant.1 ∙ right_end (is_byte a.pad) a.s.now c.loop-e.e c.loop-e-test.false))
+    let s = c.args.s.now in
+    let f = is_byte c.args.pad in
+    let p : c.position.result ≡ position (λ x. not (f x)) (reverse s) =
+    position_from_yields_List (λ x. not (f x)) _ _ c.position.result c.position.ensures.ran (YieldsList-from_rev_slice s cc) (λ x b q k. search rules) in
+    let e : c.unwrap_or.result ≡ suffix_len f s = c.unwrap_or.ensures ∙ ap (λ o. unwrap_or o (length s)) p ∙ other-right f s in
+    (omega arith, ap (λ (n : ℕ). take (length s - n) s) e ∙ suffix-right f s)

@@ -1,29 +1,18 @@
--- `text::pad_start` meets its contract. The invariant: scanning from i on leaves what scanning the whole does; the bytes that are left fall.
-use mathlib.Core.Path.{refl, sym, ◌∙◌}
-use native.Mathlib.Omega.{arith}
-use borrow.Author.Tests.{eq-eqb, ne_eqb}
-use Rattle.lists.proofs.Scan.{left-go, left-stop, left_end, left-count}
+-- The first byte that is no pad stands behind the pads in front.
+use Rattle.std.proofs.Common.{◌≡◌, ℕ, not, ◌∙◌, ap, drop, length, rules}
+use Rattle.std.specs.List.{position, prefix_len}
+use Rattle.std.specs.Option.{unwrap_or}
+use Rattle.std.proofs.lemmas.Iterator.{YieldsList-from_slice}
+use Rattle.std.proofs.lemmas.Iterator.Search.{position_from_yields_List}
 use Rattle.text.specs.Text.{is_byte}
+use Rattle.text.proofs.Ends.{other-left, prefix-count, prefix-left}
 use Rattle.text.proofs.pad_start.Goals as goal
-
-pub loop-i-init : goal.loop-i-init
-loop-i-init c = (omega arith, refl)
-
-pub returns-then-s-i : goal.returns-then-s-i
-returns-then-s-i c =
-    let a = c.args in
-    let i = c.loop-i.i in
-    let e = sym (c.loop-i.invariant.1 ∙ left-stop (is_byte a.pad) a.s.now i c.loop-i-test.true (ne_eqb _ _ c.if-s-i.true)) in
-    (left-count (is_byte a.pad) a.s.now i (omega arith) e, e)
-
-pub loop-i-preserved : goal.loop-i-preserved
-loop-i-preserved c =
-    let a = c.args in
-    (omega arith, c.loop-i.invariant.1 ∙ left-go (is_byte a.pad) a.s.now c.loop-i.i c.loop-i-test.true (eq-eqb _ _ c.if-s-i.false))
 
 pub returns : goal.returns
 returns c =
-    let a = c.args in
-    let i = c.loop-i.i in
-    let e = sym (c.loop-i.invariant.1 ∙ left_end (is_byte a.pad) a.s.now i c.loop-i-test.false) in
-    (left-count (is_byte a.pad) a.s.now i (omega arith) e, e)
+    let s = c.args.s.now in
+    let f = is_byte c.args.pad in
+    let p : c.position.result ≡ position (λ x. not (f x)) s =
+    position_from_yields_List (λ x. not (f x)) _ _ c.position.result c.position.ensures.ran (YieldsList-from_slice s cc) (λ x b q k. search rules) in
+    let e : c.unwrap_or.result ≡ prefix_len f s = c.unwrap_or.ensures ∙ ap (λ o. unwrap_or o (length s)) p ∙ other-left f s in
+    (e ∙ prefix-count f s, ap (λ (n : ℕ). drop n s) e ∙ prefix-left f s)

@@ -12,8 +12,8 @@ returns-then-z-e c =
           at-pad-end.ensures.1 c.zero_at-z.ensures.1 c.if-z-e.true,
     )
 
-pub returns : goal.returns
-returns c =
+pub returns-else-z-e : goal.returns-else-z-e
+returns-else-z-e c =
     let a = c.args in
     let at-pad-end = c.pad_end-e in
     let at-zero-at = c.zero_at-z in

@@ -1,24 +1,18 @@
-use mathlib.Core.Path.{refl, sym, ◌∙◌}
-use native.Mathlib.Omega.{arith}
-use borrow.Author.Tests.{eq-eqb, ne_eqb}
-use Rattle.lists.proofs.Scan.{before-go, before-stop, before-end}
+-- The first 0 stands behind the bytes before it.
+use Rattle.std.proofs.Common.{◌≡◌, ◌≤◌, ℕ, ◌∙◌, ap, subst, sym, not, take, length, rules}
+use Rattle.std.specs.List.{position, prefix_len}
+use Rattle.std.specs.Option.{unwrap_or}
+use Rattle.std.proofs.lemmas.Iterator.{YieldsList-from_slice}
+use Rattle.std.proofs.lemmas.Iterator.Search.{position_from_yields_List}
 use Rattle.text.specs.Text.{is_byte}
+use Rattle.text.proofs.Ends.{found-or-end, prefix-le, prefix-before}
 use Rattle.text.proofs.zero_at.Goals as goal
-
-pub loop-i-init : goal.loop-i-init
-loop-i-init c = (omega arith, refl)
-
-pub returns-then-s-i-eq0 : goal.returns-then-s-i-eq0
-returns-then-s-i-eq0 c =
-    let a = c.args in
-    (omega arith, sym (c.loop-i.invariant.1 ∙ before-stop (is_byte 0) a.s.now c.loop-i.i c.loop-i-test.true (eq-eqb _ _ c.if-s-i-eq0.true)))
-
-pub loop-i-preserved : goal.loop-i-preserved
-loop-i-preserved c =
-    let a = c.args in
-    (omega arith, c.loop-i.invariant.1 ∙ before-go (is_byte 0) a.s.now c.loop-i.i c.loop-i-test.true (ne_eqb _ _ c.if-s-i-eq0.false))
 
 pub returns : goal.returns
 returns c =
-    let a = c.args in
-    (omega arith, sym (c.loop-i.invariant.1 ∙ before-end (is_byte 0) a.s.now c.loop-i.i c.loop-i-test.false))
+    let s = c.args.s.now in
+    let f = is_byte 0 in
+    let p : c.position.result ≡ position f s =
+    position_from_yields_List f _ _ c.position.result c.position.ensures.ran (YieldsList-from_slice s cc) (λ x b q k. search rules) in
+    let e : c.unwrap_or.result ≡ prefix_len (λ x. not (f x)) s = c.unwrap_or.ensures ∙ ap (λ o. unwrap_or o (length s)) p ∙ found-or-end f s in
+    (subst (λ (n : ℕ). n ≤ length s) (sym e) (prefix-le (λ x. not (f x)) s), ap (λ (n : ℕ). take n s) e ∙ prefix-before f s)

@@ -1,60 +1,55 @@
 -- The answers for each kind are those of `says`.
-use mathlib.Core.Path.{◌≡◌, refl, sym, ◌∙◌}
+use mathlib.Core.Path.{◌≡◌, refl}
 use mathlib.Core.List.{List, map}
-use mathlib.Core.Bool.{Bool, true, false, cond}
-use Prim.Native.Nat.{ℕ, ◌^◌}
+use Prim.Native.Nat.{ℕ, ◌*◌, ◌^◌}
 use native.Mathlib.Omega.{arith}
-use lib.Dec.{eqb, leb}
+use lib.Dec.{eqb}
 use lib.ListN.{length}
 use Rattle.value.specs.declared.Scalar.{Scalar}
-use Rattle.value.specs.declared.Scalar.TheVariants.{Text}
 use Rattle.value.specs.Answer.{Answer, refused, given}
-use Rattle.value.specs.Number.{Whole, number}
+use Rattle.value.specs.declared.Whole.{Whole}
 use Rattle.value.proofs.Answers.{Numbered, numbered-cond, numbered-in}
 use Rattle.ebcdic.specs.Ebcdic.{from_page}
-use Rattle.text.specs.Text.{put_of}
+use Rattle.hex_field.specs.Hex.{hex_of}
+use Rattle.hex_field.proofs.Laws.{hex-length}
 use Rattle.display.specs.Display as Display
 use Rattle.display.proofs.Numbered as DisplayNumbered
 use Rattle.packed.specs.Packed as Packed
 use Rattle.packed.proofs.Reading as PackedReading
 use Rattle.zoned.specs.Zoned as Zoned
 use Rattle.zoned.proofs.Reading as ZonedReading
-use Rattle.decode_scalar.specs.Decode.{Says, text, int_says, decimal_says, float_says, is_embedded, embedded_of, int_in, decimal_in, answer_of, text_after}
+use Rattle.decode_scalar.specs.Decode.{int_says, decimal_says, float_says, is_embedded, embedded_of, int_in, decimal_in, answer_of, text_after}
 use Rattle.decode_scalar.proofs.Embedded.{embedded-all}
 
 -- what is no text does not depend on the buffer, and leaves it
-pub record Plain (s : Says) : Type 0 where
-  pub same : (a b : ℕ) → answer_of s a ≡ answer_of s b
-  pub kept : (buffer : List ℕ) → text_after s buffer ≡ buffer
 
-pub int-plain : (n : Answer Whole) → Plain (int_says n)
-int-plain (refused question) = record { same = λ a b. refl; kept = λ l. refl }
-int-plain (given (number negative size)) = record { same = λ a b. refl; kept = λ l. refl }
+pub int_same : (n : Answer Whole) (room : ℕ) → answer_of (int_says n) room ≡ answer_of (int_says n) 0
+int_same (refused question) room = refl
+int_same (given n) room = refl
 
-pub decimal-plain : (scale : ℕ) (n : Answer Whole) → Plain (decimal_says scale n)
-decimal-plain scale (refused question) = record { same = λ a b. refl; kept = λ l. refl }
-decimal-plain scale (given (number negative size)) = record { same = λ a b. refl; kept = λ l. refl }
+pub int_kept : (n : Answer Whole) (buffer : List ℕ) → text_after (int_says n) buffer ≡ buffer
+int_kept (refused question) buffer = refl
+int_kept (given n) buffer = refl
 
-pub float_plain : (f : Answer Scalar) → Plain (float_says f)
-float_plain (refused question) = record { same = λ a b. refl; kept = λ l. refl }
-float_plain (given v) = record { same = λ a b. refl; kept = λ l. refl }
+pub decimal_same : (scale : ℕ) (n : Answer Whole) (room : ℕ) → answer_of (decimal_says scale n) room ≡ answer_of (decimal_says scale n) 0
+decimal_same scale (refused question) room = refl
+decimal_same scale (given n) room = refl
 
--- an answer and a buffer that was not written
-pub answered : (s : Says) (r : Answer Scalar) (buffer : List ℕ) → Plain s → r ≡ answer_of s 0 → (r ≡ answer_of s (length buffer)) × (buffer ≡ text_after s buffer)
-answered s r buffer p e = (e ∙ p.same 0 (length buffer), sym (p.kept buffer))
+pub decimal_kept : (scale : ℕ) (n : Answer Whole) (buffer : List ℕ) → text_after (decimal_says scale n) buffer ≡ buffer
+decimal_kept scale (refused question) buffer = refl
+decimal_kept scale (given n) buffer = refl
 
--- ---- texts
+pub float_same : (f : Answer Scalar) (room : ℕ) → answer_of (float_says f) room ≡ f
+float_same (refused question) room = refl
+float_same (given v) room = refl
 
-abbrev pub of_put : Answer ℕ → Answer Scalar
-of_put (refused question) = refused question
-of_put (given n) = given (Text 0 n)
+pub float_kept : (f : Answer Scalar) (buffer : List ℕ) → text_after (float_says f) buffer ≡ buffer
+float_kept (refused question) buffer = refl
+float_kept (given v) buffer = refl
 
-pub put-answer : (t out : List ℕ) → of_put (put_of t out) ≡ answer_of (text t) (length out)
-put-answer t out = by (leb (length t) (length out))
-  where
-    by : (b : Bool) → of_put (cond b (given (length t)) (refused 16)) ≡ cond b (given (Text 0 (length t))) (refused 16)
-    by true = refl
-    by false = refl
+-- two digits for each byte
+pub hex_long : (order : ℕ) (part : List ℕ) → length (hex_of order part) ≡ length part * 2
+hex_long order part = hex-length order part
 
 -- what refuses an Int field, and a Decimal field of either form, is a question
 pub int-numbered : (p q page : ℕ) (part : List ℕ) → Numbered (int_in p q page part)

@@ -16,7 +16,8 @@ use Rattle.lists.proofs.Scan.{right_kept}
 use Rattle.value.specs.Answer.{Answer}
 use Rattle.value.specs.Digits.{is_digit, digits_ok, spread}
 use Rattle.value.specs.Field.{last_of, field_of}
-use Rattle.value.specs.Number.{Whole, read_in, unlawful}
+use Rattle.value.specs.declared.Whole.{Whole}
+use Rattle.value.specs.Number.{read_in, unlawful}
 use Rattle.value.proofs.Digits.{past, ok-append}
 use Rattle.value.proofs.Field as Field
 use Rattle.value.proofs.Field.{last_snoc}

@@ -7,7 +7,8 @@ use Rattle.value.specs.declared.Scalar.TheVariants.{Null, Text, Int, Bool as Boo
 use Rattle.value.specs.Answer.{Answer, refused as refused_by, given}
 use Rattle.value.specs.Digits.{is_digit}
 use Rattle.value.specs.Field.{last_of}
-use Rattle.value.specs.Number.{Whole, number, read_in, unlawful}
+use Rattle.value.specs.declared.Whole.{Whole}
+use Rattle.value.specs.Number.{read_in, unlawful}
 use Rattle.value.specs.Scalar.{decimal}
 use Rattle.ebcdic.specs.Ebcdic.{from_page}
 use Rattle.numerals.specs.Numerals.{trimmed}
@@ -19,8 +20,6 @@ use Rattle.hex_field.specs.Hex.{hex_of}
 use Rattle.packed.specs.Packed as Packed
 use Rattle.zoned.specs.Zoned as Zoned
 use Rattle.edited.specs.Edited as Edited
-use Rattle.decode_scalar.specs.declared.Decoded.{Decoded}
-use Rattle.decode_scalar.specs.declared.Decoded.TheVariants.{Value, Refused}
 
 -- a word 0/1
 abbrev pub flag : ℕ → Bool
@@ -34,11 +33,11 @@ pub data Says : Type 0 where
 
 abbrev pub int_says : Answer Whole → Says
 int_says (refused_by question) = refused question
-int_says (given (number negative size)) = value (Int negative size)
+int_says (given n) = value (Int n.negative n.size)
 
 abbrev pub decimal_says : ℕ → Answer Whole → Says
 decimal_says scale (refused_by question) = refused question
-decimal_says scale (given (number negative size)) = value (decimal negative size scale)
+decimal_says scale (given n) = value (decimal n.negative n.size scale)
 
 abbrev pub float_says : Answer Scalar → Says
 float_says (refused_by question) = refused question
@@ -91,10 +90,6 @@ abbrev pub answer_of : Says → ℕ → Answer Scalar
 answer_of (refused n) room = refused_by n
 answer_of (value v) room = given v
 answer_of (text t) room = cond (leb (length t) room) (given (Text 0 (length t))) (refused_by 16)
-
-abbrev pub decoded_as : Decoded → Answer Scalar
-decoded_as (Value v) = given v
-decoded_as (Refused n) = refused_by n
 
 abbrev pub text_after : Says → List ℕ → List ℕ
 text_after (refused n) buffer = buffer

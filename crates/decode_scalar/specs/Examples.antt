@@ -3,7 +3,8 @@ use Rattle.std.specs.Prelude.{◌≡◌, refl, List, [], ◌∷◌, true, false,
 use Rattle.lists.specs.Scan.{left_by, right_by, every_by}
 use Rattle.value.specs.Answer.{Answer, refused}
 use Rattle.value.specs.Field.{field_of}
-use Rattle.value.specs.Number.{Whole, some}
+use Rattle.value.specs.declared.Whole.{Whole}
+use Rattle.value.specs.Number.{some}
 use Rattle.ebcdic.specs.Ebcdic.{from_page, to_ascii, ascii_table}
 use Rattle.display.specs.Display.{int_of, int_in as text_in, sign_at, rest_of, digits_in, whole_of}
 use Rattle.decode_scalar.specs.Decode.{embedded_of, int_in}

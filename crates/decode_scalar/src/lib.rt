@@ -3,28 +3,25 @@
 #![tactic(auto)]
 
 ghost use Rattle.std.specs.Prelude.{◌≡◌, map, ℕ, ◌%◌, ◌<◌, length};
-ghost use Rattle.value.specs.Answer.{given};
+ghost use Rattle.value.specs.Answer.{answered, given};
 ghost use Rattle.value.specs.Field.{last_of};
-ghost use Rattle.value.specs.Number.{read_as};
-ghost use Rattle.float.specs.Field.{parsed_as};
 ghost use Rattle.ebcdic.specs.Ebcdic.{from_page};
 ghost use Rattle.text.specs.Text.{read_text};
 ghost use Rattle.hex_field.specs.Hex.{hex_of};
 ghost use Rattle.decode_scalar.specs.Decode as Decode;
-ghost use Rattle.decode_scalar.specs.Decode.{says, answer_of, decoded_as, text_after, int_says, decimal_says, float_says, is_embedded, is_overpunched, embedded_of, int_in, decimal_in};
+ghost use Rattle.decode_scalar.specs.Decode.{says, answer_of, text_after, is_embedded, is_overpunched, embedded_of, int_in, decimal_in};
 
-use codes::{
-    KIND_BINARY, KIND_BOOL, KIND_DECIMAL, KIND_EDITED, KIND_FLOAT, KIND_HEX, KIND_INT, KIND_TEXT,
-};
-use float::Parsed;
-use text::Put;
-use value::{Number, Scalar};
+use codes::{Kind, Refusal};
+use value::{Scalar, Whole};
 
-// What reading a scalar field answers: its value, a Text lying at the front of the text buffer; or the number of the question that refuses it.
-#[derive(Clone, Copy)]
-pub enum Decoded {
-    Value(Scalar),
-    Refused(u32),
+// What a layout entry says of a scalar field: the word of its kind, and p, q, r and s, whose meaning is the kind's.
+#[derive(Clone, Copy, Debug, PartialEq, Eq)]
+pub struct Field {
+    pub kind: u32,
+    pub p: u32,
+    pub q: u32,
+    pub r: u32,
+    pub s: u32,
 }
 
 // A word 0/1.
@@ -41,151 +38,125 @@ pub fn low_byte(x: u32) -> u8
     (x % 256) as u8
 }
 
-fn int_scalar(n: Number) -> Decoded
-    ensures { decoded_as result ≡ answer_of (int_says (read_as n)) 0 }
-{
-    match n {
-        Number::Of(negative, size) => Decoded::Value(Scalar::Int(negative, size)),
-        Number::Bad => Decoded::Refused(8),
-        Number::Big => Decoded::Refused(9),
-    }
-}
-
-fn decimal_scalar(n: Number, scale: u32) -> Decoded
-    ensures { decoded_as result ≡ answer_of (decimal_says scale (read_as n)) 0 }
-{
-    match n {
-        Number::Of(negative, size) => Decoded::Value(Scalar::Decimal(negative, size, scale as u64)),
-        Number::Bad => Decoded::Refused(8),
-        Number::Big => Decoded::Refused(9),
-    }
-}
-
-fn float_answer(f: Parsed) -> Decoded
-    ensures { decoded_as result ≡ answer_of (float_says (parsed_as f)) 0 }
-{
-    match f {
-        Parsed::Value(v) => Decoded::Value(v),
-        Parsed::Bad => Decoded::Refused(8),
-    }
-}
-
 // A signed Int with an embedded sign.
 pub fn is_embedded(p: u32, q: u32) -> bool
     ensures { result ≡ is_embedded p q }
 {
-    if p == 0 {
-        return false;
-    }
-    q == 1
+    flag(p) && q == 1
 }
 
 fn is_overpunched(b: u8) -> bool
     ensures { result ≡ is_overpunched b }
 {
-    if b < 0x41 {
-        return false;
-    }
-    if b < 0x53 {
-        return true;
-    }
-    if b == 0x7B {
-        return true;
-    }
-    b == 0x7D
+    matches!(b, b'A'..=b'R' | b'{' | b'}')
 }
 
 fn ends_overpunched(part: &[u8], page: u32) -> bool
     ensures { result ≡ is_overpunched (last_of (map (from_page page) part.now)) }
 {
-    let n = part.len();
-    if n == 0 {
-        return false;
+    match part.last() {
+        Some(b) => is_overpunched(ebcdic::from_page(page, *b)),
+        None => false,
     }
-    let b = part[n - 1];
-    is_overpunched(ebcdic::from_page(page, b))
 }
 
 // The number of a signed Embedded Int: of a zoned field where an overpunched byte stands last, else as of any other Int.
-fn parse_embedded(part: &[u8], page: u32) -> Number
-    ensures { read_as result ≡ embedded_of (map (from_page page) part.now) }
+fn parse_embedded(part: &[u8], page: u32) -> Result<Whole, Refusal>
+    ensures { answered result ≡ embedded_of (map (from_page page) part.now) }
 {
     let t = numerals::trim(part, page);
     if ends_overpunched(t, page) {
-        return zoned::decode_within(t, page, value::INT_LIMIT);
+        zoned::decode_within(t, page, value::INT_LIMIT)
+    } else {
+        display::parse_display_int(part, page, 1)
     }
-    display::parse_display_int(part, page, 1)
 }
 
-fn parse_int(part: &[u8], page: u32, p: u32, q: u32) -> Number
-    ensures { read_as result ≡ int_in p q page part.now }
+fn parse_int(part: &[u8], page: u32, p: u32, q: u32) -> Result<Whole, Refusal>
+    ensures { answered result ≡ int_in p q page part.now }
 {
     if is_embedded(p, q) {
-        return parse_embedded(part, page);
+        parse_embedded(part, page)
+    } else {
+        display::parse_display_int(part, page, q)
     }
-    display::parse_display_int(part, page, q)
 }
 
-fn parse_decimal(part: &[u8], page: u32, p: u32, q: u32) -> Number
-    ensures { read_as result ≡ decimal_in p q page part.now }
+fn parse_decimal(part: &[u8], page: u32, p: u32, q: u32) -> Result<Whole, Refusal>
+    ensures { answered result ≡ decimal_in p q page part.now }
 {
-    if p == 0 {
-        return display::parse_display_decimal(part, page, q);
+    match p {
+        0 => display::parse_display_decimal(part, page, q),
+        1 => packed::decode(part),
+        _ => zoned::decode(part, page),
     }
-    if p == 1 {
-        return packed::decode(part);
-    }
-    zoned::decode(part, page)
 }
 
-fn text_answer(n: usize) -> Decoded
-    ensures { decoded_as result ≡ given (Scalar.Text 0 n) }
+fn read_int(n: Result<Whole, Refusal>) -> Result<Scalar, Refusal>
+    ensures { answered result ≡ answer_of (Decode.int_says (answered n)) 0 }
 {
-    Decoded::Value(Scalar::Text(0, n as u64))
+    let n = n?;
+    Ok(Scalar::Int(n.negative, n.size))
 }
 
-fn read_text(part: &[u8], page: u32, right: bool, trim: bool, pad: u8, text: &mut [u8]) -> Decoded
-    ensures result_value { decoded_as result ≡ answer_of (Decode.text (read_text page right trim pad part.now)) (length text.old) }
+fn read_decimal(n: Result<Whole, Refusal>, scale: u32) -> Result<Scalar, Refusal>
+    ensures { answered result ≡ answer_of (Decode.decimal_says scale (answered n)) 0 }
+{
+    let n = n?;
+    Ok(Scalar::Decimal(n.negative, n.size, u64::from(scale)))
+}
+
+fn read_text(
+    part: &[u8],
+    page: u32,
+    right: bool,
+    trim: bool,
+    pad: u8,
+    text: &mut [u8],
+) -> Result<Scalar, Refusal>
+    ensures result_value { answered result ≡ answer_of (Decode.text (read_text page right trim pad part.now)) (length text.old) }
     ensures text_after { text.new ≡ text_after (Decode.text (read_text page right trim pad part.now)) text.old }
 {
-    match text::put_text(part, page, right, trim, pad, text) {
-        Put::Length(n) => text_answer(n),
-        Put::Full => Decoded::Refused(16),
-    }
+    let count = text::put_text(part, page, right, trim, pad, text)?;
+    Ok(Scalar::Text(0, count as u64))
 }
 
-fn read_hex(part: &[u8], order: u32, text: &mut [u8]) -> Decoded
-    ensures result_value { decoded_as result ≡ answer_of (Decode.text (hex_of order part.now)) (length text.old) }
+#[tactic(auto, using(crate::proofs::Answers::hex_long))]
+fn read_hex(part: &[u8], order: u32, text: &mut [u8]) -> Result<Scalar, Refusal>
+    ensures result_value { answered result ≡ answer_of (Decode.text (hex_of order part.now)) (length text.old) }
     ensures text_after { text.new ≡ text_after (Decode.text (hex_of order part.now)) text.old }
 {
-    if hex_field::to_hex(part, order, text) {
-        return text_answer(part.len() * 2);
-    }
-    Decoded::Refused(16)
+    let count = hex_field::to_hex(part, order, text)?;
+    Ok(Scalar::Text(0, count as u64))
 }
 
 // The value of a field's bytes. A text goes to the front of the text buffer, if it has room; the rest of the buffer stays.
+#[tactic(auto, unfolding(crate::specs::Decode::says), using(crate::proofs::Answers::int_same, crate::proofs::Answers::int_kept, crate::proofs::Answers::decimal_same, crate::proofs::Answers::decimal_kept, crate::proofs::Answers::float_same, crate::proofs::Answers::float_kept))]
 pub fn decode_scalar(
-    kind: u32,
-    p: u32,
-    q: u32,
-    r: u32,
+    field: Field,
     page: u32,
     part: &[u8],
     text: &mut [u8],
-) -> Decoded
-    ensures result_value { decoded_as result ≡ answer_of (says kind p q r page part.now) (length text.old) }
-    ensures text_after { text.new ≡ text_after (says kind p q r page part.now) text.old }
+) -> Result<Scalar, Refusal>
+    ensures result_value { answered result ≡ answer_of (says field.kind field.p field.q field.r page part.now) (length text.old) }
+    ensures text_after { text.new ≡ text_after (says field.kind field.p field.q field.r page part.now) text.old }
 {
-    match kind {
-        KIND_TEXT => read_text(part, page, flag(p), flag(q), low_byte(r), text),
-        KIND_INT => int_scalar(parse_int(part, page, p, q)),
-        KIND_BINARY => int_scalar(binary::parse_binary_int(part, p, flag(q))),
-        KIND_FLOAT => float_answer(float::parse_float(part, q, p)),
-        KIND_HEX => read_hex(part, p, text),
-        KIND_BOOL => Decoded::Value(Scalar::Bool(binary::parse_bool(part))),
-        KIND_DECIMAL => decimal_scalar(parse_decimal(part, page, p, q), r),
-        KIND_EDITED => decimal_scalar(edited::decode(part, page, flag(p)), r),
-        _ => Decoded::Value(Scalar::Null),
+    let Field {
+        kind,
+        p,
+        q,
+        r,
+        s: _,
+    } = field;
+    match Kind::try_from(kind) {
+        Ok(Kind::Text) => read_text(part, page, flag(p), flag(q), low_byte(r), text),
+        Ok(Kind::Int) => read_int(parse_int(part, page, p, q)),
+        Ok(Kind::Binary) => read_int(binary::parse_binary_int(part, p, flag(q))),
+        Ok(Kind::Float) => float::parse_float(part, q, p),
+        Ok(Kind::Hex) => read_hex(part, p, text),
+        Ok(Kind::Bool) => Ok(Scalar::Bool(binary::parse_bool(part))),
+        Ok(Kind::Decimal) => read_decimal(parse_decimal(part, page, p, q), r),
+        Ok(Kind::Edited) => read_decimal(edited::decode(part, page, flag(p)), r),
+        _ => Ok(Scalar::Null),
     }
 }

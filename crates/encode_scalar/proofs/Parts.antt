@@ -11,7 +11,8 @@ use lib.Seq.{drop-length}
 use borrow.Author.Tests.{le-leb, lt-leb, leb-true, eqb-true}
 use Rattle.lists.proofs.Logic.{and_right}
 use Rattle.value.specs.Answer.{Answer, refused, given}
-use Rattle.value.specs.Number.{Whole, number, no_number}
+use Rattle.value.specs.declared.Whole.{Whole}
+use Rattle.value.specs.Number.{no_number}
 use Rattle.value.proofs.Room.{room-some}
 use Rattle.ebcdic.specs.Ebcdic.{onto_page}
 use Rattle.text.specs.Text.{written}
@@ -131,10 +132,10 @@ edited-same width mask n e = by (eqb (Edited.judged mask n) 0) (eqb width (lengt
     by true false p q r = absurd (false≢true r)
     by false b p q r = absurd (false≢true (sym p ∙ r))
 
-pub edited-part : (page : ℕ) (mask : List ℕ) (n : Answer Whole) (part last : List ℕ) → last ≡ Edited.written_of page mask n part
+pub edited_part : (page : ℕ) (mask : List ℕ) (n : Answer Whole) (part last : List ℕ) → last ≡ Edited.written_of page mask n part
     → last ≡ part_after (Edited.answer_of (length part) mask n) (edited_written page mask n) part
 unfolding Edited.written_of Edited.judged
-edited-part page mask (given (number negative size)) part last e =
-    numbered (Edited.answer_of (length part) mask (given (number negative size))) (map (onto_page page) (Edited.edited negative size mask)) part last e
-    (λ q. EditedRound.page-length page negative size mask ∙ edited-same (length part) mask (given (number negative size)) q)
-edited-part page mask (refused question) part last e = e ∙ nothing (Edited.answer_of (length part) mask (refused question)) part
+edited_part page mask (given n) part last e =
+    numbered (Edited.answer_of (length part) mask (given n)) (map (onto_page page) (Edited.edited n.negative n.size mask)) part last e
+    (λ q. EditedRound.page-length page n.negative n.size mask ∙ edited-same (length part) mask (given n) q)
+edited_part page mask (refused question) part last e = e ∙ nothing (Edited.answer_of (length part) mask (refused question)) part

@@ -4,7 +4,8 @@ use Rattle.codes.specs.Codes.{kind_text, kind_int, kind_binary, kind_float, kind
 use Rattle.value.specs.declared.Scalar.{Scalar}
 use Rattle.value.specs.declared.Scalar.TheVariants.{Null, Text, Int, Decimal, Float as FloatV, FloatBits, Bool as BoolV}
 use Rattle.value.specs.Answer.{Answer, refused, given}
-use Rattle.value.specs.Number.{Whole, number, no_number}
+use Rattle.value.specs.declared.Whole.{Whole}
+use Rattle.value.specs.Number.{no_number}
 use Rattle.value.specs.Scalar.{scalar_of}
 use Rattle.ebcdic.specs.Ebcdic.{onto_page}
 use Rattle.text.specs.Text.{written, padded, front}
@@ -40,11 +41,11 @@ int_text p q w negative size = cond (is_embedded p q) (Zoned.encoded_of w negati
 
 abbrev pub int_judged : ℕ → ℕ → ℕ → Answer Whole → ℕ
 int_judged p q w (refused question) = question
-int_judged p q w (given (number negative size)) = cond (int_fit p q w negative size) 0 14
+int_judged p q w (given n) = cond (int_fit p q w n.negative n.size) 0 14
 
 abbrev pub int_written : ℕ → ℕ → ℕ → ℕ → Answer Whole → List ℕ
 int_written p q page w (refused question) = []
-int_written p q page w (given (number negative size)) = map (onto_page page) (int_text p q w negative size)
+int_written p q page w (given n) = map (onto_page page) (int_text p q w n.negative n.size)
 
 abbrev pub binary_judged : ℕ → Answer Whole → ℕ
 binary_judged w (refused question) = question
@@ -52,7 +53,7 @@ binary_judged w (given n) = cond (width_ok w) 0 14
 
 abbrev pub binary_written : ℕ → ℕ → Answer Whole → List ℕ
 binary_written order w (refused question) = []
-binary_written order w (given (number negative size)) = integer_bytes order w negative size
+binary_written order w (given n) = integer_bytes order w n.negative n.size
 
 -- ---- Float
 
@@ -102,7 +103,7 @@ decimal_fit p q s w negative size =
 
 abbrev pub decimal_judged : ℕ → ℕ → ℕ → ℕ → Answer Whole → ℕ
 decimal_judged p q s w (refused question) = question
-decimal_judged p q s w (given (number negative size)) = cond (decimal_fit p q s w negative size) 0 14
+decimal_judged p q s w (given n) = cond (decimal_fit p q s w n.negative n.size) 0 14
 
 abbrev pub decimal_bytes : ℕ → ℕ → ℕ → ℕ → Bool → ℕ → List ℕ
 decimal_bytes p q page w negative size =
@@ -112,7 +113,7 @@ decimal_bytes p q page w negative size =
 
 abbrev pub decimal_written : ℕ → ℕ → ℕ → ℕ → Answer Whole → List ℕ
 decimal_written p q page w (refused question) = []
-decimal_written p q page w (given (number negative size)) = decimal_bytes p q page w negative size
+decimal_written p q page w (given n) = decimal_bytes p q page w n.negative n.size
 
 -- the number of an item for a Decimal field; a List or Struct has none
 abbrev pub item_number : ℕ → ℕ → ℕ → ℕ → Answer Whole
@@ -122,7 +123,7 @@ item_number tag a b scale = cond (leb tag_list tag) no_number (decimal_for (scal
 
 abbrev pub edited_written : ℕ → List ℕ → Answer Whole → List ℕ
 edited_written page mask (refused question) = []
-edited_written page mask (given (number negative size)) = map (onto_page page) (Edited.edited negative size mask)
+edited_written page mask (given n) = map (onto_page page) (Edited.edited n.negative n.size mask)
 
 -- ---- all kinds
 

@@ -8,7 +8,7 @@ use Rattle.ebcdic.specs.Ebcdic.{from_page, onto_page, to_ascii, ascii_table}
 use Rattle.value.specs.declared.Scalar.{Scalar}
 use Rattle.value.specs.declared.Scalar.TheVariants.{Int, Float}
 use Rattle.value.specs.Answer as Value
-use Rattle.value.specs.Number.{Whole, number}
+use Rattle.value.specs.declared.Whole.{Whole}
 use Rattle.value.specs.Scalar.{decimal, tag_of}
 use Rattle.value.specs.Field.{field_of}
 use Rattle.value.specs.Rounding.{rounded, rescaled}
@@ -54,7 +54,7 @@ write_answer question b = cond (eqb question 0) (bytes b) (refused question)
 
 abbrev rescale_answer : ℕ → Value.Answer Whole → Answer
 rescale_answer scale (Value.refused n) = refused n
-rescale_answer scale (Value.given (number negative size)) = value (decimal negative size scale)
+rescale_answer scale (Value.given n) = value (decimal n.negative n.size scale)
 
 abbrev pub answer : Question → Answer
 answer (read (field kind p q r) page part) = read_answer (says kind p q r page part)

@@ -13,7 +13,8 @@ use Rattle.value.specs.declared.Scalar.{Scalar}
 use Rattle.value.specs.declared.Scalar.TheVariants.{Text, Int, Float as FloatV, FloatBits, Bool as BoolV}
 use Rattle.value.specs.Answer.{Answer, given}
 use Rattle.value.specs.Digits.{limit}
-use Rattle.value.specs.Number.{Whole, number}
+use Rattle.value.specs.declared.Whole.{Whole}
+use Rattle.value.specs.Number.{number}
 use Rattle.value.specs.Scalar.{decimal, tag_of, first_of, float_of}
 use Rattle.value.proofs.Items.{float-first, float_tag}
 use Rattle.value.proofs.Rounding.{scale_same}

@@ -2,14 +2,15 @@
 use mathlib.Core.Path.{◌≡◌, refl, sym, ap, ◌∙◌, subst}
 use mathlib.Core.List.{List, [], ◌∷◌}
 use mathlib.Core.Bool.{Bool, true, false, not, ◌&&◌, cond, and-true, and-false, false≢true, true≢false}
-use Prim.Native.Nat.{ℕ, ◌+◌, ◌-◌, ◌*◌, ◌/◌, ◌%◌, ◌^◌, ◌<◌, ◌≤◌}
+use Prim.Native.Nat.{ℕ, suc, ◌+◌, ◌-◌, ◌*◌, ◌/◌, ◌%◌, ◌^◌, ◌<◌, ◌≤◌}
 use native.Mathlib.Omega.{arith}
 use native.Mathlib.Decide.{dec_lt}
 use lib.Dec.{eqb, leb, ltb, T}
 use lib.ListN.{length, get_or}
 use lib.Ieee.{Float, nan, inf, fin, binary64, eq, ne, fits, is_nan, to_bits}
 use lib.Ieee.Compare.{differs_from_itself}
-use borrow.Author.Tests.{lt-ltb, le-ltb, le-leb, lt-leb, eq-eqb, ne_eqb, ltb-true, ltb-false, leb-true, leb-false}
+use borrow.Author.Tests.{lt-ltb, le-ltb, le-leb, lt-leb, eq-eqb, ne_eqb, ltb-true, ltb-false, leb-true, leb-false, eqb-true}
+use Rattle.lists.specs.Scan.{every_by}
 use Rattle.lists.proofs.Logic.{and}
 use Rattle.lists.proofs.Scan.{every_true}
 use Rattle.value.proofs.Digits.{past}
@@ -60,6 +61,19 @@ byte-fine x n h = and (some x n) (lt-ltb x 256 h)
 
 pub byte-none : (x : ℕ) → x ≡ 0 → is_text_byte x ≡ false
 byte-none x e = rw e
+
+pub byte-some : (x : ℕ) → x < 256 → not (eqb x 0) ≡ is_text_byte x
+byte-some x h = by (eqb x 0) refl
+  where
+    by : (b : Bool) → eqb x 0 ≡ b → not b ≡ is_text_byte x
+    by true e = sym (byte-none x (eqb-true x 0 e))
+    by false e = sym (byte-fine x (λ z. true≢false (sym (eq-eqb x 0 z) ∙ e)) h)
+
+-- tests that agree on each element
+pub every-same : (f g : ℕ → Bool) (t : List ℕ) → ((k : ℕ) → k < length t → f (get_or t k 0) ≡ g (get_or t k 0)) → every_by f t ≡ every_by g t
+unfolding every_by
+every-same f g [] h = refl
+every-same f g (x ∷ t) h = rw (h 0 (omega arith), every-same f g t (λ k l. h (suc k) (omega arith)))
 
 -- of bytes, only how many there are is asked
 pub untrimmed-long : (w : ℕ) (t : List ℕ) → ((k : ℕ) → k < length t → get_or t k 0 < 256) → eqb (length t) w ≡ untrimmed_fits w t

@@ -13,289 +13,192 @@ ghost use Rattle.decode_scalar.specs.Decode as Decode;
 ghost use Rattle.fits.specs.Decide.{is_text_byte, cut_end_ok, trimmed_fits, text_fits, hex_fits, minus_ok, digits_fit, int_fits, in_range, binary_fits, word_fits};
 ghost use Rattle.fits.specs.Decide.{sign_ok, display_fits, packed_fits, zoned_fits, decimal_fits, last_two, tells, edited_minus_ok, mask_fits, edited_fits, fits_of};
 
-use codes::{
-    KIND_BINARY, KIND_BOOL, KIND_DECIMAL, KIND_EDITED, KIND_FLOAT, KIND_HEX, KIND_INT, KIND_TEXT,
-};
-use value::{Amount, LIMIT, Scalar};
+use codes::Kind;
+use decode_scalar::{Field, flag, low_byte};
+use value::{LIMIT, Scalar, Whole};
 
 // ---- Text and Hex
 
 fn no_zero(t: &[u8]) -> bool
     ensures { result ≡ every_by is_text_byte t.now }
 {
-    let mut i = 0;
-    while i < t.len() {
-        if t[i] == 0 {
-            return false;
-        }
-        i += 1;
-    }
-    true
+    t.iter().all(|b| *b != 0)
 }
 
 fn cut_end_ok(right: bool, pad: u8, t: &[u8]) -> bool
     ensures { result ≡ cut_end_ok right pad t.now }
 {
-    let n = t.len();
-    if n == 0 {
-        return true;
-    }
-    if right {
-        return t[0] != pad;
-    }
-    t[n - 1] != pad
+    let end = if right { t.first() } else { t.last() };
+    end != Some(&pad)
 }
 
 fn fits_trimmed(right: bool, pad: u8, width: usize, t: &[u8]) -> bool
     ensures { result ≡ trimmed_fits right pad width t.now }
 {
-    if t.len() <= width {
-        if no_zero(t) {
-            return cut_end_ok(right, pad, t);
-        }
-        return false;
-    }
-    false
+    t.len() <= width && no_zero(t) && cut_end_ok(right, pad, t)
 }
 
 // An untrimmed text comes back whatever its bytes are, if there are as many as the field has.
+#[tactic(auto, unfolding(crate::specs::Decide::text_fits))]
 fn fits_text(right: bool, trim: bool, pad: u8, width: usize, t: &[u8]) -> bool
     ensures { result ≡ text_fits right trim pad width t.now }
 {
     if trim {
-        return fits_trimmed(right, pad, width, t);
+        fits_trimmed(right, pad, width, t)
+    } else {
+        t.len() == width
     }
-    t.len() == width
 }
 
 fn is_lower(x: u8) -> bool
     ensures { result ≡ is_lower x }
 {
-    if x < 48 {
-        return false;
-    }
-    if x < 58 {
-        return true;
-    }
-    if x < 97 {
-        return false;
-    }
-    x < 103
+    matches!(x, b'0'..=b'9' | b'a'..=b'f')
 }
 
 fn all_lower(t: &[u8]) -> bool
     ensures { result ≡ every_by is_lower t.now }
 {
-    let mut i = 0;
-    while i < t.len() {
-        if is_lower(t[i]) {
-            i += 1;
-        } else {
-            return false;
-        }
-    }
-    true
+    t.iter().all(|b| is_lower(*b))
 }
 
+#[tactic(auto, unfolding(crate::specs::Decide::hex_fits))]
 fn fits_hex(width: usize, t: &[u8]) -> bool
     ensures { result ≡ hex_fits width t.now }
 {
-    let n = t.len();
-    if n % 2 == 1 {
-        return false;
-    }
-    if n / 2 == width {
-        return all_lower(t);
-    }
-    false
+    t.len() % 2 == 0 && t.len() / 2 == width && all_lower(t)
 }
 
-fn text_fits(kind: u32, p: u32, q: u32, r: u32, width: usize, t: &[u8]) -> bool
-    ensures { result ≡ cond (eqb kind 0) (text_fits (Decode.flag p) (Decode.flag q) (r % 256) width t.now) (eqb kind 4 && hex_fits width t.now) }
+fn text_fits(field: Field, width: usize, t: &[u8]) -> bool
+    ensures { result ≡ cond (eqb field.kind 0) (text_fits (Decode.flag field.p) (Decode.flag field.q) (field.r % 256) width t.now) (eqb field.kind 4 && hex_fits width t.now) }
 {
-    if kind == KIND_TEXT {
-        return fits_text(
-            decode_scalar::flag(p),
-            decode_scalar::flag(q),
-            decode_scalar::low_byte(r),
-            width,
-            t,
-        );
+    match Kind::try_from(field.kind) {
+        Ok(Kind::Text) => fits_text(flag(field.p), flag(field.q), low_byte(field.r), width, t),
+        Ok(Kind::Hex) => fits_hex(width, t),
+        _ => false,
     }
-    if kind == KIND_HEX {
-        return fits_hex(width, t);
-    }
-    false
 }
 
 // ---- Int and Binary
 
-fn minus_ok(negative: bool, size: u64) -> bool
-    ensures { result ≡ minus_ok negative size }
+// 0 has no minus.
+fn minus_ok(n: Whole) -> bool
+    ensures { result ≡ minus_ok n.negative n.size }
 {
-    if negative {
-        return size > 0;
-    }
-    true
+    !n.negative || n.size > 0
 }
 
-fn fits_digits(width: usize, sign: u32, negative: bool, size: u64) -> bool
-    ensures { result ≡ digits_fit width sign negative size }
+#[tactic(auto, unfolding(crate::specs::Decide::digits_fit, display::specs::Display::int_fits))]
+fn fits_digits(width: usize, sign: u32, n: Whole) -> bool
+    ensures { result ≡ digits_fit width sign n.negative n.size }
 {
-    if minus_ok(negative, size) {
-        return display::fits_int(width, negative, size, false, sign);
-    }
-    false
+    minus_ok(n) && display::fits_int(width, n, false, sign)
 }
 
-fn fits_int(p: u32, q: u32, width: usize, negative: bool, size: u64) -> bool
-    ensures { result ≡ int_fits p q width negative size }
+#[tactic(auto, unfolding(crate::specs::Decide::int_fits))]
+fn fits_int(p: u32, q: u32, width: usize, n: Whole) -> bool
+    ensures { result ≡ int_fits p q width n.negative n.size }
 {
-    if size >= value::INT_LIMIT {
+    if n.size >= value::INT_LIMIT {
         return false;
     }
     if decode_scalar::is_embedded(p, q) {
-        return fits_zoned(width, q, negative, size);
+        fits_zoned(width, q, n)
+    } else {
+        fits_digits(width, q, n)
     }
-    fits_digits(width, q, negative, size)
 }
 
-fn in_range(width: usize, signed: bool, negative: bool, size: u64) -> bool
+fn in_range(width: usize, signed: bool, n: Whole) -> bool
     requires { width_ok width ≡ true }
-    ensures { result ≡ in_range width signed negative size }
+    ensures { result ≡ in_range width signed n.negative n.size }
 {
     let half = binary::half_of(width);
-    if signed {
-        if negative {
-            if size == 0 {
-                return false;
-            }
-            return size <= half;
-        }
-        return size < half;
+    match (signed, n.negative) {
+        (true, true) => n.size > 0 && n.size <= half,
+        (true, false) => n.size < half,
+        (false, true) => false,
+        (false, false) => n.size < value::INT_LIMIT && n.size / 2 < half,
     }
-    if negative {
-        return false;
-    }
-    if size < value::INT_LIMIT {
-        return size / 2 < half;
-    }
-    false
 }
 
-fn fits_binary(width: usize, signed: bool, negative: bool, size: u64) -> bool
-    ensures { result ≡ binary_fits width signed negative size }
+#[tactic(auto, unfolding(crate::specs::Decide::binary_fits))]
+fn fits_binary(width: usize, signed: bool, n: Whole) -> bool
+    ensures { result ≡ binary_fits width signed n.negative n.size }
 {
-    if binary::width_ok(width) {
-        return in_range(width, signed, negative, size);
-    }
-    false
+    binary::width_ok(width) && in_range(width, signed, n)
 }
 
-fn int_fits(kind: u32, p: u32, q: u32, width: usize, negative: bool, size: u64) -> bool
-    ensures { result ≡ cond (eqb kind 1) (int_fits p q width negative size) (eqb kind 2 && binary_fits width (Decode.flag q) negative size) }
+fn int_fits(field: Field, width: usize, n: Whole) -> bool
+    ensures { result ≡ cond (eqb field.kind 1) (int_fits field.p field.q width n.negative n.size) (eqb field.kind 2 && binary_fits width (Decode.flag field.q) n.negative n.size) }
 {
-    if kind == KIND_INT {
-        return fits_int(p, q, width, negative, size);
+    match Kind::try_from(field.kind) {
+        Ok(Kind::Int) => fits_int(field.p, field.q, width, n),
+        Ok(Kind::Binary) => fits_binary(width, flag(field.q), n),
+        _ => false,
     }
-    if kind == KIND_BINARY {
-        return fits_binary(width, decode_scalar::flag(q), negative, size);
-    }
-    false
 }
 
 // ---- Float
 
+#[tactic(auto, unfolding(crate::specs::Decide::word_fits))]
 fn fits_word(bits: u32, width: usize, x: u64) -> bool
     ensures { result ≡ word_fits bits width x }
 {
-    if float::exact(bits, x) {
-        return width == (bits / 8) as usize;
-    }
-    false
+    float::exact(bits, x) && width == (bits / 8) as usize
 }
 
 fn float_fits(kind: u32, bits: u32, width: usize, x: f64) -> bool
     ensures { result ≡ (eqb kind 3 && ((Ieee.fits binary64 x && not (Ieee.is_nan x)) && word_fits bits width (Ieee.to_bits binary64 x))) }
 {
-    if kind != KIND_FLOAT {
-        return false;
-    }
-    if x == x {
-        return fits_word(bits, width, value::float_word(x));
-    }
-    false
+    Kind::Float.is(kind) && x == x && fits_word(bits, width, value::float_word(x))
 }
 
 fn nan_fits(kind: u32, bits: u32, width: usize, x: u64) -> bool
     ensures { result ≡ (eqb kind 3 && (Ieee.nan_bits binary64 x && word_fits bits width x)) }
 {
-    if kind != KIND_FLOAT {
-        return false;
-    }
-    if value::is_nan(x) {
-        return fits_word(bits, width, x);
-    }
-    false
+    Kind::Float.is(kind) && value::is_nan(x) && fits_word(bits, width, x)
 }
 
 // ---- Decimal
 
-fn sign_ok(sign: u32, negative: bool, size: u64) -> bool
-    ensures { result ≡ sign_ok sign negative size }
+fn sign_ok(sign: u32, n: Whole) -> bool
+    ensures { result ≡ sign_ok sign n.negative n.size }
 {
-    if negative {
-        if sign == 0 {
-            return false;
-        }
-        return size > 0;
-    }
-    true
+    !n.negative || (flag(sign) && n.size > 0)
 }
 
-fn fits_display(width: usize, sign: u32, precision: u32, negative: bool, size: u64) -> bool
-    ensures { result ≡ display_fits width sign precision negative size }
+fn fits_display(width: usize, sign: u32, precision: u32, n: Whole) -> bool
+    ensures { result ≡ display_fits width sign precision n.negative n.size }
 {
-    if fits_digits(width, sign, negative, size) {
-        return precision as usize <= width;
-    }
-    false
+    fits_digits(width, sign, n) && precision as usize <= width
 }
 
-fn fits_packed(width: usize, sign: u32, negative: bool, size: u64) -> bool
-    ensures { result ≡ packed_fits width sign negative size }
+fn fits_packed(width: usize, sign: u32, n: Whole) -> bool
+    ensures { result ≡ packed_fits width sign n.negative n.size }
 {
-    if packed::fits(width, size) {
-        return sign_ok(sign, negative, size);
-    }
-    false
+    packed::fits(width, n.size) && sign_ok(sign, n)
 }
 
-fn fits_zoned(width: usize, sign: u32, negative: bool, size: u64) -> bool
-    ensures { result ≡ zoned_fits width sign negative size }
+fn fits_zoned(width: usize, sign: u32, n: Whole) -> bool
+    ensures { result ≡ zoned_fits width sign n.negative n.size }
 {
-    if zoned::fits(width, size) {
-        return sign_ok(sign, negative, size);
-    }
-    false
+    zoned::fits(width, n.size) && sign_ok(sign, n)
 }
 
-fn fits_decimal(p: u32, q: u32, s: u32, width: usize, negative: bool, size: u64) -> bool
-    ensures { result ≡ decimal_fits p q s width negative size }
+#[tactic(auto, unfolding(crate::specs::Decide::decimal_fits))]
+fn fits_decimal(p: u32, q: u32, s: u32, width: usize, n: Whole) -> bool
+    ensures { result ≡ decimal_fits p q s width n.negative n.size }
 {
-    if size >= LIMIT {
+    if n.size >= LIMIT {
         return false;
     }
-    if p == 0 {
-        return fits_display(width, q, s, negative, size);
+    match p {
+        0 => fits_display(width, q, s, n),
+        1 => fits_packed(width, q, n),
+        2 => fits_zoned(width, q, n),
+        _ => false,
     }
-    if p == 1 {
-        return fits_packed(width, q, negative, size);
-    }
-    if p == 2 {
-        return fits_zoned(width, q, negative, size);
-    }
-    false
 }
 
 // ---- Edited
@@ -303,147 +206,74 @@ fn fits_decimal(p: u32, q: u32, s: u32, width: usize, negative: bool, size: u64)
 fn last_two(a: u8, b: u8, mask: &[u8]) -> bool
     ensures { result ≡ last_two a b mask.now }
 {
-    let n = mask.len();
-    if n < 2 {
-        return false;
-    }
-    if mask[n - 2] == a {
-        return mask[n - 1] == b;
-    }
-    false
+    mask.ends_with(&[a, b])
 }
 
 // Whether a mask tells a minus.
+#[tactic(auto, unfolding(crate::specs::Decide::tells))]
 fn tells_minus(mask: &[u8]) -> bool
     ensures { result ≡ tells mask.now }
 {
-    let n = mask.len();
-    if n == 0 {
+    let (Some(first), Some(last)) = (mask.first(), mask.last()) else {
         return false;
-    }
-    if numerals::is_sign(mask[0]) {
-        return true;
-    }
-    if numerals::is_sign(mask[n - 1]) {
-        return true;
-    }
-    if last_two(67, 82, mask) {
-        return true;
-    }
-    last_two(68, 66, mask)
+    };
+    numerals::is_sign(*first)
+        || numerals::is_sign(*last)
+        || last_two(b'C', b'R', mask)
+        || last_two(b'D', b'B', mask)
 }
 
-fn edited_minus_ok(signed: bool, negative: bool, size: u64, mask: &[u8]) -> bool
-    ensures { result ≡ edited_minus_ok signed negative size mask.now }
+fn edited_minus_ok(signed: bool, n: Whole, mask: &[u8]) -> bool
+    ensures { result ≡ edited_minus_ok signed n.negative n.size mask.now }
 {
-    if negative {
-        if size == 0 {
-            return false;
-        }
-        if signed {
-            return tells_minus(mask);
-        }
-        return false;
-    }
-    true
+    !n.negative || (n.size > 0 && signed && tells_minus(mask))
 }
 
 fn mask_fits(size: u64, mask: &[u8]) -> bool
     ensures { result ≡ mask_fits size mask.now }
 {
-    if edited::judge(mask, Amount::Of(false, size)) == 0 {
-        return edited::count_of(mask, 48) == 0;
-    }
-    false
+    let n = Whole {
+        negative: false,
+        size,
+    };
+    edited::judge(mask, Ok(n)).is_ok() && edited::count_of(mask, b'0') == 0
 }
 
-fn fits_edited(signed: bool, width: usize, negative: bool, size: u64, mask: &[u8]) -> bool
-    ensures { result ≡ edited_fits signed width negative size mask.now }
+#[tactic(auto, unfolding(crate::specs::Decide::edited_fits))]
+fn fits_edited(signed: bool, width: usize, n: Whole, mask: &[u8]) -> bool
+    ensures { result ≡ edited_fits signed width n.negative n.size mask.now }
 {
-    if mask.len() != width {
-        return false;
-    }
-    if mask_fits(size, mask) {
-        return edited_minus_ok(signed, negative, size, mask);
-    }
-    false
+    mask.len() == width && mask_fits(n.size, mask) && edited_minus_ok(signed, n, mask)
 }
 
-fn decimal_fits(
-    kind: u32,
-    p: u32,
-    q: u32,
-    s: u32,
-    mask: &[u8],
-    width: usize,
-    negative: bool,
-    size: u64,
-) -> bool
-    ensures { result ≡ cond (eqb kind 7) (decimal_fits p q s width negative size) (eqb kind 8 && edited_fits (Decode.flag p) width negative size mask.now) }
+fn decimal_fits(field: Field, mask: &[u8], width: usize, n: Whole) -> bool
+    ensures { result ≡ cond (eqb field.kind 7) (decimal_fits field.p field.q field.s width n.negative n.size)
+        (eqb field.kind 8 && edited_fits (Decode.flag field.p) width n.negative n.size mask.now) }
 {
-    if kind == KIND_DECIMAL {
-        return fits_decimal(p, q, s, width, negative, size);
+    match Kind::try_from(field.kind) {
+        Ok(Kind::Decimal) => fits_decimal(field.p, field.q, field.s, width, n),
+        Ok(Kind::Edited) => fits_edited(flag(field.p), width, n, mask),
+        _ => false,
     }
-    if kind == KIND_EDITED {
-        return fits_edited(decode_scalar::flag(p), width, negative, size, mask);
-    }
-    false
-}
-
-fn scaled_fits(
-    kind: u32,
-    p: u32,
-    q: u32,
-    r: u32,
-    s: u32,
-    mask: &[u8],
-    width: usize,
-    negative: bool,
-    size: u64,
-    scale: u64,
-) -> bool
-    ensures { result ≡ (eqb scale r && cond (eqb kind 7) (decimal_fits p q s width negative size) (eqb kind 8 && edited_fits (Decode.flag p) width negative size mask.now)) }
-{
-    if scale == r as u64 {
-        return decimal_fits(kind, p, q, s, mask, width, negative, size);
-    }
-    false
 }
 
 // ---- all kinds
 
-fn bool_fits(kind: u32, width: usize) -> bool
-    ensures { result ≡ (eqb kind 5 && eqb width 1) }
-{
-    if kind == KIND_BOOL {
-        return width == 1;
-    }
-    false
-}
-
 // Whether a value fits a field of a width.
-pub fn fits_scalar(
-    kind: u32,
-    p: u32,
-    q: u32,
-    r: u32,
-    s: u32,
-    mask: &[u8],
-    width: usize,
-    v: Scalar,
-    text: &[u8],
-) -> bool
-    ensures { result ≡ fits_of p q r s mask.now width kind v text.now }
+#[tactic(auto, unfolding(crate::specs::Decide::fits_of))]
+pub fn fits_scalar(field: Field, mask: &[u8], width: usize, v: Scalar, text: &[u8]) -> bool
+    ensures { result ≡ fits_of field.p field.q field.r field.s mask.now width field.kind v text.now }
 {
     match v {
         Scalar::Null => false,
-        Scalar::Text(_, _) => text_fits(kind, p, q, r, width, text),
-        Scalar::Int(negative, size) => int_fits(kind, p, q, width, negative, size),
-        Scalar::Decimal(negative, size, scale) => scaled_fits(
-            kind, p, q, r, s, mask, width, negative, size, scale,
-        ),
-        Scalar::Float(x) => float_fits(kind, q, width, x),
-        Scalar::FloatBits(x) => nan_fits(kind, q, width, x),
-        Scalar::Bool(b) => bool_fits(kind, width),
+        Scalar::Text(_, _) => text_fits(field, width, text),
+        Scalar::Int(negative, size) => int_fits(field, width, Whole { negative, size }),
+        Scalar::Decimal(negative, size, scale) => {
+            scale == u64::from(field.r)
+                && decimal_fits(field, mask, width, Whole { negative, size })
+        }
+        Scalar::Float(x) => float_fits(field.kind, field.q, width, x),
+        Scalar::FloatBits(x) => nan_fits(field.kind, field.q, width, x),
+        Scalar::Bool(_) => Kind::Bool.is(field.kind) && width == 1,
     }
 }

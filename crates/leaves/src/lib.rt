@@ -5,12 +5,15 @@
 ghost use Rattle.std.specs.Prelude.{◌≡◌, length};
 ghost use Rattle.ebcdic.specs.Ebcdic.{to_ascii, to_ebcdic};
 ghost use Rattle.value.specs.Scalar.{scalar_of};
-ghost use Rattle.decode_scalar.specs.Decode.{says, answer_of, decoded_as, text_after};
+ghost use Rattle.value.specs.Answer.{answered};
+ghost use Rattle.decode_scalar.specs.Decode.{says, answer_of, text_after};
 ghost use Rattle.encode_scalar.specs.Encode.{judged_of, bytes_of, part_after};
 ghost use Rattle.leaves.specs.Leaves.{number_in, item_in};
 
-use decode_scalar::Decoded;
-use items::{ITEM_WORDS, item_of, put};
+use codes::Refusal;
+use decode_scalar::Field;
+use items::{ITEM_WORDS, Item};
+use value::{Scalar, Words};
 
 #[unsafe(no_mangle)]
 pub extern "C" fn leaf_to_ascii(b: u8) -> u8
@@ -27,19 +30,17 @@ pub extern "C" fn leaf_to_ebcdic(b: u8) -> u8
 }
 
 // The answer as a number, and its item, named 0, at the front of the words; 16 where they have no room for it.
-fn put_answer(d: Decoded, item: &mut [u64]) -> u32
-    ensures value { result ≡ number_in (decoded_as d) (length item.old) }
-    ensures item_after { item.new ≡ item_in (decoded_as d) item.old }
+fn put_answer(value: Result<Scalar, Refusal>, item: &mut [u64]) -> u32
+    ensures value { result ≡ number_in (answered value) (length item.old) }
+    ensures item_after { item.new ≡ item_in (answered value) item.old }
 {
-    match d {
-        Decoded::Value(v) => {
-            if item.len() < ITEM_WORDS {
-                return 16;
-            }
-            put(item, item_of(0, v));
+    match value {
+        Ok(_) if item.len() < ITEM_WORDS => Refusal::NoRoom.into(),
+        Ok(v) => {
+            Item::of_scalar(0, v).put(item);
             0
         }
-        Decoded::Refused(n) => n,
+        Err(refusal) => refusal.into(),
     }
 }
 
@@ -59,8 +60,14 @@ pub extern "C" fn leaf_decode(
     ensures text_after { text.new ≡ text_after (says kind p q r page part.now) text.old }
     ensures item_after { item.new ≡ item_in (answer_of (says kind p q r page part.now) (length text.old)) item.old }
 {
-    let d = decode_scalar::decode_scalar(kind, p, q, r, page, part, text);
-    put_answer(d, item)
+    let field = Field {
+        kind,
+        p,
+        q,
+        r,
+        s: 0,
+    };
+    put_answer(decode_scalar::decode_scalar(field, page, part, text), item)
 }
 
 // The number that refuses a value for a field of a width, 0 for none.
@@ -80,7 +87,9 @@ pub extern "C" fn leaf_judge(
 ) -> u32
     ensures { result ≡ judged_of kind p q r s mask.now width tag (scalar_of tag a b) text.now }
 {
-    encode_scalar::judge_scalar(kind, p, q, r, s, mask, width, tag, a, b, text)
+    let field = Field { kind, p, q, r, s };
+    let item = Words { tag, a, b };
+    codes::number_in(encode_scalar::judge_scalar(field, mask, width, item, text))
 }
 
 // Writes a value into a field's bytes: 0, or the number that refuses it and the part as it was.
@@ -104,5 +113,7 @@ pub extern "C" fn leaf_encode(
         (judged_of kind p q r s mask.now (length part.old) tag (scalar_of tag a b) text.now)
         (bytes_of kind p q r mask.now page (length part.old) (scalar_of tag a b) text.now) part.old }
 {
-    encode_scalar::encode_scalar(part, kind, p, q, r, s, mask, page, tag, a, b, text)
+    let field = Field { kind, p, q, r, s };
+    let item = Words { tag, a, b };
+    codes::number_in(encode_scalar::encode_scalar(part, field, mask, page, item, text))
 }

@@ -17,8 +17,8 @@ returns-then-ends_overpunched c =
     let ends = ap (λ (t : List ℕ). is_overpunched (last_of t)) (sym trim.ensures.result_value) ∙ sym c.ends_overpunched.ensures ∙ c.if-ends_overpunched.true in
     c.decode_within.ensures ∙ ap (λ (t : List ℕ). zoned_by (read_in (2 ^ 63)) unlawful t) trim.ensures.result_value ∙ zoned-said (map (from_page a.page) a.part.now) ends
 
-pub returns : goal.returns
-returns c =
+pub returns-else-ends_overpunched : goal.returns-else-ends_overpunched
+returns-else-ends_overpunched c =
     let a = c.args in
     let trim = c.trim-t in
     let ends = ap (λ (t : List ℕ). is_overpunched (last_of t)) (sym trim.ensures.result_value) ∙ sym c.ends_overpunched.ensures ∙ c.if-ends_overpunched.false in

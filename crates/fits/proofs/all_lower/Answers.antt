@@ -1,18 +1,14 @@
-use mathlib.Core.Path.{refl, sym, ◌∙◌}
-use Rattle.lists.proofs.Scan.{every-go, every-stop, every-end}
+-- What the library says of `all` is the definition's test of every byte.
+use Rattle.std.proofs.Common.{◌≡◌, rules, ◌∙◌}
+use Rattle.std.specs.List.{list_all}
+use Rattle.std.proofs.lemmas.Iterator.{YieldsList-from_slice}
+use Rattle.std.proofs.lemmas.Iterator.Search.{all_from_yields_List}
 use Rattle.hex_field.specs.Hex.{is_lower}
+use Rattle.binary.proofs.Bools.{all-every}
 use Rattle.fits.proofs.all_lower.Goals as goal
 
-pub loop-i-init : goal.loop-i-init
-loop-i-init c = refl
-
-pub loop-i-preserved : goal.loop-i-preserved
-loop-i-preserved c =
-    c.loop-i.invariant ∙ every-go is_lower c.args.t.now c.loop-i.i c.loop-i-test.true (sym c.is_lower.ensures ∙ c.if-is_lower.true)
-
-pub returns-else-is_lower : goal.returns-else-is_lower
-returns-else-is_lower c =
-    sym (c.loop-i.invariant ∙ every-stop is_lower c.args.t.now c.loop-i.i c.loop-i-test.true (sym c.is_lower.ensures ∙ c.if-is_lower.false))
-
 pub returns : goal.returns
-returns c = sym (c.loop-i.invariant ∙ every-end is_lower c.args.t.now c.loop-i.i c.loop-i-test.false)
+returns c =
+    let t = c.args.t.now in
+    let said : c.all.result ≡ list_all is_lower t = all_from_yields_List is_lower _ _ c.all.result c.all.ensures.ran (YieldsList-from_slice t cc) (λ x b q k. search rules) in
+    said ∙ all-every is_lower t

@@ -1,28 +1,17 @@
-use mathlib.Core.Path.{ap, ◌∙◌}
-use Prim.Native.Nat.{◌/◌}
-use lib.Dec.{leb, ltb}
+-- A size is compared with half of 256^width, which the table holds for each lawful width.
+use Rattle.std.proofs.Common.{◌/◌, ap, ◌∙◌, ltb}
 use Rattle.binary.proofs.Integers.{half-known}
-use Rattle.fits.proofs.Steps.{range-minus, range-plus, range-unsigned, range-big}
+use Rattle.fits.proofs.Steps.{range-plus, range-unsigned}
 use Rattle.fits.proofs.in_range.Goals as goal
 
-pub returns-then-size-eq0 : goal.returns-then-size-eq0
-returns-then-size-eq0 c = rw (c.if-signed.true, c.if-negative.true, c.if-size-eq0.true)
+pub returns-in-true-false : goal.returns-in-true-false
+returns-in-true-false c =
+    let a = c.args in
+    let half = c.half_of-half.ensures ∙ half-known a.width c.requires in
+    rw (c.in-true-false.is-0, c.in-true-false.is-1) (ap (ltb a.n.size) half ∙ range-plus a.width c.requires a.n.size)
 
-pub returns-then-negative : goal.returns-then-negative
-returns-then-negative c =
-    rw (c.if-signed.true, c.if-negative.true) (ap (leb c.args.size) (c.half_of-half.ensures ∙ half-known c.args.width c.requires) ∙ range-minus c.args.width c.requires c.args.size c.if-size-eq0.false)
-
-pub returns-then-signed : goal.returns-then-signed
-returns-then-signed c =
-    rw (c.if-signed.true, c.if-negative.false) (ap (ltb c.args.size) (c.half_of-half.ensures ∙ half-known c.args.width c.requires) ∙ range-plus c.args.width c.requires c.args.size)
-
-pub returns-then-negative-2 : goal.returns-then-negative-2
-returns-then-negative-2 c = rw (c.if-signed.false, c.if-negative-2.true)
-
-pub returns-then-size-lt-INT_LIMIT : goal.returns-then-size-lt-INT_LIMIT
-returns-then-size-lt-INT_LIMIT c =
-    rw (c.if-signed.false, c.if-negative-2.false) (ap (ltb (c.args.size / 2)) (c.half_of-half.ensures ∙ half-known c.args.width c.requires) ∙ range-unsigned c.args.width c.requires c.args.size c.if-size-lt-INT_LIMIT.true)
-
-pub returns : goal.returns
-returns c =
-    rw (c.if-signed.false, c.if-negative-2.false) (range-big c.args.width c.requires c.args.size c.if-size-lt-INT_LIMIT.false)
+pub returns-then-n-lt-INT_LIMIT : goal.returns-then-n-lt-INT_LIMIT
+returns-then-n-lt-INT_LIMIT c =
+    let a = c.args in
+    let half = c.half_of-half.ensures ∙ half-known a.width c.requires in
+    rw (c.in-false-false.is-0, c.in-false-false.is-1) (ap (ltb (a.n.size / 2)) half ∙ range-unsigned a.width c.requires a.n.size c.if-n-lt-INT_LIMIT.true)

@@ -1,21 +1,16 @@
-use mathlib.Core.Path.{refl, sym, ◌∙◌}
-use native.Mathlib.Omega.{arith}
-use lib.ListN.{get_or}
-use Rattle.lists.proofs.Scan.{every-go, every-stop, every-end}
+-- What the library says of `all` is a test of every element; the elements are bytes, so that it is the definition's.
+use Rattle.std.proofs.Common.{◌≡◌, ℕ, Bool, not, eqb, rules, ◌∙◌, arith}
+use Rattle.std.specs.List.{list_all}
+use Rattle.std.proofs.lemmas.Iterator.{YieldsList-from_slice}
+use Rattle.std.proofs.lemmas.Iterator.Search.{all_from_yields_List}
 use Rattle.fits.specs.Decide.{is_text_byte}
-use Rattle.fits.proofs.Steps.{byte-fine, byte-none}
+use Rattle.binary.proofs.Bools.{all-every}
+use Rattle.fits.proofs.Steps.{every-same, byte-some}
 use Rattle.fits.proofs.no_zero.Goals as goal
 
-pub loop-i-init : goal.loop-i-init
-loop-i-init c = refl
-
-pub returns-then-t-i-eq0 : goal.returns-then-t-i-eq0
-returns-then-t-i-eq0 c =
-    sym (c.loop-i.invariant ∙ every-stop is_text_byte c.args.t.now c.loop-i.i c.loop-i-test.true (byte-none (get_or c.args.t.now c.loop-i.i 0) c.if-t-i-eq0.true))
-
-pub loop-i-preserved : goal.loop-i-preserved
-loop-i-preserved c =
-    c.loop-i.invariant ∙ every-go is_text_byte c.args.t.now c.loop-i.i c.loop-i-test.true (byte-fine (get_or c.args.t.now c.loop-i.i 0) c.if-t-i-eq0.false (omega (arith, c.type_inv.t c.loop-i.i)))
-
 pub returns : goal.returns
-returns c = sym (c.loop-i.invariant ∙ every-end is_text_byte c.args.t.now c.loop-i.i c.loop-i-test.false)
+returns c =
+    let t = c.args.t.now in
+    let some : ℕ → Bool = λ x. not (eqb x 0) in
+    let said : c.all.result ≡ list_all some t = all_from_yields_List some _ _ c.all.result c.all.ensures.ran (YieldsList-from_slice t cc) (λ x b q k. search rules) in
+    said ∙ all-every some t ∙ every-same some is_text_byte t (λ k h. byte-some _ (omega (arith, c.type_inv.t k)))

@@ -2,20 +2,14 @@
 use mathlib.Core.Path.{◌≡◌, refl, sym, ap, ◌∙◌}
 use mathlib.Core.Bool.{false, cond}
 use mathlib.Core.List.{List}
-use Prim.Native.Nat.{ℕ, ◌+◌, ◌-◌, ◌*◌, ◌<◌, ◌≤◌, min}
+use Prim.Native.Nat.{ℕ, ◌+◌, ◌-◌, ◌<◌, ◌≤◌, min}
 use native.Mathlib.Omega.{arith}
 use native.Mathlib.Decide.{dec_lt}
-use lib.ListN.{get_or}
 use borrow.Author.Tests.{eq-eqb, ne_eqb}
 use Rattle.items.specs.declared.Item.{Item}
 use Rattle.spans.specs.Tree.{none, node, end_of, size}
 use Rattle.spans.proofs.Tree.{tree-none, tree-at, size-tree}
-use Rattle.items.specs.Items.{item_words, item_at, holds, span_of, values, head_of, members_of, rest_of, lookup, place_of}
-
-pub item-words : (v : List ℕ) (i n t a b : ℕ) → n ≡ get_or v (i * item_words + 0) 0 → t ≡ get_or v (i * item_words + 1) 0 → a ≡ get_or v (i * item_words + 2) 0 → b ≡ get_or v (i * item_words + 3) 0 → record { name = n; tag = t; a = a; b = b } ≡ item_at v i
-item-words v i n t a b p q r s =
-    let z : i * item_words + 0 ≡ i * item_words = omega arith in
-    rw (p ∙ ap (λ k. get_or v k 0) z, q, r, s)
+use Rattle.items.specs.Items.{item_at, holds, span_of, values, head_of, members_of, rest_of, lookup, place_of}
 
 pub values-none : (v : List ℕ) (i to : ℕ) → to ≤ i → values v i to ≡ none
 unfolding values
@@ -80,9 +74,3 @@ module _ (v : List ℕ) (i to : ℕ) where
     pub lookup-more : (name : ℕ) → i < to → (it.name ≡ name → ⊥) → lookup name (values v i to) ≡ lookup name (values v en to)
     unfolding lookup
     lookup-more name h e = rw (values-node h, ne_eqb it.name name e)
-
--- the place that a lookup finds, by the definition alone
-pub found_at : (v : List ℕ) (name from to r : ℕ) → r ≤ to → lookup name (values v from to) ≡ values v r to → to - size (lookup name (values v from to)) ≡ r
-found_at v name from to r h e =
-    let z : size (lookup name (values v from to)) ≡ to - r = ap size e ∙ size-values v r to in
-    omega arith

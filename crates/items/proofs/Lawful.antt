@@ -2,62 +2,13 @@
 use mathlib.Core.Path.{◌≡◌, refl, sym, ap, ◌∙◌}
 use mathlib.Core.Bool.{Bool, true, false, ◌&&◌, cond}
 use mathlib.Core.List.{List}
-use Prim.Native.Nat.{ℕ, suc, ◌+◌, ◌-◌, ◌%◌, ◌<◌, ◌≤◌}
+use Prim.Native.Nat.{ℕ, suc, ◌+◌, ◌-◌, ◌<◌, ◌≤◌}
 use native.Mathlib.Omega.{arith}
-use native.Mathlib.Decide.{dec_le}
-use lib.Dec.{eqb, leb}
-use lib.ListN.{length}
-use borrow.Author.Tests.{eq-eqb, ne_eqb, eqb-true, eqb-false, le-leb, lt-leb}
+use lib.Dec.{eqb}
 use Rattle.items.specs.declared.Item.{Item}
 use Rattle.spans.specs.Tree.{node, end_of, size}
-use Rattle.items.specs.Items.{item_words, item_count, holds, span_of, values, text_ok, scalar_ok, name_ok, holder_ok, item_ok, count, list_ok, depth, well_formed, head_of}
+use Rattle.items.specs.Items.{holds, span_of, values, item_ok, count, list_ok, head_of}
 use Rattle.items.proofs.Items.{values-none, values-node, size-values}
-
-pub text_in : (text a b : ℕ) → a ≤ text → leb b (text - a) ≡ text_ok text a b
-text_in text a b h = go (dec_le b (text - a))
-  where
-    go : Dec (b ≤ text - a) → leb b (text - a) ≡ leb (a + b) text
-    go (yes k) = le-leb b (text - a) k ∙ sym (le-leb (a + b) text (omega arith))
-    go (no k) = lt-leb b (text - a) (omega arith) ∙ sym (lt-leb (a + b) text (omega arith))
-
-one_less : (b below : ℕ) → (b ≡ 0 → ⊥) → eqb (b - 1) below ≡ eqb b (suc below)
-one_less b below h = go (eqb b (suc below)) refl
-  where
-    go : (t : Bool) → eqb b (suc below) ≡ t → eqb (b - 1) below ≡ t
-    go true e = eq-eqb (b - 1) below (omega (arith, eqb-true b (suc below) e))
-    go false e = ne_eqb (b - 1) below (λ k. eqb-false b (suc below) e (omega arith))
-
-module _ (it : Item) (members below : ℕ) where
-  pub holder-tag : holds it.tag ≡ false → false ≡ holder_ok it members below
-  unfolding holder_ok
-  holder-tag t = rw t
-
-  module _ (t : holds it.tag ≡ true) where
-    pub holder-count : (it.a ≡ members → ⊥) → false ≡ holder_ok it members below
-    unfolding holder_ok
-    holder-count a = rw (t, ne_eqb it.a members a)
-
-    pub holder-zero : it.a ≡ members → it.b ≡ 0 → false ≡ holder_ok it members below
-    unfolding holder_ok
-    holder-zero a b = rw (t, eq-eqb it.a members a, ne_eqb it.b (suc below) (λ e. omega arith))
-
-    pub holder-span : it.a ≡ members → (it.b ≡ 0 → ⊥) → eqb (it.b - 1) below ≡ holder_ok it members below
-    unfolding holder_ok
-    holder-span a b = rw (t, eq-eqb it.a members a) (one_less it.b below b)
-
-  module _ (text : ℕ) (in_list : Bool) where
-    pub item-name : name_ok in_list it.name ≡ false → false ≡ item_ok text in_list it members below
-    unfolding item_ok
-    item-name n = rw n
-
-    module _ (n : name_ok in_list it.name ≡ true) where
-      pub item-scalar : scalar_ok text it ≡ true → true ≡ item_ok text in_list it members below
-      unfolding item_ok
-      item-scalar s = rw (n, s)
-
-      pub item-holder : scalar_ok text it ≡ false → holder_ok it members below ≡ item_ok text in_list it members below
-      unfolding item_ok
-      item-holder s = rw (n, s)
 
 module _ (v : List ℕ) (i hi : ℕ) where
   pub count-end : hi ≤ i → count (values v i hi) ≡ 0
@@ -114,11 +65,3 @@ module _ (v : List ℕ) (i hi : ℕ) where
 
           pub ok-next : list_ok text inside (levels - 1) (values v (i + 1) en) ≡ true → list_ok text in_list levels (values v i hi) ≡ list_ok text in_list levels (values v en hi)
           ok-next g = ok-turn ∙ rw (← l, f, g) refl
-
-pub part-item : (items : List ℕ) (text : ℕ) → (length items % item_words ≡ 0 → ⊥) → false ≡ well_formed items text
-unfolding well_formed
-part-item items text h = rw (ne_eqb (length items % item_words) 0 h)
-
-pub whole-items : (items : List ℕ) (text : ℕ) → length items % item_words ≡ 0 → list_ok text false depth (values items 0 (item_count items)) ≡ well_formed items text
-unfolding well_formed
-whole-items items text h = rw (eq-eqb (length items % item_words) 0 h)

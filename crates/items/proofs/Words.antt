@@ -1,20 +1,16 @@
 -- A lawful scalar item's tag and words are those of the scalar that it stands for.
 use mathlib.Core.Path.{◌≡◌, refl}
 use mathlib.Core.Bool.{Bool, true, false, cond, false≢true}
-use mathlib.Core.List.{List, [], ◌∷◌, ◌++◌}
 use Prim.Native.Nat.{ℕ, zero, suc, ◌≤◌, ◌<◌, ◌^◌}
 use native.Mathlib.Omega.{arith}
 use lib.Dec.{eqb, leb}
-use lib.ListN.{length, drop, set}
 use borrow.Author.Tests.{eqb-true, leb-true}
-use Rattle.value.specs.declared.Scalar.{Scalar}
-use Rattle.value.specs.declared.Words.{Words}
-use Rattle.value.specs.Scalar.{tag_of, first_of, second_of, scalar_of}
+use Rattle.value.specs.Scalar.{scalar_of}
 use Rattle.value.proofs.Items.{float_tag, float-first, float-second}
 use Rattle.value.proofs.Word.{word_back}
 use Rattle.lists.proofs.Logic.{both}
 use Rattle.items.specs.declared.Item.{Item}
-use Rattle.items.specs.Items.{item_words, words_of, item_of, scalar_in, null_ok, text_ok, word_ok, decimal_ok, bool_ok, scalar_ok}
+use Rattle.items.specs.Items.{item_of, scalar_in, null_ok, text_ok, word_ok, decimal_ok, bool_ok, scalar_ok}
 
 -- the words of an item that may stand in a value list
 pub data ItemWords : ℕ → ℕ → ℕ → Type 0 where
@@ -63,16 +59,3 @@ item_back name (bool false) = refl
 
 pub words_back : (text_bytes : ℕ) (it : Item) → scalar_ok text_bytes it ≡ true → it.a < 2 ^ 64 → item_of it.name (scalar_in it) ≡ it
 words_back text_bytes it ok h = item_back it.name (scalar-words text_bytes it ok h)
-
--- ---- an item at the front of a buffer
-
-pub put-words : (it : Item) (l : List ℕ) → item_words ≤ length l → set (set (set (set l 0 it.name) 1 it.tag) 2 it.a) 3 it.b ≡ words_of it ++ drop item_words l
-put-words it [] k = absurd (omega arith)
-put-words it (x ∷ []) k = absurd (omega arith)
-put-words it (x ∷ y ∷ []) k = absurd (omega arith)
-put-words it (x ∷ y ∷ z ∷ []) k = absurd (omega arith)
-put-words it (x ∷ y ∷ z ∷ w ∷ l) k = refl
-
-pub item-is : (name : ℕ) (v : Scalar) (w : Words) → (w.tag ≡ tag_of v) × ((w.a ≡ first_of v) × (w.b ≡ second_of v))
-    → record { name = name; tag = w.tag; a = w.a; b = w.b } ≡ item_of name v
-item-is name v w e = λ i. record { name = name; tag = e.0 i; a = e.1.0 i; b = e.1.1 i }

@@ -2,25 +2,15 @@
 
 #![tactic(auto)]
 
-ghost use Rattle.std.specs.Prelude.{◌≡◌, Bool, false, ◌++◌, ℕ, ◌+◌, ◌*◌, ◌/◌, ◌≤◌, min, eqb, length, get_or, drop};
-ghost use Rattle.codes.specs.Codes.{tag_list};
+ghost use Rattle.std.specs.Prelude.{◌≡◌, cond, false, ◌++◌, ℕ, ◌+◌, ◌*◌, ◌/◌, ◌≤◌, min, length, get_or, drop};
+ghost use Rattle.codes.specs.Kinds.{word_of_tag};
+ghost use Rattle.codes.specs.Refusals.{number_in};
 ghost use Rattle.spans.specs.Tree.{end_of};
-ghost use Rattle.items.specs.Items.{item_words, words_of, item_of, header, scalar_in, item_at, holds, span_of, values, null_ok, text_ok, decimal_ok, bool_ok, scalar_ok, name_ok, holder_ok, item_ok, count, list_ok, well_formed, head_of, lookup, place_of};
+ghost use Rattle.items.specs.Items.{item_words, words_of, item_of, header, scalar_in, text_of, item_at, holds, span_of, values, text_ok, scalar_ok, holder_ok, item_ok, count, list_ok, well_formed, head_of, lookup, place_of};
 
-use codes::{
-    ELEMENT, TAG_BOOL, TAG_DECIMAL, TAG_FLOAT, TAG_INT, TAG_LIST, TAG_NULL, TAG_STRUCT, TAG_TEXT,
-};
+use codes::{ELEMENT, Refusal, Tag};
 use spans::end_of;
 use value::{LIMIT, Scalar, item_scalar, size_of, words_of};
-
-// An item of a value list: its name, its tag, and two words.
-#[derive(Clone, Copy)]
-pub struct Item {
-    pub name: u64,
-    pub tag: u64,
-    pub a: u64,
-    pub b: u64,
-}
 
 // The words of an item; this crate alone knows which they are.
 pub const ITEM_WORDS: usize = 4;
@@ -32,132 +22,6 @@ pub fn item_count(words: usize) -> usize
     words / ITEM_WORDS
 }
 
-// The item of a scalar.
-pub fn item_of(name: u64, v: Scalar) -> Item
-    ensures { result ≡ item_of name v }
-{
-    let w = words_of(v);
-    Item {
-        name,
-        tag: w.tag,
-        a: w.a,
-        b: w.b,
-    }
-}
-
-// The scalar of an item.
-pub fn scalar_in(it: Item) -> Scalar
-    ensures { result ≡ scalar_in it }
-{
-    item_scalar(it.tag, it.a, it.b)
-}
-
-// An item at the front of the words.
-pub fn put(items: &mut [u64], it: Item)
-    requires { item_words ≤ length items.old }
-    ensures { items.new ≡ words_of it ++ drop item_words items.old }
-{
-    items[0] = it.name;
-    items[1] = it.tag;
-    items[2] = it.a;
-    items[3] = it.b;
-}
-
-// The item of a List or Struct at the front of the words.
-pub fn put_header(items: &mut [u64], name: u64, tag: u64, members: u64, span: u64)
-    requires { item_words ≤ length items.old }
-    ensures { items.new ≡ words_of (header name tag members span) ++ drop item_words items.old }
-{
-    put(
-        items,
-        Item {
-            name,
-            tag,
-            a: members,
-            b: span,
-        },
-    );
-}
-
-// ---- items by place
-
-// The word k of the item i, and 0 past the end.
-fn word_at(items: &[u64], i: usize, k: usize) -> u64
-    ensures { result ≡ get_or items.now (i * item_words + k) 0 }
-{
-    let n = items.len();
-    if i > n / ITEM_WORDS {
-        return 0;
-    }
-    let at = i * ITEM_WORDS;
-    if k < n - at {
-        return items[at + k];
-    }
-    0
-}
-
-// The item i, its words past the end 0.
-fn item_at(items: &[u64], i: usize) -> Item
-    ensures { result ≡ item_at items.now i }
-{
-    if i < items.len() / ITEM_WORDS {
-        let at = i * ITEM_WORDS;
-        return Item {
-            name: items[at],
-            tag: items[at + 1],
-            a: items[at + 2],
-            b: items[at + 3],
-        };
-    }
-    Item {
-        name: word_at(items, i, 0),
-        tag: word_at(items, i, 1),
-        a: word_at(items, i, 2),
-        b: word_at(items, i, 3),
-    }
-}
-
-// The first item of the sequence i..to, and a Null where there is none.
-pub fn fetch(items: &[u64], i: usize, to: usize) -> Item
-    ensures { result ≡ head_of (values items.now i to) }
-{
-    if i < to {
-        return item_at(items, i);
-    }
-    Item {
-        name: 0,
-        tag: TAG_NULL,
-        a: 0,
-        b: 0,
-    }
-}
-
-// Whether an item of this tag has members.
-fn holding(tag: u64) -> bool
-    ensures { result ≡ holds tag }
-{
-    if tag == TAG_LIST {
-        return true;
-    }
-    tag == TAG_STRUCT
-}
-
-fn span_of(it: Item) -> u64
-    ensures { result ≡ span_of it }
-{
-    if holding(it.tag) {
-        return it.b;
-    }
-    1
-}
-
-// Where the first item of the sequence i..to ends.
-pub fn item_end(items: &[u64], i: usize, to: usize) -> usize
-    ensures { result ≡ end_of (span_of (head_of (values items.now i to))) i to }
-{
-    end_of(span_of(fetch(items, i, to)), i, to)
-}
-
 // Where the members of an item at i begin, if it ends at `end`.
 pub fn after(i: usize, end: usize) -> usize
     ensures { result ≡ min end (i + 1) }
@@ -165,174 +29,267 @@ pub fn after(i: usize, end: usize) -> usize
     if i < end { i + 1 } else { end }
 }
 
-// The place of the first item of a name in the sequence from..to, and `to` where there is none.
-pub fn find(items: &[u64], name: u64, from: usize, to: usize) -> usize
-    ensures { (result ≡ place_of items.now name from to) × (lookup name (values items.now from to) ≡ values items.now result to) }
-{
-    let mut i = from;
-    while i < to {
-        let it = fetch(items, i, to);
-        if it.name == name {
-            return i;
-        }
-        i = end_of(span_of(it), i, to);
-    }
-    to
-}
-
-// ---- question 11
-
-fn null_ok(a: u64, b: u64) -> bool
-    ensures { result ≡ null_ok a b }
-{
-    if a != 0 {
-        return false;
-    }
-    b == 0
-}
-
 // Whether a text of length b from a on is inside the buffer.
 pub fn text_ok(text: usize, a: u64, b: u64) -> bool
     ensures { result ≡ text_ok text a b }
 {
-    let n = text as u64;
-    if a > n {
-        return false;
-    }
-    b <= n - a
+    a <= text as u64 && b <= text as u64 - a
 }
 
-fn decimal_ok(a: u64, b: u64) -> bool
-    ensures { result ≡ decimal_ok a b }
-{
-    if size_of(a) >= LIMIT {
-        return false;
-    }
-    b <= 18
+// An item of a value list: its name, its tag, and two words.
+#[derive(Clone, Copy)]
+pub struct Item {
+    pub name: u64,
+    pub tag: u64,
+    pub a: u64,
+    pub b: u64,
 }
 
-fn bool_ok(a: u64, b: u64) -> bool
-    ensures { result ≡ bool_ok a b }
-{
-    if a > 1 {
-        return false;
-    }
-    b == 0
-}
-
-// Whether an item is a lawful scalar.
-pub fn scalar_ok(it: Item, text: usize) -> bool
-    ensures { result ≡ scalar_ok text it }
-{
-    let tag = it.tag;
-    match tag {
-        TAG_NULL => null_ok(it.a, it.b),
-        TAG_TEXT => text_ok(text, it.a, it.b),
-        TAG_INT => it.b == 0,
-        TAG_DECIMAL => decimal_ok(it.a, it.b),
-        TAG_FLOAT => it.b == 0,
-        TAG_BOOL => bool_ok(it.a, it.b),
-        _ => false,
-    }
-}
-
-fn name_ok(in_list: bool, name: u64) -> bool
-    ensures { result ≡ name_ok in_list name }
-{
-    if in_list {
-        return name == ELEMENT;
-    }
-    name <= 65535
-}
-
-// Whether an item is a List or Struct of so many members, and so many items below it.
-fn holder_ok(it: Item, members: u64, below: u64) -> bool
-    ensures { result ≡ holder_ok it members below }
-{
-    if !holding(it.tag) {
-        return false;
-    }
-    if it.a != members {
-        return false;
-    }
-    if it.b == 0 {
-        return false;
-    }
-    it.b - 1 == below
-}
-
-fn item_ok(text: usize, in_list: bool, it: Item, members: u64, below: u64) -> bool
-    ensures { result ≡ item_ok text in_list it members below }
-{
-    if !name_ok(in_list, it.name) {
-        return false;
-    }
-    if scalar_ok(it, text) {
-        return true;
-    }
-    holder_ok(it, members, below)
-}
-
-fn is_list(tag: u64) -> bool
-    ensures { result ≡ eqb tag tag_list }
-{
-    tag == TAG_LIST
-}
-
-// How many items the sequence lo..hi has at its own level.
-pub fn members(items: &[u64], lo: usize, hi: usize) -> u64
-    ensures { result ≡ count (values items.now lo hi) }
-{
-    let mut i = lo;
-    let mut n: u64 = 0;
-    while i < hi {
-        i = item_end(items, i, hi);
-        n = n + 1;
-    }
-    n
-}
-
-// Whether the sequence lo..hi is lawful, in at most so many levels.
-fn checked(items: &[u64], text: usize, lo: usize, hi: usize, levels: usize, in_list: bool) -> bool
-    ensures { result ≡ list_ok text in_list levels (values items.now lo hi) }
-{
-    let mut i = lo;
-    while i < hi {
-        if levels == 0 {
-            return false;
+impl Item {
+    // The item of a scalar.
+    pub fn of_scalar(name: u64, v: Scalar) -> Item
+        ensures { result ≡ item_of name v }
+    {
+        let w = words_of(v);
+        Item {
+            name,
+            tag: w.tag,
+            a: w.a,
+            b: w.b,
         }
-        let it = fetch(items, i, hi);
-        if !holding(it.tag) {
-            if !item_ok(text, in_list, it, 0, 0) {
+    }
+
+    // The item of a List or Struct of so many members, its span itself counted.
+    pub fn header(name: u64, tag: Tag, members: u64, span: u64) -> Item
+        ensures { result ≡ header name (word_of_tag tag) members span }
+    {
+        Item {
+            name,
+            tag: tag.into(),
+            a: members,
+            b: span,
+        }
+    }
+
+    // An item at the front of the words.
+    pub fn put(self, items: &mut [u64])
+        requires { item_words ≤ length items.old }
+        ensures { items.new ≡ words_of self ++ drop item_words items.old }
+    {
+        items[0] = self.name;
+        items[1] = self.tag;
+        items[2] = self.a;
+        items[3] = self.b;
+    }
+
+    // The scalar of an item.
+    pub fn scalar(self) -> Scalar
+        ensures { result ≡ scalar_in self }
+    {
+        item_scalar(self.tag, self.a, self.b)
+    }
+
+    // The bytes of a Text in its text buffer; no other item has any.
+    pub fn text_in<'a>(self, text: &'a [u8]) -> &'a [u8]
+        ensures { result.now ≡ text_of text.now self }
+    {
+        if !Tag::Text.is(self.tag) {
+            return &text[..0];
+        }
+        let start = self.a.min(text.len() as u64) as usize;
+        let rest = &text[start..];
+        let count = self.b.min(rest.len() as u64) as usize;
+        &rest[..count]
+    }
+
+    // Whether an item of this tag has members.
+    fn has_members(self) -> bool
+        ensures { result ≡ holds self.tag }
+    {
+        Tag::List.is(self.tag) || Tag::Struct.is(self.tag)
+    }
+
+    fn span(self) -> u64
+        ensures { result ≡ span_of self }
+    {
+        if self.has_members() { self.b } else { 1 }
+    }
+
+    // Whether an item is a lawful scalar, its text standing in so many bytes.
+    #[tactic(auto, unfolding(crate::specs::Items::scalar_ok))]
+    pub fn is_lawful_scalar(self, text: usize) -> bool
+        ensures { result ≡ scalar_ok text self }
+    {
+        match Tag::try_from(self.tag) {
+            Ok(Tag::Null) => self.a == 0 && self.b == 0,
+            Ok(Tag::Text) => text_ok(text, self.a, self.b),
+            Ok(Tag::Int | Tag::Float) => self.b == 0,
+            Ok(Tag::Decimal) => size_of(self.a) < LIMIT && self.b <= 18,
+            Ok(Tag::Bool) => self.a <= 1 && self.b == 0,
+            _ => false,
+        }
+    }
+
+    // Whether an item is a List or Struct of so many members, and so many items below it.
+    #[tactic(auto, unfolding(crate::specs::Items::holder_ok))]
+    fn is_holder(self, members: u64, below: u64) -> bool
+        ensures { result ≡ holder_ok self members below }
+    {
+        self.has_members() && self.a == members && self.b != 0 && self.b - 1 == below
+    }
+
+    // Whether an item is lawful where it stands.
+    #[tactic(auto, unfolding(crate::specs::Items::item_ok))]
+    fn is_lawful(self, text: usize, in_list: bool, members: u64, below: u64) -> bool
+        ensures { result ≡ item_ok text in_list self members below }
+    {
+        let named = if in_list {
+            self.name == ELEMENT
+        } else {
+            self.name <= 65535
+        };
+        named && (self.is_lawful_scalar(text) || self.is_holder(members, below))
+    }
+}
+
+// A value list: its item words and its text bytes, lent.
+#[derive(Clone, Copy)]
+pub struct ValueList<'a> {
+    pub items: &'a [u64],
+    pub text: &'a [u8],
+}
+
+impl<'a> ValueList<'a> {
+    pub fn item_count(&self) -> usize
+        ensures { result ≡ length self.now.items.now / item_words }
+    {
+        item_count(self.items.len())
+    }
+
+    // The word k of the item i, and 0 past the end.
+    fn word_at(&self, i: usize, k: usize) -> u64
+        ensures { result ≡ get_or self.now.items.now (i * item_words + k) 0 }
+    {
+        if i <= self.item_count() && k < self.items.len() - i * ITEM_WORDS {
+            self.items[i * ITEM_WORDS + k]
+        } else {
+            0
+        }
+    }
+
+    // The item i, its words past the end 0.
+    fn item_at(&self, i: usize) -> Item
+        ensures { result ≡ item_at self.now.items.now i }
+    {
+        if i < self.item_count() {
+            let at = i * ITEM_WORDS;
+            Item {
+                name: self.items[at],
+                tag: self.items[at + 1],
+                a: self.items[at + 2],
+                b: self.items[at + 3],
+            }
+        } else {
+            Item {
+                name: self.word_at(i, 0),
+                tag: self.word_at(i, 1),
+                a: self.word_at(i, 2),
+                b: self.word_at(i, 3),
+            }
+        }
+    }
+
+    // The first item of the sequence i..to, and a Null where there is none.
+    pub fn fetch(&self, i: usize, to: usize) -> Item
+        ensures { result ≡ head_of (values self.now.items.now i to) }
+    {
+        if i < to {
+            self.item_at(i)
+        } else {
+            Item::of_scalar(0, Scalar::Null)
+        }
+    }
+
+    // Where the first item of the sequence i..to ends.
+    pub fn item_end(&self, i: usize, to: usize) -> usize
+        ensures { result ≡ end_of (span_of (head_of (values self.now.items.now i to))) i to }
+    {
+        end_of(self.fetch(i, to).span(), i, to)
+    }
+
+    // The place of the first item of a name in the sequence from..to, and `to` where there is none. The step is a span, so no `for`.
+    pub fn find(&self, name: u64, from: usize, to: usize) -> usize
+        ensures place { result ≡ place_of self.now.items.now name from to }
+        ensures found { lookup name (values self.now.items.now from to) ≡ values self.now.items.now result to }
+    {
+        let mut i = from;
+        while i < to {
+            let it = self.fetch(i, to);
+            if it.name == name {
+                return i;
+            }
+            i = end_of(it.span(), i, to);
+        }
+        to
+    }
+
+    // How many items the sequence lo..hi has at its own level. The step is a span, so no `for`.
+    pub fn members(&self, lo: usize, hi: usize) -> u64
+        ensures { result ≡ count (values self.now.items.now lo hi) }
+    {
+        let mut i = lo;
+        let mut n: u64 = 0;
+        while i < hi {
+            i = self.item_end(i, hi);
+            n += 1;
+        }
+        n
+    }
+
+    // Whether the sequence lo..hi is lawful, in at most so many levels. The step is a span, so no `for`.
+    fn is_lawful(&self, lo: usize, hi: usize, levels: usize, in_list: bool) -> bool
+        ensures { result ≡ list_ok (length self.now.text.now) in_list levels (values self.now.items.now lo hi) }
+    {
+        let mut i = lo;
+        while i < hi {
+            if levels == 0 {
                 return false;
             }
-            i += 1;
-            continue;
-        }
-        let end = end_of(span_of(it), i, hi);
-        let below = (end - i - 1) as u64;
-        let n = members(items, i + 1, end);
-        if !item_ok(text, in_list, it, n, below) {
-            return false;
-        }
-        if end == i + 1 {
+            let it = self.fetch(i, hi);
+            if !it.has_members() {
+                if !it.is_lawful(self.text.len(), in_list, 0, 0) {
+                    return false;
+                }
+                i += 1;
+                continue;
+            }
+            let end = end_of(it.span(), i, hi);
+            let below = (end - i - 1) as u64;
+            let n = self.members(i + 1, end);
+            if !it.is_lawful(self.text.len(), in_list, n, below) {
+                return false;
+            }
+            if end == i + 1 {
+                i = end;
+                continue;
+            }
+            if !self.is_lawful(i + 1, end, levels - 1, Tag::List.is(it.tag)) {
+                return false;
+            }
             i = end;
-            continue;
         }
-        if !checked(items, text, i + 1, end, levels - 1, is_list(it.tag)) {
-            return false;
-        }
-        i = end;
+        true
     }
-    true
-}
 
-// Whether a value list is well formed, its texts standing in this buffer.
-pub fn check_items(items: &[u64], text: &[u8]) -> bool
-    ensures { result ≡ well_formed items.now (length text.now) }
-{
-    if items.len() % ITEM_WORDS != 0 {
-        return false;
+    // Question 11: whether the value list is well formed.
+    #[tactic(auto, unfolding(crate::specs::Items::well_formed))]
+    pub fn check(&self) -> Result<(), Refusal>
+        ensures { number_in result ≡ cond (well_formed self.now.items.now (length self.now.text.now)) 0 11 }
+    {
+        if self.items.len() % ITEM_WORDS == 0 && self.is_lawful(0, self.item_count(), 16, false) {
+            Ok(())
+        } else {
+            Err(Refusal::IllFormedList)
+        }
     }
-    checked(items, text.len(), 0, items.len() / ITEM_WORDS, 16, false)
 }

@@ -1,13 +1,13 @@
 -- Laws of the loops over a layout's entries.
 use mathlib.Core.Path.{◌≡◌, refl, sym, ap, ◌∙◌}
 use mathlib.Core.Bool.{Bool, true, false, ◌&&◌, ◌||◌, not, cond, and-false}
-use mathlib.Core.List.{List, [], ◌∷◌}
+use mathlib.Core.List.{List}
 use Prim.Native.Nat.{ℕ, zero, suc, ◌+◌, ◌*◌, ◌<◌, ◌≤◌, max}
 use native.Mathlib.Omega.{arith}
 use native.Mathlib.Numerals.{add-one}
 use native.Mathlib.Nat.{mul-le-mul_left, le_trans}
 use lib.Dec.{eqb, leb, ltb}
-use borrow.Author.Tests.{ltb-true, ltb-false, eq-eqb, ne_eqb, le-leb, lt-leb, eqb-true, eqb-false, leb-true}
+use borrow.Author.Tests.{ltb-true, ltb-false, eq-eqb, ne_eqb, le-leb, eqb-true, eqb-false, leb-true}
 use Rattle.layout.specs.declared.Entry.{Entry}
 use Rattle.lists.proofs.Logic.{or-true}
 use Rattle.spans.specs.Tree.{end_of}
@@ -65,12 +65,9 @@ product_small a b ha hb =
     let h : b ≤ 4294967295 = omega arith in
     le_trans (mul-le-mul_left a h) (omega arith)
 
-pub product-fits : (a b : ℕ) → a < 4294967296 → b < 4294967296 → a * b < 18446744073709551616
-product-fits a b ha hb = omega (arith, product_small a b ha hb)
-
-pub reserved-small : (e : Entry) → e.width < 4294967296 → e.occurs < 4294967296 → reserved_width e ≤ 18446744065119617025
+pub reserved_small : (e : Entry) → e.width < 4294967296 → e.occurs < 4294967296 → reserved_width e ≤ 18446744065119617025
 unfolding reserved_width
-reserved-small e hw ho = go (eqb e.depending absent) (eqb e.occurs absent)
+reserved_small e hw ho = go (eqb e.depending absent) (eqb e.occurs absent)
   where
     go : (x y : Bool) → cond (not x) 0 (e.width * cond y 1 e.occurs) ≤ 18446744065119617025
     go false y = omega arith
@@ -110,33 +107,9 @@ module _ (l : List ℕ) (i : ℕ) where
     depends-next h f = some_next (λ j. present (entry_at l j).depending) i h
         (ap (λ x. present x.depending) (sym p) ∙ ap not (eq-eqb e.depending absent f))
 
-pub length-starts : (n : ℕ) → n ≡ max 0 n
-length-starts n = omega arith
-
 pub length-is : (l : List ℕ) (i far : ℕ) → entry_count l ≤ i → furthest (part l 0 (entry_count l)) ≡ max far (furthest (part l i (entry_count l))) → far ≡ record_length l
 unfolding record_length
 length-is l i far h p = sym (p ∙ furthest-end l i (entry_count l) h far)
-
--- one entry is a layout of its own
-pub alone : (e : Entry) (masks : ℕ) → entries_ok (e.name ∷ e.offset ∷ e.width ∷ e.kind ∷ e.occurs ∷ e.depending ∷ e.span ∷ e.p ∷ e.q ∷ e.r ∷ e.s ∷ e.mask ∷ []) masks ≡ entry_ok e masks
-unfolding entries_ok all_below entry_at
-alone e masks = refl
-
--- ---- the questions that reader and writer ask first
-
-module _ (l masks : List ℕ) (page work : ℕ) (c : ℕ) (p : c ≡ checked_of l masks page) where
-  pub asks-unlawful : (c ≡ 0 → ⊥) → c ≡ layout_asks l masks page work
-  unfolding layout_asks
-  asks-unlawful n = rw (← p, ne_eqb c 0 n) refl
-
-  module _ (z : c ≡ 0) where
-    pub asks-work : work < work_for l → 16 ≡ layout_asks l masks page work
-    unfolding layout_asks
-    asks-work h = rw (← p, eq-eqb c 0 z, lt-leb (work_for l) work h) refl
-
-    pub asks_nothing : work_for l ≤ work → 0 ≡ layout_asks l masks page work
-    unfolding layout_asks
-    asks_nothing h = rw (← p, eq-eqb c 0 z, le-leb (work_for l) work h) refl
 
 -- a layout of which nothing is asked is lawful, and has its work space
 pub asked-lawful : (l masks : List ℕ) (page work : ℕ) → layout_asks l masks page work ≡ 0 → (checked_of l masks page ≡ 0) × (work_for l ≤ work)

@@ -1,5 +1,5 @@
 -- One turn of the walk of the tree, and what it does to the stack of names.
-use mathlib.Core.Path.{◌≡◌, refl, sym, ap, ap₂, ◌∙◌}
+use mathlib.Core.Path.{◌≡◌, refl, sym, ap, ap₂, subst, ◌∙◌}
 use mathlib.Core.Bool.{Bool, true, false, ◌&&◌, ◌||◌, not, cond, false≢true}
 use mathlib.Core.List.{List, [], ◌∷◌, ◌++◌, append-nil}
 use Prim.Native.Nat.{ℕ, ◌+◌, ◌-◌, ◌≤◌, ◌<◌}
@@ -14,7 +14,7 @@ use Rattle.spans.specs.Tree.{Tree, none, node, size, end_of}
 use Rattle.spans.proofs.Tree.{tree-none, tree-at, size-tree}
 use Rattle.walks.specs.Plain.{is_in, pad_ok, width_ok, group_ok, each_ok, in_order, offers, controlled}
 use Rattle.plain.specs.Ways.{own_ok, tree_ok, Grown, Walked}
-use Rattle.plain.specs.declared.Step.{Step}
+use Rattle.std.specs.Prelude.{Option, Some, None, is_some}
 
 -- ---- the clauses in the order of the walk
 
@@ -192,19 +192,21 @@ regroup false false true = refl
 regroup false false false = refl
 
 module _ (l : List ℕ) (lo hi top₀ : ℕ) (known₀ : List ℕ) (i from top : ℕ) (known : List ℕ) (v : Inv l lo hi top₀ known₀ i from top known) where
-  pub ends : hi ≤ i → Walked (part l lo hi) top₀ known₀ (record { fine = true; top = top }) known
+  pub ends : hi ≤ i → Walked (part l lo hi) top₀ known₀ (Some top) known
   unfolding tree_ok each_ok in_order controlled offers
   ends h =
       let n : part l i hi ≡ none = tree-none (entry_at l) span_of i hi h in
       let s : size (part l lo hi) ≡ hi - lo = size-tree (entry_at l) span_of lo hi in
       record {
         answer = sym (v.whole ∙ ap (tree_ok from (take top known)) n);
-        grown = λ _. record {
-          kept = v.kept;
-          known = λ x. sym (v.names x ∙ ap (λ t. is_in x (offers t ++ take top known)) n);
-          above = v.above;
-          below = omega (arith, v.below);
-        };
+        grown = λ top' r.
+            let same : top' ≡ top = cc in
+            subst (λ (t : ℕ). Grown (part l lo hi) top₀ known₀ t known) (sym same) record {
+              kept = v.kept;
+              known = λ x. sym (v.names x ∙ ap (λ t. is_in x (offers t ++ take top known)) n);
+              above = v.above;
+              below = omega (arith, v.below);
+            };
       }
 
   module _ (e : Entry) (en : ℕ) (h : i < hi) (p : e ≡ entry_at l i) (q : en ≡ end_of e.span i hi) where
@@ -221,36 +223,36 @@ module _ (l : List ℕ) (lo hi top₀ : ℕ) (known₀ : List ℕ) (i from top :
         && tree_ok (e.offset + reserved_width e) (offers (node e ms none) ++ take top known) rest)
     turn = v.whole ∙ ap (tree_ok from (take top known)) tree_is ∙ clauses from (take top known) e ms rest
 
-    fails : {r : Bool} → r ≡ false → tree_ok 0 (take top₀ known₀) (part l lo hi) ≡ false → (any : ℕ) (known' : List ℕ) → Walked (part l lo hi) top₀ known₀ (record { fine = r; top = any }) known'
-    fails f n any known' = record { answer = f ∙ sym n; grown = λ t. absurd (false≢true (sym f ∙ t)) }
+    fails : tree_ok 0 (take top₀ known₀) (part l lo hi) ≡ false → (known' : List ℕ) → Walked (part l lo hi) top₀ known₀ None known'
+    fails n known' = record { answer = sym n; grown = λ t r. absurd (cc (r)) }
 
     module _ (b : Bool) (o : b ≡ own_ok from (take top known) e ms) where
-      pub own-fails : b ≡ false → (any : ℕ) (known' : List ℕ) → Walked (part l lo hi) top₀ known₀ (record { fine = false; top = any }) known'
-      own-fails f any known' = fails refl (turn ∙ ap (λ c. c && tree_ok 0 (take top known) ms && tree_ok (e.offset + reserved_width e) (offers (node e ms none) ++ take top known) rest) (sym o ∙ f)) any known'
+      pub own-fails : b ≡ false → (known' : List ℕ) → Walked (part l lo hi) top₀ known₀ None known'
+      own-fails f known' = fails (turn ∙ ap (λ c. c && tree_ok 0 (take top known) ms && tree_ok (e.offset + reserved_width e) (offers (node e ms none) ++ take top known) rest) (sym o ∙ f)) known'
 
-      module _ (t : b ≡ true) (s : Step) (known₁ : List ℕ) (w : Walked ms top known s known₁) where
-        pub inner-fails : s.fine ≡ false → (any : ℕ) (known' : List ℕ) → Walked (part l lo hi) top₀ known₀ (record { fine = false; top = any }) known'
-        inner-fails f any known' =
-            fails refl (turn ∙ ap₂ (λ c d. c && d && tree_ok (e.offset + reserved_width e) (offers (node e ms none) ++ take top known) rest) (sym o ∙ t) (sym w.answer ∙ f)) any known'
+      module _ (t : b ≡ true) (s : Option ℕ) (known₁ : List ℕ) (w : Walked ms top known s known₁) where
+        pub inner-fails : s ≡ None → (known' : List ℕ) → Walked (part l lo hi) top₀ known₀ None known'
+        inner-fails f known' =
+            fails (turn ∙ ap₂ (λ c d. c && d && tree_ok (e.offset + reserved_width e) (offers (node e ms none) ++ take top known) rest) (sym o ∙ t) (sym w.answer ∙ ap is_some f)) known'
 
-        pub room-left : s.fine ≡ true → length known₁ ≡ length known → (held : ℕ) → held ≡ cond (unrepeated e) s.top top → top₀ + (hi - lo) ≤ length known₀ → held < length known₁
-        room-left f len held a enough =
+        pub room-left : (inner : ℕ) → s ≡ Some inner → length known₁ ≡ length known → (held : ℕ) → held ≡ cond (unrepeated e) inner top → top₀ + (hi - lo) ≤ length known₀ → held < length known₁
+        room-left inner f len held a enough =
             let n : size ms ≡ en - (i + 1) = size-tree (entry_at l) span_of (i + 1) en in
-            let y = held_below e ms top known s.top known₁ (w.grown f) held a in
+            let y = held_below e ms top known inner known₁ (w.grown inner f) held a in
             omega (arith, v.below, v.same)
 
-        module _ (f : s.fine ≡ true) (len : length known₁ ≡ length known) (held top' : ℕ) (known₂ : List ℕ) (a : held ≡ cond (unrepeated e) s.top top)
+        module _ (inner : ℕ) (f : s ≡ Some inner) (len : length known₁ ≡ length known) (held top' : ℕ) (known₂ : List ℕ) (a : held ≡ cond (unrepeated e) inner top)
             (c : top' ≡ cond (controls e) (held + 1) held) (d : known₂ ≡ cond (controls e) (set known₁ held e.name) known₁) (len' : length known₂ ≡ length known₁)
             (room : held < length known₁) (from' : ℕ) (z : from' ≡ e.offset + reserved_width e) where
-          g : Grown ms top known s.top known₁
-          g = w.grown f
+          g : Grown ms top known inner known₁
+          g = w.grown inner f
 
           whole_is : tree_ok 0 (take top₀ known₀) (part l lo hi) ≡ tree_ok from' (take top' known₂) rest
           whole_is =
-              turn ∙ ap₂ (λ c d. c && d && tree_ok (e.offset + reserved_width e) (offers (node e ms none) ++ take top known) rest) (sym o ∙ t) (sym w.answer ∙ f)
+              turn ∙ ap₂ (λ c d. c && d && tree_ok (e.offset + reserved_width e) (offers (node e ms none) ++ take top known) rest) (sym o ∙ t) (sym w.answer ∙ ap is_some f)
               ∙ ap (λ n. tree_ok n (offers (node e ms none) ++ take top known) rest) (sym z)
               ∙ sym (tree-same from' rest (take top' known₂) (offers (node e ms none) ++ take top known)
-              (behind-known e ms top known s.top known₁ g held a top' known₂ c d room))
+              (behind-known e ms top known inner known₁ g held a top' known₂ c d room))
 
           names-are : (x : ℕ) → is_in x (offers (part l lo hi) ++ take top₀ known₀) ≡ is_in x (offers rest ++ take top' known₂)
           unfolding offers
@@ -259,22 +261,22 @@ module _ (l : List ℕ) (lo hi top₀ : ℕ) (known₀ : List ℕ) (i from top :
               ∙ in-append x (A ++ offers rest) (take top known) ∙ ap (λ b. b || is_in x (take top known)) (in-append x A (offers rest))
               ∙ regroup (is_in x A) (is_in x (offers rest)) (is_in x (take top known))
               ∙ ap (λ b. is_in x (offers rest) || (b || is_in x (take top known))) (sym (in-append x A []))
-              ∙ ap (λ b. is_in x (offers rest) || b) (sym (in-append x (A ++ []) (take top known)) ∙ sym (behind-known e ms top known s.top known₁ g held a top' known₂ c d room x))
+              ∙ ap (λ b. is_in x (offers rest) || b) (sym (in-append x (A ++ []) (take top known)) ∙ sym (behind-known e ms top known inner known₁ g held a top' known₂ c d room x))
               ∙ sym (in-append x (offers rest) (take top' known₂))
             where
               A : List ℕ
               A = cond (controls e) (e.name ∷ []) [] ++ cond (unrepeated e) (offers ms) []
 
           front : take top₀ known₂ ≡ take top₀ known
-          front = sym (take-take top₀ top known₂ v.above) ∙ ap (take top₀) (behind-kept e ms top known s.top known₁ g held a top' known₂ c d room) ∙ take-take top₀ top known v.above
+          front = sym (take-take top₀ top known₂ v.above) ∙ ap (take top₀) (behind-kept e ms top known inner known₁ g held a top' known₂ c d room) ∙ take-take top₀ top known v.above
 
           pub goes_on : Inv l lo hi top₀ known₀ en from' top' known₂
           goes_on =
               let n : size ms ≡ en - (i + 1) = size-tree (entry_at l) span_of (i + 1) en in
-              let u = held-above e ms top known s.top known₁ g held a in
-              let y = held_below e ms top known s.top known₁ g held a in
-              let u' = top_above e ms top known s.top known₁ g held a top' known₂ c d room in
-              let y' = top_below e ms top known s.top known₁ g held a top' known₂ c d room in
+              let u = held-above e ms top known inner known₁ g held a in
+              let y = held_below e ms top known inner known₁ g held a in
+              let u' = top_above e ms top known inner known₁ g held a top' known₂ c d room in
+              let y' = top_below e ms top known inner known₁ g held a top' known₂ c d room in
               record {
                 past = omega (arith, v.past);
                 whole = whole_is;

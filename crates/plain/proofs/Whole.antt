@@ -5,26 +5,26 @@ use mathlib.Core.List.{List}
 use Prim.Native.Nat.{ℕ, ◌+◌, ◌-◌, ◌≤◌}
 use native.Mathlib.Omega.{arith}
 use borrow.Author.Tests.{eq-eqb, ne_eqb}
+use Rattle.std.specs.Prelude.{Option, is_some}
 use Rattle.layout.specs.Layout.{entry_count, entries, checked_of}
 use Rattle.layout.proofs.Lawful.{few-entries}
 use Rattle.walks.specs.Plain.{names_of, distinct, plain}
-use Rattle.plain.specs.declared.Step.{Step}
 use Rattle.plain.specs.Ways.{tree_ok, Walked}
 
-module _ (l masks : List ℕ) (page n : ℕ) (p : n ≡ checked_of l masks page) where
-  pub unlawful : (n ≡ 0 → ⊥) → false ≡ plain l masks page
+module _ (l masks : List ℕ) (page : ℕ) where
+  pub unlawful : (checked_of l masks page ≡ 0 → ⊥) → false ≡ plain l masks page
   unfolding plain
-  unlawful f = rw (ne_eqb (checked_of l masks page) 0 (λ z. f (p ∙ z))) refl
+  unlawful f = rw (ne_eqb (checked_of l masks page) 0 f) refl
 
-  module _ (z : n ≡ 0) where
+  module _ (z : checked_of l masks page ≡ 0) where
     pub room : 0 + (entry_count l - 0) ≤ 512
-    room = omega (arith, few-entries l masks page (sym p ∙ z))
+    room = omega (arith, few-entries l masks page z)
 
     module _ {b : Bool} (q : b ≡ distinct (names_of (entries l))) where
       pub name-twice : b ≡ false → false ≡ plain l masks page
       unfolding plain
-      name-twice f = rw (eq-eqb (checked_of l masks page) 0 (sym p ∙ z), sym q ∙ f) refl
+      name-twice f = rw (eq-eqb (checked_of l masks page) 0 z, sym q ∙ f) refl
 
-      pub decided : b ≡ true → (known : List ℕ) (s : Step) (known' : List ℕ) → Walked (entries l) 0 known s known' → s.fine ≡ plain l masks page
+      pub decided : b ≡ true → (known : List ℕ) (s : Option ℕ) (known' : List ℕ) → Walked (entries l) 0 known s known' → is_some s ≡ plain l masks page
       unfolding plain tree_ok
-      decided t known s known' w = rw (eq-eqb (checked_of l masks page) 0 (sym p ∙ z), sym q ∙ t) w.answer
+      decided t known s known' w = rw (eq-eqb (checked_of l masks page) 0 z, sym q ∙ t) w.answer

@@ -1,10 +1,9 @@
 -- How the code goes through a layout to decide whether it is plain: names by index; the other clauses by the tree, with the controllers that stand earlier as a stack.
-use Rattle.std.specs.Prelude.{◌≡◌, Bool, true, ◌&&◌, ◌||◌, not, List, [], ◌∷◌, ◌++◌, ℕ, zero, suc, ◌+◌, ◌≤◌, leb, take}
+use Rattle.std.specs.Prelude.{◌≡◌, Option, Some, is_some, Bool, ◌&&◌, ◌||◌, not, List, [], ◌∷◌, ◌++◌, ℕ, zero, suc, ◌+◌, ◌≤◌, leb, take}
 use Rattle.layout.specs.declared.Entry.{Entry}
 use Rattle.layout.specs.Layout.{entry_at, present}
 use Rattle.spans.specs.Tree.{Tree, size}
 use Rattle.walks.specs.Plain.{is_in, pad_ok, width_ok, group_ok, each_ok, in_order, offers, controlled}
-use Rattle.plain.specs.declared.Step.{Step}
 
 -- the names of so many entries from the i-th on
 unfoldable pub names_from : List ℕ → ℕ → ℕ → List ℕ
@@ -27,6 +26,6 @@ pub record Grown (t : Tree Entry) (top : ℕ) (before : List ℕ) (top' : ℕ) (
   pub above : top ≤ top'
   pub below : top' ≤ top + size t
 
-pub record Walked (t : Tree Entry) (top : ℕ) (before : List ℕ) (r : Step) (behind : List ℕ) : Type 0 where
-  pub answer : r.fine ≡ tree_ok 0 (take top before) t
-  pub grown : r.fine ≡ true → Grown t top before r.top behind
+pub record Walked (t : Tree Entry) (top : ℕ) (before : List ℕ) (r : Option ℕ) (behind : List ℕ) : Type 0 where
+  pub answer : is_some r ≡ tree_ok 0 (take top before) t
+  pub grown : (top' : ℕ) → r ≡ Some top' → Grown t top before top' behind

@@ -9,14 +9,10 @@ ghost use Rattle.spans.specs.Tree.{end_of, span_ok};
 pub fn end_of(span: u64, i: usize, hi: usize) -> usize
     ensures { result ≡ end_of span i hi }
 {
-    if hi <= i {
+    if hi <= i || span >= (hi - i) as u64 {
         hi
-    } else if span == 0 {
-        i + 1
-    } else if span < (hi - i) as u64 {
-        i + span as usize
     } else {
-        hi
+        i + span.max(1) as usize
     }
 }
 
@@ -24,15 +20,5 @@ pub fn end_of(span: u64, i: usize, hi: usize) -> usize
 pub fn span_ok(span: u32, may: bool, n: usize) -> bool
     ensures { result ≡ span_ok span may n }
 {
-    let below = n as u64;
-    if span == 0 {
-        return false;
-    }
-    if span as u64 - 1 != below {
-        return false;
-    }
-    if may {
-        return true;
-    }
-    n == 0
+    span != 0 && span as u64 - 1 == n as u64 && (may || n == 0)
 }

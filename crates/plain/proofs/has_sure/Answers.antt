@@ -1,24 +1,15 @@
-use mathlib.Core.Path.{refl, sym, ◌∙◌}
-use native.Mathlib.Omega.{arith}
+-- `has_sure` meets its contract: a law of Clauses for each way through the loop.
+use Rattle.std.proofs.Common.{sym, ◌∙◌}
 use Rattle.plain.proofs.Clauses.{sure-end, sure-here, sure_next}
 use Rattle.plain.proofs.has_sure.Goals as goal
 
-pub loop-i-init : goal.loop-i-init
-loop-i-init c = (omega arith, refl)
-
-pub returns-then-unrepeated_leaf : goal.returns-then-unrepeated_leaf
-returns-then-unrepeated_leaf c =
-    sym (c.loop-i.invariant.1 ∙ sure-here c.args.layout.now c.loop-i.i c.args.hi _ _ c.loop-i-test.true c.load-e.ensures c.unrepeated_leaf.ensures c.if-unrepeated_leaf.true)
-
-pub overflow_cast-e : goal.overflow_cast-e
-overflow_cast-e c = omega arith
-
-pub loop-i-smaller : goal.loop-i-smaller
-loop-i-smaller c = omega arith
+pub returns-then-is_unrepeated_leaf : goal.returns-then-is_unrepeated_leaf
+returns-then-is_unrepeated_leaf c =
+    sym (c.loop-i.invariant ∙ sure-here _ _ _ _ _ c.loop-i-test.true c.load-e.ensures c.is_unrepeated_leaf.ensures c.if-is_unrepeated_leaf.true)
 
 pub loop-i-preserved : goal.loop-i-preserved
 loop-i-preserved c =
-    (omega arith, c.loop-i.invariant.1 ∙ sure_next c.args.layout.now c.loop-i.i c.args.hi _ _ c.loop-i-test.true c.load-e.ensures c.unrepeated_leaf.ensures c.if-unrepeated_leaf.false _ c.end_of-i.ensures)
+    c.loop-i.invariant ∙ sure_next _ _ _ _ _ c.loop-i-test.true c.load-e.ensures c.is_unrepeated_leaf.ensures c.if-is_unrepeated_leaf.false _ c.end_of-i.ensures
 
 pub returns : goal.returns
-returns c = sym (c.loop-i.invariant.1 ∙ sure-end c.args.layout.now c.loop-i.i c.args.hi c.loop-i-test.false)
+returns c = sym (c.loop-i.invariant ∙ sure-end _ _ _ c.loop-i-test.false)

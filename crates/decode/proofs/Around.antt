@@ -19,13 +19,14 @@ use Rattle.layout.specs.Layout.{is_group, unrepeated_leaf, unrepeated}
 use Rattle.walks.specs.Reading.{Outcome, refused, read, Reader, with_header, container, one, table, field, seq}
 use Rattle.positions.specs.Positions.{sat_sum}
 use Rattle.decode_leaf.specs.declared.Out.{Out}
-use Rattle.decode_leaf.specs.declared.Count.{Count}
 use Rattle.decode_leaf.specs.Counts.{held_in}
-use Rattle.decode_leaf.specs.Machine.{Held, out, state, kept, leaf_at, bare, head_of, Listed, Counted, Fine, Met}
-use Rattle.decode_leaf.proofs.Meets.{fine}
+use Rattle.decode_leaf.specs.Machine.{Held, out, state, kept, leaf_at, bare, head_of, Listed, Fine}
 use Rattle.decode.proofs.Steps.{inside-room, table-small, table_is, table-refused, turns, counts-to, field_is, field-refused, Capped, seq-most, one-most}
 use Rattle.decode.proofs.Tail.{back}
 use Rattle.decode.proofs.Turns.{Written, tail, returned, returned-same, room-left, TurnsInv, turns-done, header_is, header-drop}
+
+pub fine-as : {o p : Outcome Held} {r : Out} {items buffer : List ℕ} {run : List ℤ} → o ≡ p → Fine p r items buffer run → Fine o r items buffer run
+fine-as q f = record { is = q ∙ f.is; within = f.within; told = f.told; few = f.few }
 
 -- ---- an entry's elements
 
@@ -53,13 +54,13 @@ module _ {once : Bool} {F : ℕ → Reader Held} {i₀ t₀ : List ℕ} {c₀ : 
   few-is true z = omega (arith, v.few)
   few-is false z = omega (arith, v.few)
 
-  pub listed-met : {o : Outcome Held} {r : Out} {after : List ℕ} → o ≡ cond (bare e) Turned (with_header e.name 6 Turned) → Listed e used members taken told₁ r items after → Met o r after text counts
-  listed-met {o} {r} {after} q w = rw (w.answer, w.is) (fine (record {
+  pub listed-met : {o : Outcome Held} {r : Out} {after : List ℕ} → o ≡ cond (bare e) Turned (with_header e.name 6 Turned) → Listed e used members taken told₁ r items after → Fine o r after text counts
+  listed-met {o} {r} {after} q w = rw (w.answer, w.is) (record {
     is = q ∙ ap (λ x. cond (bare e) x (with_header e.name 6 x)) (turns-done v h) ∙ words-is (bare e) p;
     within = length-is (bare e) p;
     told = v.fits;
     few = few-is (bare e) p;
-  }) refl)
+  })
 
 pub head-is : (e : Entry) (once : Bool) (head : ℕ) → once ≡ unrepeated e → head ≡ cond (once || eqb e.kind 6) 0 item_words → head ≡ head_of e
 head-is e once head o p = p ∙ ap (λ b. cond {A = ℕ} (b || eqb e.kind 6) 0 item_words) o
@@ -114,26 +115,23 @@ unfolding how_many
 scalars-table l page deps r e inner at room counts told text n q = field-table (kept l page (length text) deps) r e inner at room (state counts told text) n q
 
 -- a table of scalars or Pads, f reading one, by how many there are
-module _ (e : Entry) (f : Reader Held) (m : Many) (at room : ℕ) (s : Held) (c : Count) (q : Counted m c) where
-  pub scalars-never : (c.refused ≡ 0 → ⊥) → table sat_sum e f m at room s ≡ refused c.refused
-  scalars-never n = ap (λ x. table sat_sum e f x at room s) (q.refuses n).0
-
-  module _ (z : c.refused ≡ 0) (head : ℕ) (g : unrepeated e ≡ false) (p : head ≡ cond (false || eqb e.kind 6) 0 item_words) where
-    counted : table sat_sum e f m at room s ≡ table sat_sum e f (times c.n) at room s
-    counted = ap (λ x. table sat_sum e f x at room s) (q.fine z)
+module _ (e : Entry) (f : Reader Held) (m : Many) (at room : ℕ) (s : Held) where
+  module _ (n : ℕ) (q : times n ≡ m) (head : ℕ) (g : unrepeated e ≡ false) (p : head ≡ cond (false || eqb e.kind 6) 0 item_words) where
+    counted : table sat_sum e f m at room s ≡ table sat_sum e f (times n) at room s
+    counted = ap (λ x. table sat_sum e f x at room s) (sym q)
 
     headed : head ≡ head_of e
     headed = head-is e false head (sym g) p
 
     pub scalars-small : room < head → table sat_sum e f m at room s ≡ refused 16
-    scalars-small h = counted ∙ table-small e f c.n at room s head g headed h
+    scalars-small h = counted ∙ table-small e f n at room s head g headed h
 
     module _ (h : head ≤ room) where
-      pub scalars-are : table sat_sum e f m at room s ≡ cond (bare e) (turns false f c.n at (room - head) s) (with_header e.name 6 (turns false f c.n at (room - head) s))
-      scalars-are = counted ∙ table_is e f c.n at room s head g headed h
+      pub scalars-are : table sat_sum e f m at room s ≡ cond (bare e) (turns false f n at (room - head) s) (with_header e.name 6 (turns false f n at (room - head) s))
+      scalars-are = counted ∙ table_is e f n at room s head g headed h
 
-      pub scalars-refused : (n : ℕ) → turns false f c.n at (room - head) s ≡ refused n → table sat_sum e f m at room s ≡ refused n
-      scalars-refused n t = counted ∙ table-refused e f c.n at room s head g headed h n t
+      pub scalars-refused : (k : ℕ) → turns false f n at (room - head) s ≡ refused k → table sat_sum e f m at room s ≡ refused k
+      scalars-refused k t = counted ∙ table-refused e f n at room s head g headed h k t
 
 -- an element of a walk takes at most 2^63 bytes
 pub element-most : (k : Codec Held) (r : List ℕ) (e : Entry) (t : Tree Entry) (name : ℕ) (once : Bool) (at room : ℕ) (s : Held) → e.width < 4294967296
@@ -176,17 +174,17 @@ module _ (i : List ℕ) (h : item_words ≤ length i) (x : List ℕ) (same : len
 
     pub inside-done : {o : Outcome Held} {r : Out} {after text : List ℕ} {run : List ℤ} {name' : ℕ} → name' ≡ name → Fine (inner at (length (tail i item_words)) s) r x text run
         → after ≡ words_of (header name' 7 r.members ((r.used + item_words) / item_words)) ++ drop item_words (returned i item_words x) → o ≡ container name 7 inner at (length i) s
-        → Met o (out (r.used + item_words) 1 r.taken r.told) after text run
+        → Fine o (out (r.used + item_words) 1 r.taken r.told) after text run
     inside-done {o} {r} {after} {text} {run} {name'} named f p' q =
         let p : after ≡ words_of (header name 7 r.members ((r.used + item_words) / item_words)) ++ drop item_words (returned i item_words x)
         = p' ∙ ap (λ y. words_of (header y 7 r.members ((r.used + item_words) / item_words)) ++ drop item_words (returned i item_words x)) named in
         let u : r.used + item_words - item_words ≡ r.used = omega arith in
         let z : take (r.used + item_words - item_words) (drop item_words (returned i item_words x)) ≡ take r.used x = ap₂ take u behind-header in
-        fine (record {
+        record {
           is = q ∙ inside_is ∙ ap (with_header name 7) (f.is ∙ ap (λ ws. read ws r.members r.taken (state run r.told text)) (sym z))
               ∙ header_is name 7 r.members (r.used + item_words) (returned i item_words x) (omega arith) (omega (arith, used-fits f.within, header-same)) r.taken (state run r.told text)
               ∙ ap (λ ws. read (take (r.used + item_words) ws) 1 r.taken (state run r.told text)) (sym p);
           within = omega (arith, ap length p, ap length behind-header, f.within);
           told = f.told;
           few = omega arith;
-        }) refl
+        }

@@ -2,5 +2,4 @@ pub mod Steps
 pub mod Tail
 pub mod Turns
 pub mod Around
-pub mod Asks
 pub mod Public

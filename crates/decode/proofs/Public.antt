@@ -1,20 +1,19 @@
--- The whole call: what its answers and its buffers come to.
+-- The whole call: what its questions and its walk come to.
 use mathlib.Core.Path.{◌≡◌, refl, sym, ap, ap₂, ◌∙◌}
 use mathlib.Core.Bool.{Bool, true, false, ◌&&◌, ◌||◌, cond}
-use mathlib.Core.List.{List, [], ◌++◌}
-use Prim.Native.Nat.{ℕ, ◌+◌, ◌-◌, ◌≤◌}
+use mathlib.Core.List.{List, []}
+use Prim.Native.Nat.{ℕ, ◌+◌, ◌≤◌}
 use native.Mathlib.Omega.{arith}
 use lib.Dec.{leb}
 use lib.IntN.{ℤ, pos}
-use lib.ListN.{length, take, replicate}
-use lib.Seq.{length-take-le}
+use lib.ListN.{length, replicate}
 use borrow.Author.Tests.{leb-true}
 use Rattle.layout.specs.Layout.{work_for, entries, checked_of, record_length, depends_in, layout_asks}
 use Rattle.layout.proofs.Laws.{asked-lawful}
 use Rattle.walks.specs.Kinds.{State, start, kinds}
 use Rattle.walks.specs.Reading as R
 use Rattle.positions.specs.Positions.{sat_sum}
-use Rattle.walks.specs.Records.{Decoded, refused, decoded, most, outcome, decode_record, RecordRead, asking, record_asks, reader_asks}
+use Rattle.walks.specs.Records.{Decoded, refused, decoded, most, outcome, decode_record, asking, record_asks, reader_asks}
 use Rattle.walks.proofs.Asked.{asking-none, asking-some, both-passed}
 use Rattle.decode_leaf.specs.Machine.{Held, kept}
 use Rattle.decode_leaf.proofs.Stands.{stands-none}
@@ -86,34 +85,3 @@ module _ (l masks : List ℕ) (page : ℕ) (bytes : List ℕ) (items text work :
 
         pub walk-read : (ws : List ℕ) (m t : ℕ) (s : Held) → R.seq sat_sum (kept l page text deps) bytes (entries l) 0 0 items (record { run = run; text = [] }) ≡ R.read ws m t s → Whole ≡ decoded ws s.text
         walk-read ws m t s e = walk_is ∙ alike_read alike (λ t s r. r.1) ws m t s e
-
--- ---- the answers and the buffers
-
-module _ (D : Decoded) (items text : List ℕ) (counts : List ℤ) where
-  pub refused_all : (n : ℕ) → D ≡ refused n → (i t : List ℕ) → length i ≡ length items → length t ≡ length text → {is ts : List ℕ} {cs : List ℤ}
-      → is ≡ take 0 i ++ replicate (length i - 0) 0 → ts ≡ take 0 t ++ replicate (length t - 0) 0 → cs ≡ replicate (length counts) (pos 0)
-      → RecordRead D n 0 0 items is text ts counts cs
-  refused_all n e i t a b p q c = record {
-    numbered = rw e refl;
-    words_read = rw e refl;
-    text_bytes = rw e refl;
-    items_left = rw e (p ∙ ap (λ m. replicate (m - 0) 0) a);
-    text_left = rw e (q ∙ ap (λ m. replicate (m - 0) 0) b);
-    counts_left = c;
-  }
-
-  pub read_all : (i t : List ℕ) (used told : ℕ) → D ≡ decoded (take used i) (take told t) → used ≤ length i → told ≤ length t
-      → length i ≡ length items → length t ≡ length text → {is ts : List ℕ} {cs : List ℤ}
-      → is ≡ take used i ++ replicate (length i - used) 0 → ts ≡ take told t ++ replicate (length t - told) 0 → cs ≡ replicate (length counts) (pos 0)
-      → RecordRead D 0 used told items is text ts counts cs
-  read_all i t used told e g h a b p q c =
-      let u : length (take used i) ≡ used = length-take-le used i g in
-      let v : length (take told t) ≡ told = length-take-le told t h in
-      record {
-        numbered = rw e refl;
-        words_read = rw e (sym u);
-        text_bytes = rw e (sym v);
-        items_left = rw e (p ∙ ap₂ (λ m k. take used i ++ replicate (m - k) 0) a (sym u));
-        text_left = rw e (q ∙ ap₂ (λ m k. take told t ++ replicate (m - k) 0) b (sym v));
-        counts_left = c;
-      }

@@ -2,7 +2,7 @@
 use mathlib.Core.Path.{◌≡◌, refl, sym, ap, ap₂, ◌∙◌, subst}
 use mathlib.Core.Bool.{Bool, true, false, ◌||◌, ◌&&◌, not, cond}
 use mathlib.Core.List.{List, [], ◌++◌, append-nil, append_assoc}
-use Prim.Native.Nat.{ℕ, zero, suc, ◌+◌, ◌-◌, ◌*◌, ◌≤◌, ◌<◌, max}
+use Prim.Native.Nat.{ℕ, zero, suc, ◌+◌, ◌-◌, ◌≤◌, ◌<◌, max}
 use native.Mathlib.Omega.{arith}
 use lib.Dec.{eqb, leb}
 use lib.ListN.{length, take, drop}
@@ -16,16 +16,6 @@ use Rattle.walks.specs.Walk.{Many, never, times, Leaf, bad, leaf, Codec, how_man
 use Rattle.walks.specs.Reading.{Outcome, refused, read, Reader, bind, with_header, container, placed, scalar, pad, one, then_entry, then_element, elements, table, field, seq}
 use Rattle.positions.specs.Positions.{sat_sum, sat}
 use Rattle.decode_leaf.specs.Machine.{bare, head_of}
-
--- ---- the falling number of the cycle: three for each entry of the span, and the bytes left of the record
-
--- no call goes to a lower position, but for sums that stop, far behind any record's end
-pub left_behind : (bytes base off at : ℕ) → bytes ≤ 65536 → at ≡ sat (base + off) → bytes - at ≤ bytes - base
-left_behind bytes base off at h p = omega arith
-
--- from a sequence to the members of one of its entries
-pub fewer : (bytes lo hi base t i end at : ℕ) → 3 * (hi - lo) + (bytes - base) ≡ t → lo ≤ i → i < hi → end ≤ hi → bytes - at ≤ bytes - base → 3 * (end - (i + 1)) + (bytes - at) + 2 < t
-fewer bytes lo hi base t i end at m p h q l = omega arith
 
 abbrev number : Many → ℕ
 number (never n) = n
@@ -163,9 +153,9 @@ module _ {S : Type 0} where
   unfolding container
   inside-room name tag inner at room s h = rw (le-leb item_words room h) refl
 
-  pub inside-small : (name tag : ℕ) (inner : Reader S) (at room : ℕ) (s : S) → room < item_words → container name tag inner at room s ≡ refused 16
+  pub inside_small : (name tag : ℕ) (inner : Reader S) (at room : ℕ) (s : S) → room < item_words → container name tag inner at room s ≡ refused 16
   unfolding container
-  inside-small name tag inner at room s h = rw (lt-leb item_words room h) refl
+  inside_small name tag inner at room s h = rw (lt-leb item_words room h) refl
 
   both-refuse : (b : Bool) (m : ℕ) → cond {A = Outcome S} b (refused m) (refused m) ≡ refused m
   both-refuse true m = refl
@@ -195,7 +185,7 @@ module _ {S : Type 0} where
       where
         go : (c : Bool) → head ≡ cond c 0 item_words → Table c ≡ refused 16
         go true q = absurd (omega arith)
-        go false q = inside-small e.name 6 (elements sat_sum f n) at room s (omega arith)
+        go false q = inside_small e.name 6 (elements sat_sum f n) at room s (omega arith)
 
     pub table_is : head ≤ room → table sat_sum e f (times n) at room s ≡ cond (bare e) Turned (with_header e.name 6 Turned)
     table_is h = table-ways ∙ go (eqb e.kind 6) head-is ∙ ap (λ c. cond c Turned (with_header e.name 6 Turned)) (sym bare-is)

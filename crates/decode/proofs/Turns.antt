@@ -17,8 +17,7 @@ use Rattle.walks.specs.Reading.{Outcome, refused, read, Reader, with_header, the
 use Rattle.walks.proofs.Single.{single-reserves}
 use Rattle.decode_leaf.specs.declared.Out.{Out}
 use Rattle.positions.specs.Positions.{sat_sum, sat}
-use Rattle.decode_leaf.specs.Machine.{Held, out, state, leaf_at, Fine, Met}
-use Rattle.decode_leaf.proofs.Meets.{fine}
+use Rattle.decode_leaf.specs.Machine.{Held, out, state, leaf_at, Fine}
 use Rattle.decode.proofs.Steps.{follow-none, follow-end, follow-follow, behind-none, behind-end, behind-behind, seq_end, seq-refused, seq-read, turns, turns-end, turns-refused, turns-empty, turns-read, leaf-takes}
 use Rattle.lists.proofs.Part.{drop-take}
 use Rattle.lists.proofs.Scan.{tail-part}
@@ -90,13 +89,13 @@ module _ {K : ℕ → Codec Held} {r l i₀ t₀ : List ℕ} {c₀ : List ℤ} {
   abbrev Seq-whole : Outcome Held
   Seq-whole = seq sat_sum (K (length t₀)) r (part l lo hi) base 0 (length i₀) (state c₀ told t₀)
 
-  pub seq-done : hi ≤ i → Met Seq-whole (out used members far told₁) items text counts
-  seq-done h = fine (record {
+  pub seq-done : hi ≤ i → Fine Seq-whole (out used members far told₁) items text counts
+  seq-done h = record {
     is = v.whole ∙ ap (then_entry (take used items) members far) (seq_end (K (length t₀)) r l i hi base shift (length i₀ - used) (state counts told₁ text) h) ∙ follow-end (take used items) members far (state counts told₁ text);
     within = omega (arith, v.written.within, v.written.same);
     told = v.fits;
     few = v.few;
-  }) refl
+  }
 
   module _ (e : Entry) (en off at : ℕ) (h : i < hi) (p : e ≡ entry_at l i) (q : en ≡ end_of e.span i hi) (o1 : off ≡ sat (e.offset + shift)) (o2 : at ≡ sat (base + off))
       (ys : List ℕ) (same : length ys ≡ length (tail items used)) where

@@ -4,6 +4,7 @@
 
 ghost use Rattle.std.specs.Prelude.{◌≡◌, Bool, true, false, ◌&&◌, not, cond, eqb, List, [], ℕ, ◌+◌, ◌≤◌, pos, length, replicate};
 ghost use Rattle.codes.specs.Codes.{most, element, tag_struct};
+ghost use Rattle.codes.specs.Refusals.{number_in};
 ghost use Rattle.layout.specs.Layout.{unrepeated_leaf, part, unrepeated};
 ghost use Rattle.walks.specs.Walk.{how_many};
 ghost use Rattle.walks.specs.Reading.{container, seq, field, table};
@@ -11,385 +12,286 @@ ghost use Rattle.positions.specs.Positions.{sat_sum};
 ghost use Rattle.walks.specs.Records.{record_asks, reader_asks, read_into, RecordRead};
 ghost use Rattle.decode_leaf.specs.Counts.{held_in};
 ghost use Rattle.decode_leaf.specs.Machine.{kept, state, leaf_at, Met, Elements};
+ghost use Rattle.decode.specs.Answered.{words_used, bytes_used, ReadFront};
 
-use codes::{KIND_GROUP, KIND_PAD, MAX_RECORD, TAG_STRUCT};
+use codes::{Kind, MAX_RECORD, Refusal, Tag};
 use decode_leaf::{
     Out, decode_element, decode_lone, element_count, element_name, head_words, how_many, listed,
-    refusal, start_counts, took_none,
+    start_counts, took_none,
 };
-use items::{ITEM_WORDS, put_header};
-use layout::{
-    Entry, ask_layout, has_depending_on, load, record_length, reserved_width, unrepeated,
-    unrepeated_leaf,
-};
-use positions::{larger, less, sat_add};
+use items::{ITEM_WORDS, Item, item_count};
+use layout::{Entry, Layout};
+use positions::sat_add;
 use spans::end_of;
-use zeros::{clear_counts, clear_items, clear_text};
 
-// What reading a record answers: the number that refuses it, or 0 with the item words and the text bytes used.
+// What reading a record answers: the item words and the text bytes used.
 #[derive(Clone, Copy)]
 pub struct Reading {
-    pub number: u32,
     pub items: usize,
     pub text: usize,
 }
 
-// The entries lo up to hi, one after the other, from a base on.
+// The entries lo up to hi, one after the other, from a base on. The step is a span, so no `for`.
 #[cycle(decode_field_decode_one_decode_seq)]
 fn decode_seq(
-    layout: &[u32],
+    layout: &Layout,
     record: &[u8],
     items: &mut [u64],
     text: &mut [u8],
     counts: &mut [i64],
-    page: u32,
     deps: bool,
     lo: usize,
     hi: usize,
     base: u64,
     told: usize,
-) -> Out
+) -> Result<Out, Refusal>
     requires told_in_bounds { told ≤ length text.old }
     requires record_len_bound { length «record».now ≤ most }
     ensures { Met
-        (seq sat_sum (kept layout.now page (length text.old) deps) «record».now (part layout.now lo hi) base 0 (length items.old)
+        (seq sat_sum (kept layout.now.words.now layout.now.page (length text.old) deps) «record».now (part layout.now.words.now lo hi) base 0 (length items.old)
         (state counts.old told text.old)) result items.new text.new counts.new }
 {
     let mut i = lo;
-    let mut used: usize = 0;
-    let mut members: u64 = 0;
     let mut shift: u64 = 0;
-    let mut far: u64 = 0;
-    let mut behind = told;
+    let mut all = Out {
+        used: 0,
+        members: 0,
+        taken: 0,
+        told,
+    };
     while i < hi {
-        let e = load(layout, i);
+        let e = layout.load(i);
         let end = end_of(e.span as u64, i, hi);
         let off = sat_add(e.offset as u64, shift);
         let at = sat_add(base, off);
-        if unrepeated_leaf(e) {
-            let o = decode_lone(
-                layout,
-                record,
-                &mut items[used..],
-                text,
-                counts,
-                page,
-                deps,
-                e,
-                at,
-                behind,
-            );
-            if o.refused != 0 {
-                return refusal(o.refused);
-            }
-            far = larger(far, sat_add(off, o.taken));
-            used = used + o.used;
-            members = members + o.members;
-            behind = o.told;
+        let rest = &mut items[all.used..];
+        // Kept: two arms that end alike; one end behind both was tried, and misses the speed bar.
+        if e.is_unrepeated_leaf() {
+            let o = decode_lone(layout, record, rest, text, counts, deps, e, at, all.told)?;
+            all = all.then(o, all.taken.max(sat_add(off, o.taken)));
             i = end;
             continue;
         }
         let o = decode_field(
             layout,
             record,
-            &mut items[used..],
+            rest,
             text,
             counts,
-            page,
             deps,
             e,
             i + 1,
             end,
             at,
-            behind,
-        );
-        if o.refused != 0 {
-            return refusal(o.refused);
-        }
-        let grown = less(o.taken, reserved_width(e));
-        shift = sat_add(shift, grown);
-        far = larger(far, sat_add(off, o.taken));
-        used = used + o.used;
-        members = members + o.members;
-        behind = o.told;
+            all.told,
+        )?;
+        shift = sat_add(shift, o.taken.saturating_sub(e.reserved_width()));
+        all = all.then(o, all.taken.max(sat_add(off, o.taken)));
         i = end;
     }
-    Out {
-        refused: 0,
-        used,
-        members,
-        taken: far,
-        told: behind,
-    }
+    Ok(all)
 }
 
 // A table of scalars or Pads: outside the cycle, so that its elements are read without a call of it.
 fn decode_table(
-    layout: &[u32],
+    layout: &Layout,
     record: &[u8],
     items: &mut [u64],
     text: &mut [u8],
     counts: &[i64],
-    page: u32,
     e: Entry,
     at: u64,
     told: usize,
-) -> Out
+) -> Result<Out, Refusal>
     requires told_in_bounds { told ≤ length text.old }
     requires e_value { unrepeated e ≡ false }
     requires record_len_bound { length «record».now ≤ most }
     ensures { Elements
-        (λ deps. table sat_sum e (leaf_at (kept layout.now page (length text.old) deps) «record».now e element false)
-        (how_many (λ name run. held_in layout.now name run) e counts.now) at (length items.old)
+        (λ deps. table sat_sum e (leaf_at (kept layout.now.words.now layout.now.page (length text.old) deps) «record».now e element false)
+        (how_many (λ name run. held_in layout.now.words.now name run) e counts.now) at (length items.old)
         (state counts.now told text.old)) result items.new text.new counts.now }
 {
-    let c = how_many(layout, counts, e);
-    if c.refused != 0 {
-        return refusal(c.refused);
-    }
-    let head = head_words(false, e.kind == KIND_PAD);
+    let n = how_many(layout, counts, e)?;
+    let head = head_words(false, Kind::Pad.is(e.kind));
     if items.len() < head {
-        return refusal(16);
+        return Err(Refusal::NoRoom);
     }
-    let n = c.n;
-    let mut k: u64 = 0;
-    let mut used = head;
-    let mut members: u64 = 0;
     let mut place = at;
-    let mut taken: u64 = 0;
-    let mut behind = told;
-    while k < n {
-        let o = decode_element(record, &mut items[used..], text, page, e, place, behind);
-        if o.refused != 0 {
-            return refusal(o.refused);
-        }
+    let mut all = Out {
+        used: head,
+        members: 0,
+        taken: 0,
+        told,
+    };
+    for k in 0..n {
+        let rest = &mut items[all.used..];
+        let o = decode_element(layout.page, record, rest, text, e, place, all.told)?;
         if o.taken == 0 {
-            return refusal(10);
+            return Err(Refusal::EmptyElement);
         }
         place = sat_add(place, o.taken);
-        taken = sat_add(taken, o.taken);
-        used = used + o.used;
-        members = members + o.members;
-        behind = o.told;
-        k = k + 1;
+        all = all.then(o, sat_add(all.taken, o.taken));
     }
-    listed(items, e, head, used, members, taken, behind)
+    Ok(listed(items, e, head, all))
 }
 
 // An entry that is a table, or a group of the entries lo up to hi: the elements of a group, or the one.
 #[cycle(decode_field_decode_one_decode_seq)]
 fn decode_field(
-    layout: &[u32],
+    layout: &Layout,
     record: &[u8],
     items: &mut [u64],
     text: &mut [u8],
     counts: &mut [i64],
-    page: u32,
     deps: bool,
     e: Entry,
     lo: usize,
     hi: usize,
     at: u64,
     told: usize,
-) -> Out
+) -> Result<Out, Refusal>
     requires told_in_bounds { told ≤ length text.old }
     requires e_value { unrepeated_leaf e ≡ false }
     requires record_len_bound { length «record».now ≤ most }
     ensures { Met
-        (field sat_sum (kept layout.now page (length text.old) deps) «record».now e
-        (λ b n s. seq sat_sum (kept layout.now page (length text.old) deps) «record».now (part layout.now lo hi) b 0 n s) at (length items.old)
+        (field sat_sum (kept layout.now.words.now layout.now.page (length text.old) deps) «record».now e
+        (λ b n s. seq sat_sum (kept layout.now.words.now layout.now.page (length text.old) deps) «record».now (part layout.now.words.now lo hi) b 0 n s) at (length items.old)
         (state counts.old told text.old)) result items.new text.new counts.new }
 {
-    if e.kind != KIND_GROUP {
-        return decode_table(layout, record, items, text, counts, page, e, at, told);
+    if !Kind::Group.is(e.kind) {
+        return decode_table(layout, record, items, text, counts, e, at, told);
     }
-    let once = unrepeated(e);
+    let once = e.is_unrepeated();
     let name = element_name(e, once);
-    let c = element_count(layout, counts, e);
-    if c.refused != 0 {
-        return refusal(c.refused);
-    }
+    let n = element_count(layout, counts, e)?;
     let head = head_words(once, false);
     if items.len() < head {
-        return refusal(16);
+        return Err(Refusal::NoRoom);
     }
-    let n = c.n;
-    let mut k: u64 = 0;
-    let mut used = head;
-    let mut members: u64 = 0;
     let mut place = at;
-    let mut taken: u64 = 0;
-    let mut behind = told;
-    while k < n {
+    let mut all = Out {
+        used: head,
+        members: 0,
+        taken: 0,
+        told,
+    };
+    for k in 0..n {
+        let rest = &mut items[all.used..];
         let o = decode_one(
-            layout,
-            record,
-            &mut items[used..],
-            text,
-            counts,
-            page,
-            deps,
-            name,
-            lo,
-            hi,
-            place,
-            behind,
-        );
-        if o.refused != 0 {
-            return refusal(o.refused);
-        }
+            layout, record, rest, text, counts, deps, name, lo, hi, place, all.told,
+        )?;
         if took_none(once, o.taken) {
-            return refusal(10);
+            return Err(Refusal::EmptyElement);
         }
         place = sat_add(place, o.taken);
-        taken = sat_add(taken, o.taken);
-        used = used + o.used;
-        members = members + o.members;
-        behind = o.told;
-        k = k + 1;
+        all = all.then(o, sat_add(all.taken, o.taken));
     }
-    listed(items, e, head, used, members, taken, behind)
+    Ok(listed(items, e, head, all))
 }
 
 // One group of the entries lo up to hi, under a name.
+#[tactic(auto, using(crate::proofs::Steps::inside_small))]
 #[cycle(decode_field_decode_one_decode_seq)]
 fn decode_one(
-    layout: &[u32],
+    layout: &Layout,
     record: &[u8],
     items: &mut [u64],
     text: &mut [u8],
     counts: &mut [i64],
-    page: u32,
     deps: bool,
     name: u64,
     lo: usize,
     hi: usize,
     at: u64,
     told: usize,
-) -> Out
+) -> Result<Out, Refusal>
     requires told_in_bounds { told ≤ length text.old }
     requires record_len_bound { length «record».now ≤ most }
     ensures { Met
-        (container name tag_struct (λ b n s. seq sat_sum (kept layout.now page (length text.old) deps) «record».now (part layout.now lo hi) b 0 n s) at
+        (container name tag_struct (λ b n s. seq sat_sum (kept layout.now.words.now layout.now.page (length text.old) deps) «record».now (part layout.now.words.now lo hi) b 0 n s) at
         (length items.old) (state counts.old told text.old)) result items.new text.new counts.new }
 {
     if items.len() < ITEM_WORDS {
-        return refusal(16);
+        return Err(Refusal::NoRoom);
     }
-    let o = decode_seq(
-        layout,
-        record,
-        &mut items[ITEM_WORDS..],
-        text,
-        counts,
-        page,
-        deps,
-        lo,
-        hi,
-        at,
-        told,
-    );
-    if o.refused != 0 {
-        return refusal(o.refused);
-    }
+    let rest = &mut items[ITEM_WORDS..];
+    let o = decode_seq(layout, record, rest, text, counts, deps, lo, hi, at, told)?;
     let used = o.used + ITEM_WORDS;
-    put_header(
-        items,
-        name,
-        TAG_STRUCT,
-        o.members,
-        (used / ITEM_WORDS) as u64,
-    );
-    Out {
-        refused: 0,
+    Item::header(name, Tag::Struct, o.members, item_count(used) as u64).put(items);
+    Ok(Out {
         used,
         members: 1,
         taken: o.taken,
         told: o.told,
+    })
+}
+
+// The question on the record itself.
+fn ask_record(layout: &Layout, bytes: usize, deps: bool) -> Result<(), Refusal>
+    ensures { number_in result ≡ record_asks layout.now.words.now bytes deps }
+{
+    if bytes <= MAX_RECORD && (deps || layout.record_length() <= bytes as u64) {
+        Ok(())
+    } else {
+        Err(Refusal::RecordLength)
     }
 }
 
-// The number of the question on the record itself that fails, or 0.
-fn ask_record(layout: &[u32], bytes: usize, deps: bool) -> u32
-    ensures { result ≡ record_asks layout.now bytes deps }
+// The questions before the walk: the first that fails.
+fn ask(layout: &Layout, bytes: usize, work: usize, deps: bool) -> Result<(), Refusal>
+    ensures { number_in result ≡ reader_asks layout.now.words.now layout.now.masks.now layout.now.page bytes work deps }
 {
-    if MAX_RECORD < bytes {
-        return 4;
-    }
-    if deps {
-        return 0;
-    }
-    if (bytes as u64) < record_length(layout) {
-        return 4;
-    }
-    0
-}
-
-// The questions before the walk: the number of the first that fails, or 0.
-fn asked(layout: &[u32], masks: &[u8], page: u32, bytes: usize, work: usize, deps: bool) -> u32
-    ensures { result ≡ reader_asks layout.now masks.now page bytes work deps }
-{
-    let number = ask_layout(layout, masks, page, work);
-    if number != 0 {
-        return number;
-    }
+    layout.ask(work)?;
     ask_record(layout, bytes, deps)
 }
 
-// Reads a record by a layout: the items and their texts, and zeros behind them; zeros alone after a refusal.
-pub fn decode_record(
-    layout: &[u32],
-    masks: &[u8],
-    page: u32,
+// The questions, and then the walk: what was read stands at the front of the buffers.
+fn read_front(
+    layout: &Layout,
     record: &[u8],
     items: &mut [u64],
     text: &mut [u8],
     counts: &mut [i64],
-) -> Reading
-    ensures { RecordRead (read_into layout.now masks.now page «record».now items.old text.old counts.old)
-        result.number result.items result.text items.old items.new text.old text.new counts.old counts.new }
+) -> Result<Reading, Refusal>
+    ensures { ReadFront (read_into layout.now.words.now layout.now.masks.now layout.now.page «record».now items.old text.old counts.old)
+        result items.new text.new }
 {
-    let deps = has_depending_on(layout);
-    let number = asked(layout, masks, page, record.len(), counts.len(), deps);
-    if number != 0 {
-        clear_counts(counts);
-        clear_items(items, 0);
-        clear_text(text, 0);
-        return Reading {
-            number,
-            items: 0,
-            text: 0,
-        };
-    }
+    let deps = layout.has_depending_on();
+    ask(layout, record.len(), counts.len(), deps)?;
     start_counts(counts, deps);
-    let o = decode_seq(
+    let all = decode_seq(
         layout,
         record,
         items,
         text,
         counts,
-        page,
         deps,
         0,
-        layout.len() / 12,
+        layout.entry_count(),
         0,
         0,
-    );
-    clear_counts(counts);
-    if o.refused != 0 {
-        clear_items(items, 0);
-        clear_text(text, 0);
-        return Reading {
-            number: o.refused,
-            items: 0,
-            text: 0,
-        };
-    }
-    clear_items(items, o.used);
-    clear_text(text, o.told);
-    Reading {
-        number: 0,
-        items: o.used,
-        text: o.told,
-    }
+    )?;
+    Ok(Reading {
+        items: all.used,
+        text: all.told,
+    })
+}
+
+// Reads a record by a layout: the items and their texts, and zeros behind them; zeros alone after a refusal.
+pub fn decode_record(
+    layout: &Layout,
+    record: &[u8],
+    items: &mut [u64],
+    text: &mut [u8],
+    counts: &mut [i64],
+) -> Result<Reading, Refusal>
+    ensures { RecordRead (read_into layout.now.words.now layout.now.masks.now layout.now.page «record».now items.old text.old counts.old)
+        (number_in result) (words_used result) (bytes_used result) items.old items.new text.old text.new counts.old counts.new }
+{
+    let answer = read_front(layout, record, items, text, counts);
+    let used = answer.unwrap_or(Reading { items: 0, text: 0 });
+    items[used.items..].fill(0);
+    text[used.text..].fill(0);
+    counts.fill(0);
+    answer
 }

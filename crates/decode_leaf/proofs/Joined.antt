@@ -16,7 +16,7 @@ use Rattle.layout.proofs.Laws.{some_at}
 use Rattle.layout.proofs.Lawful.{entry-lawful, spans-lawful, reserved-lawful}
 use Rattle.spans.specs.Tree.{none, node, tree_in, tree, end_of}
 use Rattle.value.specs.Answer.{Answer, refused as refused_by, given}
-use Rattle.value.specs.Number.{Whole, number}
+use Rattle.value.specs.declared.Whole.{Whole}
 use Rattle.value.specs.declared.Scalar.{Scalar}
 use Rattle.value.specs.declared.Scalar.TheVariants.{Null, Text, Int, Decimal, Float as FloatV, FloatBits, Bool as BoolV}
 use Rattle.binary.specs.Binary.{integer_of}
@@ -47,11 +47,11 @@ Ranged (value (BoolV b)) = Unit {0}
 Ranged (text t) = Unit {0}
 
 int-ranged : (n : Answer Whole) → Small n → Ranged (int_says n)
-int-ranged (given (number negative size)) h = h
+int-ranged (given n) h = h
 int-ranged (refused_by question) h = tt
 
 decimal-ranged : (scale : ℕ) (n : Answer Whole) → Small n → Ranged (decimal_says scale n)
-decimal-ranged scale (given (number negative size)) h = h
+decimal-ranged scale (given n) h = h
 decimal-ranged scale (refused_by question) h = tt
 
 ranged : (kind p q r page : ℕ) (bs : List ℕ) → holds_count kind r ≡ true → Ranged (says kind p q r page bs)

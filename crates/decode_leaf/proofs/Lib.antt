@@ -1,6 +1,4 @@
 pub mod Runs
-pub mod Leaves
-pub mod Meets
 pub mod Said
 pub mod Scalars
 pub mod Stands

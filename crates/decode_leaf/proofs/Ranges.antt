@@ -8,7 +8,8 @@ use lib.Dec.{eqb, ltb, leb}
 use lib.ListN.{length, get_or, drop}
 use borrow.Author.Tests.{ltb-true, ltb-false, leb-false}
 use Rattle.value.specs.Answer.{Answer, refused, given}
-use Rattle.value.specs.Number.{Whole, number, some, read_in, unlawful}
+use Rattle.value.specs.declared.Whole.{Whole}
+use Rattle.value.specs.Number.{some, read_in, unlawful}
 use Rattle.value.specs.Digits.{value_of, is_digit, digit_in, limit}
 use Rattle.value.proofs.Field.{field-all}
 use Rattle.value.specs.Field.{last_of}
@@ -28,7 +29,7 @@ use Rattle.decode_scalar.proofs.Embedded.{embedded-all}
 
 -- a number that is not negative is below 2^63
 abbrev pub Small : Answer Whole → Type 0
-Small (given (number negative size)) = (negative && ltb 0 size) ≡ false → size < 2 ^ 63
+Small (given n) = (n.negative && ltb 0 n.size) ≡ false → n.size < 2 ^ 63
 Small (refused question) = Unit {0}
 
 by : (b : Bool) (x y : Answer Whole) → (b ≡ true → Small x) → (b ≡ false → Small y) → Small (cond b x y)

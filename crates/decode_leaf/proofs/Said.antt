@@ -1,4 +1,4 @@
--- What the bytes of a field say, against what the code makes of it: a value that is said as a value is no text, and a refusal is never 0.
+-- What the bytes of a field say, against what the code makes of it: a value that is said as a value is no text.
 use mathlib.Core.Path.{◌≡◌, refl, sym, ap, ◌∙◌}
 use mathlib.Core.Bool.{Bool, true, false, cond}
 use mathlib.Core.List.{List, [], ◌++◌, map}
@@ -13,21 +13,17 @@ use Rattle.layout.specs.declared.Entry.{Entry}
 use Rattle.value.specs.declared.Scalar.{Scalar}
 use Rattle.value.specs.declared.Scalar.TheVariants.{Null, Text, Float as FloatV, FloatBits, Bool as BoolV}
 use Rattle.value.specs.Answer.{Answer, refused as refused_by, given}
-use Rattle.value.specs.Number.{Whole, number}
-use Rattle.value.proofs.Answers.{Numbered}
+use Rattle.value.specs.declared.Whole.{Whole}
 use Rattle.ebcdic.specs.Ebcdic.{from_page}
 use Rattle.text.specs.Text.{read_text, front}
 use Rattle.binary.specs.Binary.{integer_of, bool_of}
-use Rattle.binary.proofs.Integers.{integer-numbered}
 use Rattle.float.specs.Field.{float_in, field_ok, word_for}
 use Rattle.binary.specs.Bytes.{word_in}
 use Rattle.value.specs.Scalar.{float_of}
 use lib.Ieee.{binary64, of_bits, nan_bits}
 use Rattle.hex_field.specs.Hex.{hex_of}
 use Rattle.edited.specs.Edited as Edited
-use Rattle.edited.proofs.Round as EditedRound
 use Rattle.decode_scalar.specs.Decode.{Says, refused, value, text, says, flag, int_says, decimal_says, float_says, int_in, decimal_in, answer_of, text_after}
-use Rattle.decode_scalar.proofs.Answers.{int-numbered, decimal-numbered}
 use Rattle.layout.specs.Layout.{controls}
 use Rattle.walks.specs.Walk.{Leaf, bad, leaf}
 use Rattle.decode_leaf.specs.Counts.{note_in, set_all}
@@ -38,7 +34,7 @@ abbrev NoText : Scalar → Type 0
 NoText v = (told : ℕ) → (moved_in told v ≡ v) × (told_in told v ≡ told)
 
 abbrev pub Matches : Says → Type 0
-Matches (refused n) = n ≡ 0 → ⊥
+Matches (refused n) = Unit {0}
 Matches (value v) = NoText v
 Matches (text t) = Unit {0}
 
@@ -46,13 +42,13 @@ by : (b : Bool) (x y : Says) → Matches x → Matches y → Matches (cond b x y
 by true x y f g = f
 by false x y f g = g
 
-int-matches : (n : Answer Whole) → Numbered n → Matches (int_says n)
-int-matches (given (number a b)) z = λ told. (refl, refl)
-int-matches (refused_by question) z = z
+int-matches : (n : Answer Whole) → Matches (int_says n)
+int-matches (given n) = λ told. (refl, refl)
+int-matches (refused_by question) = tt
 
-decimal-matches : (n : Answer Whole) (scale : ℕ) → Numbered n → Matches (decimal_says scale n)
-decimal-matches (given (number a b)) scale z = λ told. (refl, refl)
-decimal-matches (refused_by question) scale z = z
+decimal-matches : (n : Answer Whole) (scale : ℕ) → Matches (decimal_says scale n)
+decimal-matches (given n) scale = λ told. (refl, refl)
+decimal-matches (refused_by question) scale = tt
 
 float-matches : (p q : ℕ) (bs : List ℕ) → Matches (float_says (float_in p q bs))
 unfolding float_in
@@ -64,19 +60,19 @@ float-matches p q bs = go (field_ok q (length bs)) (word_for q (word_in p bs))
 
     go : (b : Bool) (w : ℕ) → Matches (float_says (cond b (given (float_of w)) (refused_by 8)))
     go true w = word w (nan_bits binary64 w)
-    go false w = λ e. omega arith
+    go false w = tt
 
 pub matches : (kind p q r page : ℕ) (bs : List ℕ) → Matches (says kind p q r page bs)
 unfolding says
 matches kind p q r page bs =
     by (eqb kind 0) (text (read_text page (flag p) (flag q) (r % 256) bs)) _ tt (
-    by (eqb kind 1) (int_says (int_in p q page bs)) _ (int-matches (int_in p q page bs) (int-numbered p q page bs)) (
-    by (eqb kind 2) (int_says (integer_of p (flag q) bs)) _ (int-matches (integer_of p (flag q) bs) (integer-numbered p (flag q) bs)) (
+    by (eqb kind 1) (int_says (int_in p q page bs)) _ (int-matches (int_in p q page bs)) (
+    by (eqb kind 2) (int_says (integer_of p (flag q) bs)) _ (int-matches (integer_of p (flag q) bs)) (
     by (eqb kind 3) (float_says (float_in p q bs)) _ (float-matches p q bs) (
     by (eqb kind 4) (text (hex_of p bs)) _ tt (
     by (eqb kind 5) (value (BoolV (bool_of bs))) _ (λ told. (refl, refl)) (
-    by (eqb kind 7) (decimal_says r (decimal_in p q page bs)) _ (decimal-matches (decimal_in p q page bs) r (decimal-numbered p q page bs)) (
-    by (eqb kind 8) (decimal_says r (Edited.decoded_of (flag p) (map (from_page page) bs))) (value Null) (decimal-matches (Edited.decoded_of (flag p) (map (from_page page) bs)) r (EditedRound.decode-numbered (flag p) (map (from_page page) bs)))
+    by (eqb kind 7) (decimal_says r (decimal_in p q page bs)) _ (decimal-matches (decimal_in p q page bs) r) (
+    by (eqb kind 8) (decimal_says r (Edited.decoded_of (flag p) (map (from_page page) bs))) (value Null) (decimal-matches (Edited.decoded_of (flag p) (map (from_page page) bs)) r)
     (λ told. (refl, refl)))))))))
 
 -- ---- a refusal, and a value with its state
@@ -92,22 +88,22 @@ module _ (l : List ℕ) (page : ℕ) (deps : Bool) (e : Entry) (run : List ℤ) 
   room-is t true q = le-leb (length (take told buffer) + length t) (length buffer) (omega (arith, so_far, leb-true (length t) (length buffer - told) q, h))
   room-is t false q = lt-leb (length (take told buffer) + length t) (length buffer) (omega (arith, so_far, leb-false (length t) (length buffer - told) q, h))
 
-  pub refused-leaf : (x : Says) → Matches x → (n : ℕ) → refused_by n ≡ answer_of x (length buffer - told) → (n ≡ 0 → ⊥) × (Leaves x ≡ bad n)
-  refused-leaf (refused m) k n q = let z : n ≡ m = cc in ((λ s. k (sym z ∙ s)), ap bad (sym z))
-  refused-leaf (value v) k n q = absurd (omega (arith, ap tag q))
+  pub refused-leaf : (x : Says) → (n : ℕ) → refused_by n ≡ answer_of x (length buffer - told) → Leaves x ≡ bad n
+  refused-leaf (refused m) n q = let z : n ≡ m = cc in ap bad (sym z)
+  refused-leaf (value v) n q = absurd (omega (arith, ap tag q))
     where
       tag : Answer Scalar → ℕ
       tag (given w) = 1
       tag (refused_by m) = 0
-  refused-leaf (text t) k n q = go (leb (length t) (length buffer - told)) refl q
+  refused-leaf (text t) n q = go (leb (length t) (length buffer - told)) refl q
     where
       tag : Answer Scalar → ℕ
       tag (given w) = 1
       tag (refused_by m) = 0
 
-      go : (b : Bool) → leb (length t) (length buffer - told) ≡ b → refused_by n ≡ cond b (given (Text 0 (length t))) (refused_by 16) → (n ≡ 0 → ⊥) × (Leaves (text t) ≡ bad n)
+      go : (b : Bool) → leb (length t) (length buffer - told) ≡ b → refused_by n ≡ cond b (given (Text 0 (length t))) (refused_by 16) → Leaves (text t) ≡ bad n
       go true g f = absurd (omega (arith, ap tag f))
-      go false g f = let z : n ≡ 16 = cc in ((λ s. omega (arith, z, s)), rw (room-is t false g, z) refl)
+      go false g f = let z : n ≡ 16 = cc in rw (room-is t false g, z) refl
 
   pub record Read (x : Says) (v : Scalar) (after : List ℕ) : Type 0 where
     pub is : Leaves x ≡ leaf (moved_in told v) (state (note_in l deps e v run) (told_in told v) after)

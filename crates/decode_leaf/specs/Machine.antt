@@ -1,18 +1,20 @@
 -- What the reader's inner functions promise: the walk with the state as the code holds it, by its own answer.
-use Rattle.std.specs.Prelude.{◌≡◌, Bool, ◌||◌, ◌&&◌, not, cond, List, ◌++◌, ℕ, ◌+◌, ◌/◌, ◌≤◌, eqb, leb, ℤ, length, take, drop}
+use Rattle.std.specs.Prelude.{◌≡◌, ⊤, Result, Ok, Err, Bool, ◌||◌, ◌&&◌, not, cond, List, ◌++◌, ℕ, ◌+◌, ◌/◌, ◌≤◌, eqb, leb, ℤ, length, take, drop}
 use Rattle.codes.specs.Codes.{kind_pad, tag_list}
+use Rattle.codes.specs.declared.Refusal.{Refusal}
+use Rattle.codes.specs.Refusals.{number_of}
 use Rattle.layout.specs.declared.Entry.{Entry}
 use Rattle.value.specs.declared.Scalar.{Scalar}
 use Rattle.value.specs.declared.Scalar.TheVariants.{Null, Text, Int, Decimal, Float as FloatV, FloatBits, Bool as BoolV}
 use Rattle.value.specs.Scalar.{decimal}
 use Rattle.items.specs.Items.{item_words, words_of, header}
+use Rattle.decode_scalar.specs.declared.Field.{Field}
 use Rattle.decode_scalar.specs.Decode.{Says, refused, value, text, says, text_after}
 use Rattle.walks.specs.Walk.{Many, never, times, unfit, Leaf, bad, leaf, Codec}
 use Rattle.layout.specs.Layout.{unrepeated, is_pad}
 use Rattle.walks.specs.Reading as R
 use Rattle.walks.specs.Reading.{Outcome, Reader, read, scalar, pad}
 use Rattle.decode_leaf.specs.declared.Out.{Out}
-use Rattle.decode_leaf.specs.declared.Count.{Count}
 use Rattle.decode_leaf.specs.Counts.{note_in, held_in}
 
 -- the run of counts, and the texts so far
@@ -54,6 +56,10 @@ bare e = unrepeated e || eqb e.kind kind_pad
 abbrev pub head_of : Entry → ℕ
 head_of e = cond (bare e) 0 item_words
 
+-- the words of an entry that tell what its bytes say
+abbrev pub field_of : Entry → Field
+field_of e = record { kind = e.kind; p = e.p; q = e.q; r = e.r; s = e.s }
+
 -- ---- a scalar as its item holds it: a text starts behind the texts so far
 
 abbrev pub moved_in : ℕ → Scalar → Scalar
@@ -75,15 +81,15 @@ told_in told (FloatV x) = told
 told_in told (FloatBits x) = told
 told_in told (BoolV b) = told
 
--- ---- promises: what holds of an answer that refuses nothing, and of one that refuses
+-- ---- promises, by the answer: what holds of one that refuses, and of one that does not
 
--- an answer that refuses nothing
 abbrev pub out : ℕ → ℕ → ℕ → ℕ → Out
-out used members taken told = record { refused = 0; used = used; members = members; taken = taken; told = told }
+out used members taken told = record { used = used; members = members; taken = taken; told = told }
 
--- an answer that refuses: zeros behind its number
-abbrev pub refusing : ℕ → Out
-refusing n = record { refused = n; used = 0; members = 0; taken = 0; told = 0 }
+-- how many elements a table has, as the code answers it
+abbrev pub many_in : Result ℕ Refusal → Many
+many_in (Ok n) = times n
+many_in (Err e) = never (number_of e)
 
 pub record Fine (o : Outcome Held) (r : Out) (items buffer : List ℕ) (run : List ℤ) : Type 0 where
   pub is : o ≡ read (take r.used items) r.members r.taken (state run r.told buffer)
@@ -91,13 +97,19 @@ pub record Fine (o : Outcome Held) (r : Out) (items buffer : List ℕ) (run : Li
   pub told : r.told ≤ length buffer
   pub few : r.members ≤ r.used
 
-pub record Met (o : Outcome Held) (r : Out) (items buffer : List ℕ) (run : List ℤ) : Type 0 where
-  pub fine : r.refused ≡ 0 → Fine o r items buffer run
-  pub refuses : (r.refused ≡ 0 → ⊥) → (o ≡ R.refused r.refused) × (r ≡ refusing r.refused)
+abbrev pub Met : Outcome Held → Result Out Refusal → List ℕ → List ℕ → List ℤ → Type 0
+Met o (Ok r) items buffer run = Fine o r items buffer run
+Met o (Err e) items buffer run = o ≡ R.refused (number_of e)
 
 -- the items behind the words that were read stay as they were: after a refusal all of them
-abbrev pub Rest : Out → List ℕ → List ℕ → Type 0
-Rest r before items = drop r.used items ≡ drop r.used before
+abbrev pub Rest : Result Out Refusal → List ℕ → List ℕ → Type 0
+Rest (Ok r) before items = drop r.used items ≡ drop r.used before
+Rest (Err e) before items = items ≡ before
+
+-- after a refusal the counts stay as they were
+abbrev pub Still : Result Out Refusal → List ℤ → List ℤ → Type 0
+Still (Ok r) held run = ⊤
+Still (Err e) held run = run ≡ held
 
 -- the text buffer behind a scalar that is inside the record: its text stays where it was put, though its item finds no place
 abbrev pub text_in : ℕ → List ℕ → Entry → ℕ → ℕ → List ℕ → List ℕ
@@ -108,18 +120,18 @@ unfoldable pub text_behind : ℕ → List ℕ → Entry → ℕ → ℕ → List
 text_behind page r e at told buffer = cond (leb (at + e.width) (length r) && not (is_pad e)) (text_in page r e at told buffer) buffer
 
 -- one scalar or Pad that is no element of a table, with every item and count
-pub record Lone (o : Outcome Held) (before : List ℕ) (held : List ℤ) (r : Out) (items buffer : List ℕ) (run : List ℤ) : Type 0 where
+pub record Lone (o : Outcome Held) (before : List ℕ) (held : List ℤ) (r : Result Out Refusal) (items buffer : List ℕ) (run : List ℤ) : Type 0 where
   pub met : Met o r items buffer run
   pub rest : Rest r before items
-  pub counts : (r.refused ≡ 0 → ⊥) → run ≡ held
+  pub counts : Still r held run
 
 -- an element of a table, whatever the layout and the counts are, which it leaves alone
-pub record Element (o : List ℕ → Bool → Held → Outcome Held) (told : ℕ) (text before : List ℕ) (r : Out) (items buffer : List ℕ) : Type 0 where
+pub record Element (o : List ℕ → Bool → Held → Outcome Held) (told : ℕ) (text before : List ℕ) (r : Result Out Refusal) (items buffer : List ℕ) : Type 0 where
   pub met : (l : List ℕ) (deps : Bool) (run : List ℤ) → Met (o l deps (state run told text)) r items buffer run
   pub rest : Rest r before items
 
 -- a table of such elements, whether or not some table of the layout depends on a count
-pub record Elements (o : Bool → Outcome Held) (r : Out) (items buffer : List ℕ) (run : List ℤ) : Type 0 where
+pub record Elements (o : Bool → Outcome Held) (r : Result Out Refusal) (items buffer : List ℕ) (run : List ℤ) : Type 0 where
   pub met : (deps : Bool) → Met (o deps) r items buffer run
 
 -- one item, whatever the state behind it
@@ -128,9 +140,12 @@ pub record OneItem (o : Held → Outcome Held) (behind width : ℕ) (r : Out) (i
   pub answer : r ≡ out item_words 1 width behind
   pub within : item_words ≤ length items
 
-pub record Placed (o : Held → Outcome Held) (behind width : ℕ) (before : List ℕ) (r : Out) (items : List ℕ) : Type 0 where
-  pub fine : r.refused ≡ 0 → OneItem o behind width r items
-  pub refuses : (r.refused ≡ 0 → ⊥) → ((s : Held) → o s ≡ R.refused r.refused) × (r ≡ refusing r.refused)
+abbrev pub PlacedBy : (Held → Outcome Held) → ℕ → ℕ → Result Out Refusal → List ℕ → Type 0
+PlacedBy o behind width (Ok r) items = OneItem o behind width r items
+PlacedBy o behind width (Err e) items = (s : Held) → o s ≡ R.refused (number_of e)
+
+pub record Placed (o : Held → Outcome Held) (behind width : ℕ) (before : List ℕ) (r : Result Out Refusal) (items : List ℕ) : Type 0 where
+  pub met : PlacedBy o behind width r items
   pub rest : Rest r before items
 
 -- a table's own item around the elements behind it
@@ -140,7 +155,3 @@ headed e used members items = cond (bare e) items (words_of (header e.name tag_l
 pub record Listed (e : Entry) (end members width behind : ℕ) (r : Out) (before items : List ℕ) : Type 0 where
   pub is : items ≡ headed e end members before
   pub answer : r ≡ out end (cond (bare e) members 1) width behind
-
-pub record Counted (m : Many) (r : Count) : Type 0 where
-  pub fine : r.refused ≡ 0 → m ≡ times r.n
-  pub refuses : (r.refused ≡ 0 → ⊥) → (m ≡ never r.refused) × (r.n ≡ 0)

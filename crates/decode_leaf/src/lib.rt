@@ -2,51 +2,47 @@
 
 #![tactic(auto)]
 
-ghost use Rattle.std.specs.Prelude.{◌≡◌, Bool, true, false, ◌||◌, ◌&&◌, not, cond, List, [], ◌∷◌, ◌++◌, ℕ, ◌+◌, ◌-◌, ◌*◌, ◌/◌, ◌≤◌, ◌<◌, min, max, ◌^◌, ℤ, pos, eqb, leb, ltb, length, take, drop, get_or, set, replicate};
+ghost use Rattle.std.specs.Prelude.{◌≡◌, Bool, true, false, ◌||◌, ◌&&◌, not, cond, is_ok, List, [], ◌∷◌, ◌++◌, ℕ, ◌+◌, ◌-◌, ◌*◌, ◌/◌, ◌≤◌, ◌<◌, min, max, ◌^◌, ℤ, pos, eqb, leb, ltb, length, take, drop, get_or, set, replicate};
 ghost use Rattle.codes.specs.Codes.{element};
+ghost use Rattle.value.specs.Answer.{answered};
 ghost use Rattle.walks.specs.Walk.{times, how_many, leaf};
 ghost use Rattle.items.specs.Items.{item_words};
 ghost use Rattle.layout.specs.Layout.{unrepeated, is_pad};
 ghost use Rattle.walks.specs.Reading.{placed, scalar};
-ghost use Rattle.decode_scalar.specs.Decode.{says, answer_of, decoded_as, text_after};
+ghost use Rattle.decode_scalar.specs.Decode.{says, answer_of, text_after};
 ghost use Rattle.decode_leaf.specs.Counts.{nat_of, first, status_of, held_in, note_in, set_in};
-ghost use Rattle.decode_leaf.specs.Machine.{out, refusing, kept, state, leaf_at, Lone, Element, text_in, text_behind, Placed, Listed, Counted, head_of, moved_in, told_in};
+ghost use Rattle.decode_leaf.specs.Machine.{out, many_in, kept, state, leaf_at, field_of, Lone, Element, text_in, text_behind, Placed, Listed, head_of, moved_in, told_in};
 
-use codes::{ABSENT, ELEMENT, KIND_PAD, TAG_LIST};
-use decode_scalar::Decoded;
-use items::{ITEM_WORDS, item_count, item_of, put, put_header};
-use layout::{Entry, controls, unrepeated};
+use codes::{ABSENT, ELEMENT, Kind, Refusal, Tag};
+use decode_scalar::Field;
+use items::{ITEM_WORDS, Item, item_count};
+use layout::{Entry, Layout};
 use positions::inside;
 use value::Scalar;
-use zeros::clear_counts;
 
-// What a part of the walk came to: the number that refuses it, or 0 with the item words written, how many items these are at
-// their own level, the bytes taken, and the text bytes so far.
+// What a part of the walk came to: the item words written, how many items these are at their own level, the bytes taken, and
+// the text bytes so far.
 #[derive(Clone, Copy)]
 pub struct Out {
-    pub refused: u32,
     pub used: usize,
     pub members: u64,
     pub taken: u64,
     pub told: usize,
 }
 
-// How many elements a table has, or the number that refuses it.
-#[derive(Clone, Copy)]
-pub struct Count {
-    pub refused: u32,
-    pub n: u64,
-}
-
-pub fn refusal(n: u32) -> Out
-    ensures { result ≡ refusing n }
-{
-    Out {
-        refused: n,
-        used: 0,
-        members: 0,
-        taken: 0,
-        told: 0,
+impl Out {
+    // This part and the next one behind it, which take so many bytes together.
+    pub fn then(self, next: Out, taken: u64) -> Out
+        requires used_fits { self.used + next.used < 2 ^ 64 }
+        requires members_fit { self.members + next.members < 2 ^ 64 }
+        ensures { result ≡ out (self.used + next.used) (self.members + next.members) taken next.told }
+    {
+        Out {
+            used: self.used + next.used,
+            members: self.members + next.members,
+            taken,
+            told: next.told,
+        }
     }
 }
 
@@ -67,16 +63,14 @@ fn signed(x: u64) -> i64
 }
 
 // The place of the first entry of a name, and the number of entries where there is none.
-fn first_of(layout: &[u32], name: u32) -> usize
-    ensures { (result ≡ first layout.now name) × (result ≤ length layout.now / 12) }
+fn first_of(layout: &Layout, name: u32) -> usize
+    ensures { (result ≡ first layout.now.words.now name) × (result ≤ length layout.now.words.now / 12) }
 {
-    let n = layout.len() / 12;
-    let mut i = 0;
-    while i < n {
-        if layout[i * 12] == name {
+    let n = layout.entry_count();
+    for i in 0..n {
+        if layout.words[i * 12] == name {
             return i;
         }
-        i += 1;
     }
     n
 }
@@ -85,9 +79,10 @@ fn word_in(counts: &[i64], at: usize) -> u64
     ensures { result ≡ nat_of (get_or counts.now at (pos 0)) }
 {
     if at < counts.len() {
-        return natural(counts[at]);
+        natural(counts[at])
+    } else {
+        0
     }
-    0
 }
 
 fn put_word(counts: &mut [i64], at: usize, x: u64)
@@ -102,28 +97,19 @@ fn put_word(counts: &mut [i64], at: usize, x: u64)
 fn status(negative: bool, size: u64) -> u64
     ensures { result ≡ status_of negative size }
 {
-    if size == 0 {
-        return 1;
-    }
-    if negative {
-        return 2;
-    }
-    1
+    if negative && 0 < size { 2 } else { 1 }
 }
 
 fn stored(size: u64) -> u64
     ensures { result ≡ min (2 ^ 63 - 1) size }
 {
-    if size < value::INT_LIMIT {
-        size
-    } else {
-        value::INT_LIMIT - 1
-    }
+    size.min(value::INT_LIMIT - 1)
 }
 
 // The count that a number sets for its name.
-fn set_count(layout: &[u32], counts: &mut [i64], name: u32, negative: bool, size: u64)
-    ensures { counts.new ≡ set_in layout.now name negative size counts.old }
+#[tactic(auto, unfolding(crate::specs::Counts::set_in))]
+fn set_count(layout: &Layout, counts: &mut [i64], name: u32, negative: bool, size: u64)
+    ensures { counts.new ≡ set_in layout.now.words.now name negative size counts.old }
 {
     let j = first_of(layout, name);
     put_word(counts, j * 2, status(negative, size));
@@ -131,13 +117,11 @@ fn set_count(layout: &[u32], counts: &mut [i64], name: u32, negative: bool, size
 }
 
 // What controls a table sets the count for its name, where some table depends on one.
-pub fn note(layout: &[u32], counts: &mut [i64], deps: bool, e: Entry, v: Scalar)
-    ensures { counts.new ≡ note_in layout.now deps e v counts.old }
+#[tactic(auto, unfolding(crate::specs::Counts::note_in))]
+pub fn note(layout: &Layout, counts: &mut [i64], deps: bool, e: Entry, v: Scalar)
+    ensures { counts.new ≡ note_in layout.now.words.now deps e v counts.old }
 {
-    if !deps {
-        return;
-    }
-    if controls(e) {
+    if deps && e.controls() {
         match v {
             Scalar::Int(negative, size) => set_count(layout, counts, e.name, negative, size),
             Scalar::Decimal(negative, size, _) => set_count(layout, counts, e.name, negative, size),
@@ -147,126 +131,80 @@ pub fn note(layout: &[u32], counts: &mut [i64], deps: bool, e: Entry, v: Scalar)
 }
 
 // The count that the controller of this name holds.
-fn held(layout: &[u32], counts: &[i64], name: u32) -> Count
-    ensures { Counted (held_in layout.now name counts.now) result }
+#[tactic(auto, unfolding(crate::specs::Counts::held_in))]
+fn held(layout: &Layout, counts: &[i64], name: u32) -> Result<u64, Refusal>
+    ensures { many_in result ≡ held_in layout.now.words.now name counts.now }
 {
     let j = first_of(layout, name);
-    let s = word_in(counts, j * 2);
-    if s == 0 {
-        return Count { refused: 5, n: 0 };
-    }
-    if s == 2 {
-        return Count { refused: 6, n: 0 };
-    }
-    Count {
-        refused: 0,
-        n: word_in(counts, j * 2 + 1),
+    match word_in(counts, j * 2) {
+        0 => Err(Refusal::NoController),
+        2 => Err(Refusal::CountRange),
+        _ => Ok(word_in(counts, j * 2 + 1)),
     }
 }
 
 // How many elements a table has: occurs, or under depending what the controller holds, at most occurs where given.
-pub fn how_many(layout: &[u32], counts: &[i64], e: Entry) -> Count
-    ensures { Counted (how_many (λ name run. held_in layout.now name run) e counts.now) result }
+#[tactic(auto, unfolding(walks::specs::Walk::how_many))]
+pub fn how_many(layout: &Layout, counts: &[i64], e: Entry) -> Result<u64, Refusal>
+    ensures { many_in result ≡ how_many (λ name run. held_in layout.now.words.now name run) e counts.now }
 {
     if e.depending == ABSENT {
-        return Count {
-            refused: 0,
-            n: e.occurs as u64,
-        };
+        return Ok(e.occurs as u64);
     }
-    let c = held(layout, counts, e.depending);
-    if c.refused != 0 {
-        return c;
+    let n = held(layout, counts, e.depending)?;
+    if e.occurs != ABSENT && n > e.occurs as u64 {
+        return Err(Refusal::CountRange);
     }
-    if e.occurs == ABSENT {
-        return c;
-    }
-    if c.n <= e.occurs as u64 {
-        return c;
-    }
-    Count { refused: 6, n: 0 }
+    Ok(n)
 }
 
 // ---- an entry's elements, and a table's own item
 
 // How many elements an entry has: one where it is no table.
-pub fn element_count(layout: &[u32], counts: &[i64], e: Entry) -> Count
-    ensures { Counted (cond (unrepeated e) (times 1) (how_many (λ name run. held_in layout.now name run) e counts.now)) result }
+pub fn element_count(layout: &Layout, counts: &[i64], e: Entry) -> Result<u64, Refusal>
+    ensures { many_in result ≡ cond (unrepeated e) (times 1) (how_many (λ name run. held_in layout.now.words.now name run) e counts.now) }
 {
-    if unrepeated(e) {
-        return Count { refused: 0, n: 1 };
+    if e.is_unrepeated() {
+        Ok(1)
+    } else {
+        how_many(layout, counts, e)
     }
-    how_many(layout, counts, e)
 }
 
 // The name of an element's item: 65,536 in a table.
 pub fn element_name(e: Entry, once: bool) -> u64
     ensures { result ≡ cond once e.name element }
 {
-    if once {
-        return e.name as u64;
-    }
-    ELEMENT
+    if once { e.name as u64 } else { ELEMENT }
 }
 
 // Whether an element of a table took no byte.
 pub fn took_none(once: bool, taken: u64) -> bool
     ensures { result ≡ (not once && eqb taken 0) }
 {
-    if once {
-        return false;
-    }
-    taken == 0
+    !once && taken == 0
 }
 
 // The words of a table's own item: a single entry and a table of Pads have none.
 pub fn head_words(once: bool, pads: bool) -> usize
     ensures { result ≡ cond (once || pads) 0 item_words }
 {
-    if once {
-        return 0;
-    }
-    if pads { 0 } else { ITEM_WORDS }
+    if once || pads { 0 } else { ITEM_WORDS }
 }
 
 // A table's own item around its elements, which stand behind it and end at `used`; what has no own item stays as it is.
-pub fn listed(
-    items: &mut [u64],
-    e: Entry,
-    head: usize,
-    used: usize,
-    members: u64,
-    taken: u64,
-    told: usize,
-) -> Out
+pub fn listed(items: &mut [u64], e: Entry, head: usize, all: Out) -> Out
     requires head_value { head ≡ head_of e }
-    requires head_le_used { head ≤ used }
-    requires used_in_bounds { used ≤ length items.old }
-    ensures { Listed e used members taken told result items.old items.new }
+    requires head_le_used { head ≤ all.used }
+    requires used_in_bounds { all.used ≤ length items.old }
+    ensures { Listed e all.used all.members all.taken all.told result items.old items.new }
 {
     if head == 0 {
-        return Out {
-            refused: 0,
-            used,
-            members,
-            taken,
-            told,
-        };
+        return all;
     }
-    put_header(
-        items,
-        e.name as u64,
-        TAG_LIST,
-        members,
-        item_count(used) as u64,
-    );
-    Out {
-        refused: 0,
-        used,
-        members: 1,
-        taken,
-        told,
-    }
+    let span = item_count(all.used) as u64;
+    Item::header(e.name as u64, Tag::List, all.members, span).put(items);
+    Out { members: 1, ..all }
 }
 
 // ---- one scalar or Pad
@@ -276,7 +214,6 @@ fn one_item(width: u32, told: usize) -> Out
     ensures { result ≡ out item_words 1 width told }
 {
     Out {
-        refused: 0,
         used: ITEM_WORDS,
         members: 1,
         taken: width as u64,
@@ -285,80 +222,87 @@ fn one_item(width: u32, told: usize) -> Out
 }
 
 // The item of a scalar at the front; a text starts behind the texts so far.
-fn place(items: &mut [u64], name: u64, width: u32, told: usize, v: Scalar) -> Out
+fn place(items: &mut [u64], name: u64, width: u32, told: usize, v: Scalar) -> Result<Out, Refusal>
     requires { told_in told v < 2 ^ 63 }
     ensures { Placed (λ st. placed name true width (length items.old) (leaf (moved_in told v) st)) (told_in told v) width items.old result items.new }
 {
     if items.len() < ITEM_WORDS {
-        return refusal(16);
+        return Err(Refusal::NoRoom);
     }
     match v {
         Scalar::Text(_, count) => {
-            put(items, item_of(name, Scalar::Text(told as u64, count)));
-            one_item(width, told + count as usize)
+            Item::of_scalar(name, Scalar::Text(told as u64, count)).put(items);
+            Ok(one_item(width, told + count as usize))
         }
         _ => {
-            put(items, item_of(name, v));
-            one_item(width, told)
+            Item::of_scalar(name, v).put(items);
+            Ok(one_item(width, told))
         }
     }
 }
 
 // The item of a single scalar at the front, and the count that it sets.
 fn place_lone(
-    layout: &[u32],
+    layout: &Layout,
     items: &mut [u64],
     counts: &mut [i64],
     deps: bool,
     e: Entry,
     told: usize,
     v: Scalar,
-) -> Out
+) -> Result<Out, Refusal>
     requires { told_in told v < 2 ^ 63 }
     ensures placed { Placed (λ st. placed e.name true e.width (length items.old) (leaf (moved_in told v) st))
         (told_in told v) e.width items.old result items.new }
-    ensures counts_after { counts.new ≡ cond (eqb result.refused 0) (note_in layout.now deps e v counts.old) counts.old }
+    ensures counts_after { counts.new ≡ cond (is_ok result) (note_in layout.now.words.now deps e v counts.old) counts.old }
 {
-    let o = place(items, e.name as u64, e.width, told, v);
-    if o.refused != 0 {
-        return o;
-    }
+    let o = place(items, e.name as u64, e.width, told, v)?;
     note(layout, counts, deps, e, v);
-    o
+    Ok(o)
 }
 
 // The item of a table's element at the front.
-fn place_element(items: &mut [u64], e: Entry, told: usize, v: Scalar) -> Out
+fn place_element(items: &mut [u64], e: Entry, told: usize, v: Scalar) -> Result<Out, Refusal>
     requires { told_in told v < 2 ^ 63 }
     ensures { Placed (λ st. placed element false e.width (length items.old) (leaf (moved_in told v) st)) (told_in told v) e.width items.old result items.new }
 {
     if e.width == 0 {
-        return refusal(10);
+        return Err(Refusal::EmptyElement);
     }
     place(items, ELEMENT, e.width, told, v)
 }
 
-// What the bytes of a field say; a text goes behind the texts so far. An entry is told by its words, so that no caller keeps one in memory.
+// The words of an entry that tell what its bytes say.
+fn field_of(e: Entry) -> Field
+    ensures { result ≡ field_of e }
+{
+    Field {
+        kind: e.kind,
+        p: e.p,
+        q: e.q,
+        r: e.r,
+        s: e.s,
+    }
+}
+
+// What the bytes of a field say; a text goes behind the texts so far. A field is told by its words, so that no caller keeps an entry in memory.
 fn read_part(
     record: &[u8],
     text: &mut [u8],
     page: u32,
-    kind: u32,
-    p: u32,
-    q: u32,
-    r: u32,
+    field: Field,
     width: u32,
     at: u64,
     told: usize,
-) -> Decoded
+) -> Result<Scalar, Refusal>
     requires width_in_bounds { at + width ≤ length «record».now }
     requires told_in_bounds { told ≤ length text.old }
-    ensures result_value { decoded_as result ≡ answer_of (says kind p q r page (take width (drop at «record».now))) (length text.old - told) }
-    ensures text_after { text.new ≡ take told text.old ++ text_after (says kind p q r page (take width (drop at «record».now))) (drop told text.old) }
+    ensures result_value { answered result ≡ answer_of (says field.kind field.p field.q field.r page (take width (drop at «record».now))) (length text.old - told) }
+    ensures text_after { text.new ≡ take told text.old ++ text_after (says field.kind field.p field.q field.r page (take width (drop at «record».now))) (drop told text.old) }
 {
     let from = at as usize;
     let end = from + width as usize;
-    decode_scalar::decode_scalar(kind, p, q, r, page, &record[from..end], &mut text[told..])
+    decode_scalar::decode_scalar(field, page, &record[from..end], &mut text[told..])
 }
 
 // A Pad yields no item.
@@ -366,7 +310,6 @@ fn passed(width: u32, told: usize) -> Out
     ensures { result ≡ out 0 0 width told }
 {
     Out {
-        refused: 0,
         used: 0,
         members: 0,
         taken: width as u64,
@@ -376,68 +319,64 @@ fn passed(width: u32, told: usize) -> Out
 
 // A single scalar that is inside the record.
 fn lone_value(
-    layout: &[u32],
+    layout: &Layout,
     record: &[u8],
     items: &mut [u64],
     text: &mut [u8],
     counts: &mut [i64],
-    page: u32,
     deps: bool,
     e: Entry,
     at: u64,
     told: usize,
-) -> Out
+) -> Result<Out, Refusal>
     requires width_in_bounds { at + e.width ≤ length «record».now }
     requires told_in_bounds { told ≤ length text.old }
     ensures lone { Lone
-        (scalar (kept layout.now page (length text.old) deps) «record».now e e.name true at (length items.old)
+        (scalar (kept layout.now.words.now layout.now.page (length text.old) deps) «record».now e e.name true at (length items.old)
         (state counts.old told text.old)) items.old counts.old result items.new text.new counts.new }
-    ensures text_after { text.new ≡ text_in page «record».now e at told text.old }
+    ensures text_after { text.new ≡ text_in layout.now.page «record».now e at told text.old }
 {
-    match read_part(record, text, page, e.kind, e.p, e.q, e.r, e.width, at, told) {
-        Decoded::Refused(n) => refusal(n),
-        Decoded::Value(v) => place_lone(layout, items, counts, deps, e, told, v),
-    }
+    let v = read_part(record, text, layout.page, field_of(e), e.width, at, told)?;
+    place_lone(layout, items, counts, deps, e, told, v)
 }
 
 // One scalar or Pad that is no element of a table.
 pub fn decode_lone(
-    layout: &[u32],
+    layout: &Layout,
     record: &[u8],
     items: &mut [u64],
     text: &mut [u8],
     counts: &mut [i64],
-    page: u32,
     deps: bool,
     e: Entry,
     at: u64,
     told: usize,
-) -> Out
+) -> Result<Out, Refusal>
     requires { told ≤ length text.old }
     ensures lone { Lone
-        (leaf_at (kept layout.now page (length text.old) deps) «record».now e e.name true at (length items.old)
+        (leaf_at (kept layout.now.words.now layout.now.page (length text.old) deps) «record».now e e.name true at (length items.old)
         (state counts.old told text.old)) items.old counts.old result items.new text.new counts.new }
-    ensures text_after { text.new ≡ text_behind page «record».now e at told text.old }
+    ensures text_after { text.new ≡ text_behind layout.now.page «record».now e at told text.old }
 {
     if !inside(record.len() as u64, at, e.width as u64) {
-        return refusal(7);
+        return Err(Refusal::OutsideRecord);
     }
-    if e.kind == KIND_PAD {
-        return passed(e.width, told);
+    if Kind::Pad.is(e.kind) {
+        return Ok(passed(e.width, told));
     }
-    lone_value(layout, record, items, text, counts, page, deps, e, at, told)
+    lone_value(layout, record, items, text, counts, deps, e, at, told)
 }
 
-// A scalar of a table that is inside the record.
+// A scalar of a table that is inside the record. Kept beside lone_value: an element sets no count, and needs neither the layout nor the counts.
 fn element_value(
+    page: u32,
     record: &[u8],
     items: &mut [u64],
     text: &mut [u8],
-    page: u32,
     e: Entry,
     at: u64,
     told: usize,
-) -> Out
+) -> Result<Out, Refusal>
     requires e_value { unrepeated e ≡ false }
     requires width_in_bounds { at + e.width ≤ length «record».now }
     requires told_in_bounds { told ≤ length text.old }
@@ -445,22 +384,20 @@ fn element_value(
         told text.old items.old result items.new text.new }
     ensures text_after { text.new ≡ text_in page «record».now e at told text.old }
 {
-    match read_part(record, text, page, e.kind, e.p, e.q, e.r, e.width, at, told) {
-        Decoded::Refused(n) => refusal(n),
-        Decoded::Value(v) => place_element(items, e, told, v),
-    }
+    let v = read_part(record, text, page, field_of(e), e.width, at, told)?;
+    place_element(items, e, told, v)
 }
 
 // One scalar or Pad that is an element of a table: it sets no count.
 pub fn decode_element(
+    page: u32,
     record: &[u8],
     items: &mut [u64],
     text: &mut [u8],
-    page: u32,
     e: Entry,
     at: u64,
     told: usize,
-) -> Out
+) -> Result<Out, Refusal>
     requires e_value { unrepeated e ≡ false }
     requires told_in_bounds { told ≤ length text.old }
     ensures element { Element (λ l deps. leaf_at (kept l page (length text.old) deps) «record».now e element false at (length items.old))
@@ -468,12 +405,12 @@ pub fn decode_element(
     ensures text_after { text.new ≡ text_behind page «record».now e at told text.old }
 {
     if !inside(record.len() as u64, at, e.width as u64) {
-        return refusal(7);
+        return Err(Refusal::OutsideRecord);
     }
-    if e.kind == KIND_PAD {
-        return passed(e.width, told);
+    if Kind::Pad.is(e.kind) {
+        return Ok(passed(e.width, told));
     }
-    element_value(record, items, text, page, e, at, told)
+    element_value(page, record, items, text, e, at, told)
 }
 
 // ---- zeros
@@ -483,6 +420,6 @@ pub fn start_counts(counts: &mut [i64], deps: bool)
     ensures { counts.new ≡ cond deps (replicate (length counts.old) (pos 0)) counts.old }
 {
     if deps {
-        clear_counts(counts);
+        counts.fill(0);
     }
 }

@@ -70,18 +70,6 @@ module _ (l : List ℕ) (page : ℕ) (x y : Bor (List ℕ)) (e : Entry) (i : e �
 -- ---- where the text starts, by an entry's words: trim q, right-justified p
 
 module _ (e : Entry) (at : ℕ) (b : Bool) where
-  pub unpadded : b ≡ flag e.q → b ≡ false → (s : List ℕ) → at ≡ at + cut_from (flag e.p) (flag e.q) e.r s
-  unfolding cut_from
-  unpadded i j s = rw (sym i ∙ j) (omega arith)
-
-  pub unmoved : b ≡ flag e.p → b ≡ false → (s : List ℕ) → at ≡ at + cut_from (flag e.p) (flag e.q) e.r s
-  unfolding cut_from
-  unmoved i j s = rw (sym i ∙ j) (by (flag e.q))
-    where
-      by : (t : Bool) → at ≡ at + cond t 0 0
-      by true = omega arith
-      by false = omega arith
-
   pub padded-start : b ≡ flag e.q → b ≡ true → (d : Bool) → d ≡ flag e.p → d ≡ true → (pad : ℕ) → pad ≡ e.r % 256 → e.r ≤ 255
       → (a : ℕ) (s u : List ℕ) → s ≡ u → a ≡ left_count (is_byte pad) s → at + a ≡ at + cut_from (flag e.p) (flag e.q) e.r u
   unfolding cut_from
@@ -97,18 +85,33 @@ within at w a s u h q k =
 
 -- ---- where the text stands, by the ways of the code
 
-pub place-refused : (l : List ℕ) (page : ℕ) (s scratch : List ℕ) (n : ℕ) → n ≡ asked_of false l page (length s) (length scratch) → (n ≡ 0 → ⊥) → TextPlaced l page s scratch n 0 0
-unfolding start_of field_text
-place-refused l page s scratch n j h = record { numbered = j; starts = rw (← j, ne_eqb n 0 h) refl; text_bytes = rw (← j, ne_eqb n 0 h) refl }
+front : (y : Bor (List ℕ)) → y.ref_ptr ≡ place_in y 0
+front y = let z : y.ref_ptr.1 ≡ 0 + y.ref_ptr.1 = omega arith in ap (λ n. (y.ref_ptr.0, n)) z
 
-module _ (l : List ℕ) (page : ℕ) (x y : Bor (List ℕ)) (e : Entry) (i : e ≡ entry_of l) (n : ℕ) (j : n ≡ asked_of false l page (length x.now) (length y.now)) (h : n ≡ 0) (t : TextPlace) (z : t.number ≡ 0) where
-  none-fails : 0 ≡ asked_of false l page (length x.now) (length y.now)
-  none-fails = sym h ∙ j
+module _ (l : List ℕ) (page : ℕ) (x y : Bor (List ℕ)) where
+  pub place-refused : (n : ℕ) → n ≡ asked_of false l page (length x.now) (length y.now) → (n ≡ 0 → ⊥) → TextPlaced l page x.now y.now n 0 0
+  unfolding start_of field_text
+  place-refused n j h = record { numbered = j; starts = rw (← j, ne_eqb n 0 h) refl; text_bytes = rw (← j, ne_eqb n 0 h) refl }
 
-  pub stands-scratch : page ≡ 1 → t.start ≡ 0 + cut_from (flag e.p) (flag e.q) e.r (take e.width y.now) → t.length ≡ length (cut (flag e.p) (flag e.q) e.r (take e.width y.now))
-      → TextPlaced l page x.now y.now t.number t.start t.length
-  stands-scratch p a b = record { numbered = z ∙ none-fails; starts = a ∙ start-scratch l page x y e i 0 none-fails p; text_bytes = b ∙ ap length (text-scratch l page x y e i 0 none-fails p) }
+  -- the empty part of a refusal
+  module _ (n : ℕ) (j : n ≡ asked_of false l page (length x.now) (length y.now)) (h : n ≡ 0 → ⊥) where
+    pub none-text : [] ≡ field_text l page x.now y.now
+    unfolding field_text
+    none-text = rw (← j, ne_eqb n 0 h) refl
 
-  pub stands-record : (page ≡ 1 → ⊥) → t.start ≡ e.offset + cut_from (flag e.p) (flag e.q) e.r (take e.width (drop e.offset x.now))
-      → t.length ≡ length (cut (flag e.p) (flag e.q) e.r (take e.width (drop e.offset x.now))) → TextPlaced l page x.now y.now t.number t.start t.length
-  stands-record p a b = record { numbered = z ∙ none-fails; starts = a ∙ start-record l page x y e i 0 none-fails p; text_bytes = b ∙ ap length (text-record l page x y e i 0 none-fails p) }
+    pub none-scratch : page ≡ 1 → y.ref_ptr ≡ place_of l page x y
+    unfolding place_of start_of
+    none-scratch p = front y ∙ rw (← j, ne_eqb n 0 h, eq-eqb page 1 p) refl
+
+    pub none-record : (page ≡ 1 → ⊥) → x.ref_ptr ≡ place_of l page x y
+    unfolding place_of start_of
+    none-record p = front x ∙ rw (← j, ne_eqb n 0 h, ne_eqb page 1 p) refl
+
+  module _ (e : Entry) (i : e ≡ entry_of l) (j : 0 ≡ asked_of false l page (length x.now) (length y.now)) (t : TextPlace) where
+    pub stands-scratch : page ≡ 1 → t.start ≡ 0 + cut_from (flag e.p) (flag e.q) e.r (take e.width y.now) → t.length ≡ length (cut (flag e.p) (flag e.q) e.r (take e.width y.now))
+        → TextPlaced l page x.now y.now 0 t.start t.length
+    stands-scratch p a b = record { numbered = j; starts = a ∙ start-scratch l page x y e i 0 j p; text_bytes = b ∙ ap length (text-scratch l page x y e i 0 j p) }
+
+    pub stands-record : (page ≡ 1 → ⊥) → t.start ≡ e.offset + cut_from (flag e.p) (flag e.q) e.r (take e.width (drop e.offset x.now))
+        → t.length ≡ length (cut (flag e.p) (flag e.q) e.r (take e.width (drop e.offset x.now))) → TextPlaced l page x.now y.now 0 t.start t.length
+    stands-record p a b = record { numbered = j; starts = a ∙ start-record l page x y e i 0 j p; text_bytes = b ∙ ap length (text-record l page x y e i 0 j p) }

@@ -2,50 +2,16 @@
 use mathlib.Core.Path.{◌≡◌, refl, subst}
 use mathlib.Core.Bool.{Bool, true, false, ◌&&◌, cond}
 use mathlib.Core.List.{List}
-use Prim.Native.Nat.{ℕ, ◌+◌, ◌<◌, ◌≤◌}
+use Prim.Native.Nat.{ℕ, ◌+◌, ◌≤◌}
 use native.Mathlib.Omega.{arith}
 use lib.Dec.{eqb, leb}
 use lib.ListN.{length}
-use borrow.Author.Tests.{eq-eqb, ne_eqb, le-leb, lt-leb, eqb-true, leb-true}
+use borrow.Author.Tests.{eq-eqb, eqb-true, leb-true}
 use Rattle.lists.proofs.Logic.{and_left, and_right}
 use Rattle.layout.specs.declared.Entry.{Entry}
 use Rattle.layout.specs.Layout.{absent, up_to, plain_ok, kind_ok, entry_ok}
 use Rattle.layout.proofs.Lawful.{kind-lawful}
 use Rattle.text_field.specs.Single.{entry_of, one_entry, text_entry, room_of, asked_of}
-
-module _ (t : Bool) (l : List ℕ) (page size scratch : ℕ) where
-  pub one-words : (length l ≡ 12 → ⊥) → 1 ≡ asked_of t l page size scratch
-  unfolding asked_of
-  one-words h = rw (ne_eqb (length l) 12 h) refl
-
-  module _ (a : length l ≡ 12) where
-    pub one-page : 1 < page → 1 ≡ asked_of t l page size scratch
-    unfolding asked_of
-    one-page h = rw (eq-eqb (length l) 12 a, lt-leb page 1 h) refl
-
-    module _ (b : page ≤ 1) (e : Entry) (q : e ≡ entry_of l) where
-      pub two : text_entry e ≡ false → 2 ≡ asked_of t l page size scratch
-      unfolding asked_of
-      two f = rw (eq-eqb (length l) 12 a, le-leb page 1 b, ← q, f) refl
-
-      module _ (f : text_entry e ≡ true) where
-        pub four : 65536 < size → 4 ≡ asked_of t l page size scratch
-        unfolding asked_of
-        four h = rw (eq-eqb (length l) 12 a, le-leb page 1 b, ← q, f, lt-leb size 65536 h) refl
-
-        module _ (g : size ≤ 65536) where
-          pub seven : size < e.offset + e.width → 7 ≡ asked_of t l page size scratch
-          unfolding asked_of
-          seven h = rw (eq-eqb (length l) 12 a, le-leb page 1 b, ← q, f, le-leb size 65536 g, lt-leb (e.offset + e.width) size h) refl
-
-          module _ (i : e.offset + e.width ≤ size) (n : ℕ) (r : n ≡ room_of t page e) where
-            pub sixteen : scratch < n → 16 ≡ asked_of t l page size scratch
-            unfolding asked_of
-            sixteen h = rw (eq-eqb (length l) 12 a, le-leb page 1 b, ← q, f, le-leb size 65536 g, le-leb (e.offset + e.width) size i, ← r, lt-leb n scratch h) refl
-
-            pub none : n ≤ scratch → 0 ≡ asked_of t l page size scratch
-            unfolding asked_of
-            none h = rw (eq-eqb (length l) 12 a, le-leb page 1 b, ← q, f, le-leb size 65536 g, le-leb (e.offset + e.width) size i, ← r, le-leb n scratch h) refl
 
 picked : (a b c d f : Bool) → ◌≡◌ {A = ℕ} (cond a (cond b (cond c (cond d (cond f 0 16) 7) 4) 2) 1) 0
     → (a ≡ true) × ((b ≡ true) × ((c ≡ true) × ((d ≡ true) × (f ≡ true))))

@@ -1,14 +1,16 @@
 -- "The single-field call and the translating one take one unrepeated Text entry at its offset and ask 1, 2 (also for any other entry),
 -- 4 (record above 65,536 only), 7, 16 (scratch shorter than the field on page 1; the translating call on either page)."
-use Rattle.std.specs.Prelude.{◌≡◌, Bool, true, false, ◌&&◌, ◌||◌, cond, List, [], ◌++◌, map, ℕ, ◌+◌, ◌-◌, eqb, leb, length, take, drop, replicate}
+use Rattle.std.specs.Prelude.{◌≡◌, Result, Ok, Err, Bool, true, false, ◌&&◌, ◌||◌, cond, List, [], ◌++◌, map, ℕ, ◌+◌, ◌-◌, eqb, leb, length, take, drop, replicate}
 use Rattle.std.specs.Borrow.{Bor}
 use Rattle.codes.specs.Codes.{kind_text, most}
+use Rattle.codes.specs.declared.Refusal.{Refusal}
 use Rattle.ebcdic.specs.Ebcdic.{from_page}
 use Rattle.lists.specs.Part.{place_in}
 use Rattle.text.specs.Text.{cut, cut_from}
 use Rattle.layout.specs.declared.Entry.{Entry}
 use Rattle.layout.specs.Layout.{absent, entry_at, entry_ok}
 use Rattle.decode_scalar.specs.Decode.{flag, Says, text, says}
+use Rattle.text_field.specs.declared.TextPlace.{TextPlace}
 
 -- ---- the questions
 
@@ -100,6 +102,20 @@ pub record TextPlaced (l : List ℕ) (page : ℕ) (s scratch : List ℕ) (number
   pub numbered : number ≡ text_asks l page s scratch
   pub starts : start ≡ start_of l page s scratch
   pub text_bytes : bytes ≡ length (field_text l page s scratch)
+
+-- ---- what a call's answer counts: 0 where it refuses
+
+abbrev pub bytes_in : Result ℕ Refusal → ℕ
+bytes_in (Ok n) = n
+bytes_in (Err e) = 0
+
+abbrev pub start_in : Result TextPlace Refusal → ℕ
+start_in (Ok p) = p.start
+start_in (Err e) = 0
+
+abbrev pub length_in : Result TextPlace Refusal → ℕ
+length_in (Ok p) = p.length
+length_in (Err e) = 0
 
 -- ---- the text is the one that the record's reader says: after the translating call, and on page 0 with any scratch
 

@@ -2,76 +2,58 @@
 
 #![tactic(auto)]
 
-ghost use Rattle.std.specs.Prelude.{◌≡◌, Bool, true, false, cond, [], ◌+◌, ◌≤◌, eqb, length, take, drop};
+ghost use Rattle.std.specs.Prelude.{◌≡◌, Bool, true, false, cond, [], IfOk, ◌+◌, ◌≤◌, eqb, length, take, drop};
+ghost use Rattle.codes.specs.Refusals.{number_in};
 ghost use Rattle.lists.specs.Part.{place_in};
 ghost use Rattle.text.specs.Text.{cut, cut_from};
 ghost use Rattle.decode_scalar.specs.Decode.{flag};
-ghost use Rattle.text_field.specs.Single.{entry_of, text_entry, room_of, asked_of, FieldTranslated, TextFound, TextPlaced};
+ghost use Rattle.text_field.specs.Single.{entry_of, text_entry, room_of, asked_of, bytes_in, start_in, length_in, FieldTranslated, TextFound, TextPlaced};
 
-use codes::{ABSENT, KIND_TEXT, MAX_RECORD};
-use layout::Entry;
-
-// What translate_text answers: 0 or the number it refuses by, and how many bytes it translated.
-#[derive(Clone, Copy)]
-pub struct Translated {
-    pub number: u32,
-    pub length: usize,
-}
+use codes::{ABSENT, Kind, MAX_RECORD, Refusal, number_in};
+use layout::{Entry, Layout};
 
 // Whether an entry is an unrepeated Text with lawful words.
+#[tactic(auto, unfolding(crate::specs::Single::text_entry))]
 fn is_text(e: Entry) -> bool
     ensures { result ≡ text_entry e }
 {
-    if !layout::entry_ok(e, 0) {
-        return false;
-    }
-    if e.kind != KIND_TEXT {
-        return false;
-    }
-    if e.occurs != ABSENT {
-        return false;
-    }
-    e.depending == ABSENT
+    e.is_lawful(0) && Kind::Text.is(e.kind) && e.occurs == ABSENT && e.depending == ABSENT
 }
 
 // The scratch bytes that a call needs.
 fn room_for(e: Entry, page: u32, translating: bool) -> usize
     ensures { result ≡ room_of translating page e }
 {
-    if translating {
-        return e.width as usize;
+    if translating || page == 1 {
+        e.width as usize
+    } else {
+        0
     }
-    if page == 1 {
-        return e.width as usize;
-    }
-    0
 }
 
-// The number of the first question that fails, or 0.
-fn asked(layout: &[u32], page: u32, size: usize, scratch: usize, translating: bool) -> u32
-    ensures { result ≡ asked_of translating layout.now page size scratch }
+// The layout's one entry, where no question refuses.
+#[tactic(auto, unfolding(crate::specs::Single::asked_of))]
+fn ask(layout: &Layout, size: usize, scratch: usize, translating: bool) -> Result<Entry, Refusal>
+    ensures asked { number_in result ≡ asked_of translating layout.now.words.now layout.now.page size scratch }
+    ensures entry { IfOk result (λ e. e ≡ entry_of layout.now.words.now) }
 {
-    if layout.len() != 12 {
-        return 1;
+    if layout.words.len() != 12 || 1 < layout.page {
+        return Err(Refusal::LayoutWords);
     }
-    if 1 < page {
-        return 1;
-    }
-    let e = layout::load(layout, 0);
+    let e = layout.load(0);
     if !is_text(e) {
-        return 2;
+        return Err(Refusal::EntryWords);
     }
     if MAX_RECORD < size {
-        return 4;
+        return Err(Refusal::RecordLength);
     }
-    let end = e.offset as u64 + e.width as u64;
-    if (size as u64) < end {
-        return 7;
+    if (size as u64) < e.offset as u64 + e.width as u64 {
+        return Err(Refusal::OutsideRecord);
     }
-    if scratch < room_for(e, page, translating) {
-        return 16;
+    if scratch < room_for(e, layout.page, translating) {
+        return Err(Refusal::NoRoom);
     }
-    0
+    Ok(e)
 }
 
 // A field's bytes.
@@ -85,35 +67,24 @@ fn field(e: Entry, at: usize, s: &[u8]) -> &[u8]
 }
 
 // Puts the field's bytes, as read from the page, to the front of the scratch and zeros behind them; zeros alone where it refuses.
-pub fn translate_text(layout: &[u32], page: u32, record: &[u8], scratch: &mut [u8]) -> Translated
-    ensures { FieldTranslated layout.now page «record».now result.number result.length scratch.old scratch.new }
+// How many bytes it translated.
+pub fn translate_text(layout: &Layout, record: &[u8], scratch: &mut [u8]) -> Result<usize, Refusal>
+    ensures { FieldTranslated layout.now.words.now layout.now.page «record».now (number_in result) (bytes_in result) scratch.old scratch.new }
 {
-    let number = asked(layout, page, record.len(), scratch.len(), true);
-    lists::fill(scratch, 0);
-    if number != 0 {
-        return Translated {
-            number: number,
-            length: 0,
-        };
-    }
-    let e = layout::load(layout, 0);
+    let asked = ask(layout, record.len(), scratch.len(), true);
+    scratch.fill(0);
+    let e = asked?;
     let part = field(e, e.offset as usize, record);
-    ebcdic::decode_slice(part, page, scratch);
-    Translated {
-        number: 0,
-        length: e.width as usize,
-    }
+    ebcdic::decode_slice(part, layout.page, scratch);
+    Ok(e.width as usize)
 }
 
-// The text of the field at a place of a slice, as a part of it; the empty part at its front where the field is refused.
-fn text_in(e: Entry, number: u32, at: usize, s: &[u8]) -> &[u8]
-    requires { number ≡ 0 → (at + e.width ≤ length s.now) × (e.r ≤ 255) }
-    ensures result_value { result.now ≡ cond (eqb number 0) (cut (flag e.p) (flag e.q) e.r (take e.width (drop at s.now))) [] }
-    ensures ref_ptr_value { result.ref_ptr ≡ place_in s.entry (cond (eqb number 0) (at + cut_from (flag e.p) (flag e.q) e.r (take e.width (drop at s.now))) 0) }
+// The text of the field at a place of a slice, as a part of it.
+fn text_in(e: Entry, at: usize, s: &[u8]) -> &[u8]
+    requires { (at + e.width ≤ length s.now) × (e.r ≤ 255) }
+    ensures result_value { result.now ≡ cut (flag e.p) (flag e.q) e.r (take e.width (drop at s.now)) }
+    ensures ref_ptr_value { result.ref_ptr ≡ place_in s.entry (at + cut_from (flag e.p) (flag e.q) e.r (take e.width (drop at s.now))) }
 {
-    if number != 0 {
-        return &s[0..0];
-    }
     let part = field(e, at, s);
     let right = decode_scalar::flag(e.p);
     let trim = decode_scalar::flag(e.q);
@@ -122,34 +93,32 @@ fn text_in(e: Entry, number: u32, at: usize, s: &[u8]) -> &[u8]
 }
 
 // The text of the field: a part of the record on page 0, and on page 1 of the scratch that translate_text filled. The number is 0, or the one it refuses by.
+// Kept: no Result, as a refusal hands out an empty part, whose place is promised.
 pub fn text_field<'a>(
-    layout: &[u32],
-    page: u32,
+    layout: &Layout,
     record: &'a [u8],
     scratch: &'a [u8],
     number: &mut u32,
 ) -> &'a [u8]
-    ensures { TextFound layout.now page «record».entry scratch.entry number.new result }
+    ensures { TextFound layout.now.words.now layout.now.page «record».entry scratch.entry number.new result }
 {
-    let n = asked(layout, page, record.len(), scratch.len(), false);
-    *number = n;
-    let e = layout::load(layout, 0);
-    if page == 1 {
-        return text_in(e, n, 0, scratch);
-    } else {
-        return text_in(e, n, e.offset as usize, record);
+    let asked = ask(layout, record.len(), scratch.len(), false);
+    *number = number_in(asked);
+    match asked {
+        Ok(e) if layout.page == 1 => text_in(e, 0, scratch),
+        Ok(e) => text_in(e, e.offset as usize, record),
+        Err(_) if layout.page == 1 => &scratch[..0],
+        Err(_) => &record[..0],
     }
 }
 
 // Where the text of the field at a place of a slice starts.
+#[tactic(auto, unfolding(text::specs::Text::cut_from))]
 fn start_in(e: Entry, at: usize, s: &[u8]) -> usize
     requires { (at + e.width ≤ length s.now) × (e.r ≤ 255) }
     ensures { result ≡ at + cut_from (flag e.p) (flag e.q) e.r (take e.width (drop at s.now)) }
 {
-    if !decode_scalar::flag(e.q) {
-        return at;
-    }
-    if !decode_scalar::flag(e.p) {
+    if !decode_scalar::flag(e.q) || !decode_scalar::flag(e.p) {
         return at;
     }
     let part = field(e, at, s);
@@ -157,10 +126,9 @@ fn start_in(e: Entry, at: usize, s: &[u8]) -> usize
     at + text::pad_start(part, pad)
 }
 
-// Where a field's text stands: 0 or the number it is refused by, its start and its length.
+// Where a field's text stands: its start and its length.
 #[derive(Clone, Copy)]
 pub struct TextPlace {
-    pub number: u32,
     pub start: usize,
     pub length: usize,
 }
@@ -168,35 +136,23 @@ pub struct TextPlace {
 // The same for the field at a place of a slice.
 fn place_in(e: Entry, at: usize, s: &[u8]) -> TextPlace
     requires { (at + e.width ≤ length s.now) × (e.r ≤ 255) }
-    ensures number_value { result.number ≡ 0 }
     ensures start_value { result.start ≡ at + cut_from (flag e.p) (flag e.q) e.r (take e.width (drop at s.now)) }
     ensures length_value { result.length ≡ length (cut (flag e.p) (flag e.q) e.r (take e.width (drop at s.now))) }
 {
-    let start = start_in(e, at, s);
-    let text = text_in(e, 0, at, s);
     TextPlace {
-        number: 0,
-        start,
-        length: text.len(),
+        start: start_in(e, at, s),
+        length: text_in(e, at, s).len(),
     }
 }
 
-// Where the text that text_field hands out stands in the record, on page 1 in the scratch; 0 and no bytes where it refuses.
-pub fn text_place(layout: &[u32], page: u32, record: &[u8], scratch: &[u8]) -> TextPlace
-    ensures { TextPlaced layout.now page «record».now scratch.now result.number result.start result.length }
+// Where the text that text_field hands out stands in the record, on page 1 in the scratch.
+pub fn text_place(layout: &Layout, record: &[u8], scratch: &[u8]) -> Result<TextPlace, Refusal>
+    ensures { TextPlaced layout.now.words.now layout.now.page «record».now scratch.now (number_in result) (start_in result) (length_in result) }
 {
-    let number = asked(layout, page, record.len(), scratch.len(), false);
-    if number != 0 {
-        return TextPlace {
-            number,
-            start: 0,
-            length: 0,
-        };
-    }
-    let e = layout::load(layout, 0);
-    if page == 1 {
-        return place_in(e, 0, scratch);
+    let e = ask(layout, record.len(), scratch.len(), false)?;
+    if layout.page == 1 {
+        Ok(place_in(e, 0, scratch))
     } else {
-        return place_in(e, e.offset as usize, record);
+        Ok(place_in(e, e.offset as usize, record))
     }
 }

@@ -1,6 +1,5 @@
--- The questions of the calls, one behind the other: each law says what a call answers where one of them fails, or where all are passed.
-use Rattle.std.proofs.Common.{◌≡◌, ℕ, ◌<◌, ◌≤◌, Bool, true, false, cond, ◌&&◌, eqb, leb, List, length, sym, refl, ap, ◌∙◌, arith, eq-eqb, ne_eqb, le-leb, leb-true}
-use borrow.Author.Tests.{lt-leb}
+-- The questions of the calls, one behind the other: what is known where they are passed.
+use Rattle.std.proofs.Common.{◌≡◌, ℕ, ◌≤◌, Bool, true, false, cond, ◌&&◌, eqb, leb, List, length, sym, refl, ap, ◌∙◌, arith, eq-eqb, leb-true}
 use Rattle.lists.proofs.Logic.{and_left, and_right}
 use Rattle.layout.specs.Layout.{layout_asks}
 use Rattle.walks.specs.Records.{asking, first_of, decode_record}
@@ -14,14 +13,7 @@ passed : (b : Bool) (n : ℕ) → (n ≡ 0 → ⊥) → cond b 0 n ≡ 0 → b �
 passed true n h e = refl
 passed false n h e = absurd (h e)
 
--- ---- one question before another
-
-module _ (a b : ℕ) where
-  pub first-fails : (n : ℕ) → n ≡ a → (n ≡ 0 → ⊥) → n ≡ first_of a b
-  first-fails n e h = rw (ne_eqb a 0 (λ z. h (e ∙ z))) e
-
-  pub first-passed : a ≡ 0 → (n : ℕ) → n ≡ b → n ≡ first_of a b
-  first-passed z n e = rw (eq-eqb a 0 z) e
+-- ---- what is passed
 
 -- what is accepted passed each question
 asking-added : (a : ℕ) (x : Added) (p : Pair) → asking refused a x ≡ added p → x ≡ added p
@@ -75,24 +67,6 @@ module _ (l : List ℕ) (w first second display : ℕ) (e : pair_asks l w first 
   pair-shown = leb-true display (scale_at l first) (and_right entries_ok shown pair-passed)
 
 module _ (l masks : List ℕ) (page w first second display words work : ℕ) where
-  pub asks-layout : (n : ℕ) → n ≡ layout_asks l masks page work → (n ≡ 0 → ⊥) → n ≡ window_asks l masks page w first second display words work
-  unfolding window_asks
-  asks-layout n e h = first-fails _ _ n e h
-
-  module _ (a : layout_asks l masks page work ≡ 0) where
-    pub asks-pair : (n : ℕ) → n ≡ pair_asks l w first second display → (n ≡ 0 → ⊥) → n ≡ window_asks l masks page w first second display words work
-    unfolding window_asks
-    asks-pair n e h = first-passed _ _ a n (first-fails _ _ n e h)
-
-    module _ (p : pair_asks l w first second display ≡ 0) where
-      pub asks-short : words < window_words w → 16 ≡ window_asks l masks page w first second display words work
-      unfolding window_asks
-      asks-short h = first-passed _ _ a 16 (first-passed _ _ p 16 (rw (lt-leb (window_words w) words h)))
-
-      pub asks_nothing : window_words w ≤ words → 0 ≡ window_asks l masks page w first second display words work
-      unfolding window_asks
-      asks_nothing h = first-passed _ _ a 0 (first-passed _ _ p 0 (rw (le-leb (window_words w) words h)))
-
   -- what is known where all are passed
   module _ (z : window_asks l masks page w first second display words work ≡ 0) where
     behind-layout : (layout_asks l masks page work ≡ 0) × (first_of (pair_asks l w first second display) (room_asks w words) ≡ 0)
@@ -119,19 +93,6 @@ module _ (l masks : List ℕ) (page w first second : ℕ) (window : List ℕ) (w
 
   abbrev lawful_is : Bool → Type 0
   lawful_is b = lawful_in w (scale_at l first) window ≡ b
-
-  pub before-window : (n : ℕ) → n ≡ start → (n ≡ 0 → ⊥) → n ≡ before_asks l masks page w first second window work
-  unfolding before_asks
-  before-window n e h = first-fails _ _ n e h
-
-  module _ (z : start ≡ 0) where
-    pub not-lawful : lawful_is false → 24 ≡ before_asks l masks page w first second window work
-    unfolding before_asks
-    not-lawful h = first-passed start _ z 24 (rw h)
-
-    pub is_lawful : lawful_is true → 0 ≡ before_asks l masks page w first second window work
-    unfolding before_asks
-    is_lawful h = first-passed start _ z 0 (rw h)
 
   pub asked-lawful : before_asks l masks page w first second window work ≡ 0 → (start ≡ 0) × lawful_is true
   unfolding before_asks

@@ -1,15 +1,15 @@
 -- What values contribute: by either rule no more than the size itself, so that a small value stays small and its word gives back sign and size.
-use Rattle.std.proofs.Common.{◌≡◌, ℕ, zero, suc, ◌+◌, ◌-◌, ◌/◌, ◌%◌, ◌^◌, ◌<◌, ◌≤◌, Bool, true, false, cond, eqb, ltb, sym, refl, ap, ◌∙◌, subst, ap₂, le-div_iff_mul-le, div-le_self, div-mul-le_self, arith, lit<, ltb-true, lt-ltb, eq-eqb, ne_eqb}
+use Rattle.std.proofs.Common.{◌≡◌, ℕ, zero, suc, ◌+◌, ◌-◌, ◌/◌, ◌%◌, ◌^◌, ◌<◌, ◌≤◌, Bool, true, false, cond, eqb, ltb, sym, refl, ap, ◌∙◌, subst, ap₂, le-div_iff_mul-le, div-le_self, div-mul-le_self, arith, lit<, ltb-true, lt-ltb, ne_eqb}
 use native.Mathlib.Nat.{div-eq_of_lt, pow-le-pow_right}
 use Rattle.lists.proofs.Logic.{and, and_left, and_right}
 use Rattle.value.specs.Digits.{signed_of}
 use Rattle.value.specs.Rounding.{Nearest, goes_up, rounded}
 use Rattle.value.specs.Word.{word_of, minus_in, size_in}
 use Rattle.value.proofs.Digits.{pow-pos10}
-use Rattle.value.proofs.Nearest.{rounded-nearest, rounded-up, rounded-down, next-most}
+use Rattle.value.proofs.Nearest.{rounded-nearest, next-most}
 use Rattle.value.proofs.Rounding.{scale-gone}
 use Rattle.value.proofs.Word.{size_back, minus-back}
-use Rattle.window.specs.Window.{Pair, whole_of, small, small_pair, Rule, cutting, half_even, ruled, rule_of, contributed, contributed_pair}
+use Rattle.window.specs.Window.{Pair, whole_of, small, small_pair, Rule, cutting, half_even, ruled, contributed, contributed_pair}
 use Rattle.window.specs.Runs.{Cut, EachContributes}
 
 -- ---- a size by a rule
@@ -28,28 +28,13 @@ pub ruled-gone : (rule : Rule) (n k : ℕ) → 19 < k → n < 2 ^ 64 → 0 ≡ r
 ruled-gone cutting n k h f = let b : 10 ^ 20 ≤ 10 ^ k = pow-le-pow_right {n = 10} (lit< tt) {i = 20} h in sym (div-eq_of_lt (omega arith))
 ruled-gone half_even n k h f = scale-gone k n h f
 
--- as the code finds it, with the divisor p that it has for d
-module _ (passed : Bool) (n d p : ℕ) (e : p ≡ d) where
-  pub size-cut : passed ≡ false → n / p ≡ ruled (rule_of passed) n d
-  size-cut h = rw h (ap (λ i. n / i) e)
-
-  pub size-up : passed ≡ true → goes_up (n % p) (p - n % p) (n / p) ≡ true → n / p + 1 ≡ ruled (rule_of passed) n d
-  size-up h g = rw h (rounded-up n d p e g)
-
-  pub size-down : passed ≡ true → goes_up (n % p) (p - n % p) (n / p) ≡ false → n / p ≡ ruled (rule_of passed) n d
-  size-down h g = rw h (rounded-down n d p e g)
-
 cut-is : (n d : ℕ) → 0 < d → Cut n d (n / d)
 cut-is n d h = record { within = div-mul-le_self n d; greatest = λ m k. (le-div_iff_mul-le {k = d} {x = m} {y = n} h).1 k }
 
 -- ---- what one value contributes
 
 module _ (scale display : ℕ) (rule : Rule) (x : ℕ) where
-  pub contributed-itself : display ≡ 0 → x ≡ contributed scale display rule x
-  unfolding contributed
-  contributed-itself h = rw (eq-eqb display 0 h)
-
-  pub contributed-word : (display ≡ 0 → ⊥) → word_of (minus_in x) (ruled rule (size_in x) (10 ^ (scale - (display - 1)))) ≡ contributed scale display rule x
+  contributed-word : (display ≡ 0 → ⊥) → word_of (minus_in x) (ruled rule (size_in x) (10 ^ (scale - (display - 1)))) ≡ contributed scale display rule x
   unfolding contributed
   contributed-word h = rw (ne_eqb display 0 h)
 

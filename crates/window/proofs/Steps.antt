@@ -1,9 +1,9 @@
 -- What the code does, one store and one turn at a time: each law says what is left to show where a branch ends.
-use Rattle.std.proofs.Common.{◌≡◌, ℕ, zero, suc, ◌+◌, ◌-◌, ◌*◌, ◌%◌, ◌^◌, ◌<◌, ◌≤◌, true, false, eqb, List, [], ◌∷◌, ◌++◌, length, get_or, take, drop, set, replicate, sym, refl, ap, ◌∙◌, add-one, arith, length-drop, get_or-drop, drop-drop, get_or-append-add, le-ltb, lt-ltb, eq-eqb, ne_eqb, le-leb}
-use lib.Seq.{paste, paste-suc, length_paste_head}
+use Rattle.std.proofs.Common.{◌≡◌, ℕ, zero, suc, ◌+◌, ◌-◌, ◌*◌, ◌%◌, ◌^◌, ◌<◌, ◌≤◌, true, false, ◌&&◌, List, [], ◌∷◌, ◌++◌, length, get_or, drop, set, replicate, sym, refl, ap, ap₂, ◌∙◌, arith, get_or-drop, drop-drop, le-ltb, lt-ltb, le-leb}
 use borrow.Author.Tests.{lt-leb}
-use Rattle.window.specs.Window.{pair, firsts, seconds, pairs_of, total, sum_in, window_words, held_in, display_in, small, all_small, words_ok, lawful_in, started, changed}
-use Rattle.window.specs.Steps.{put_at, moved_down, word_plus, word_minus, with_head, pushed}
+use lib.Seq.{paste}
+use Rattle.window.specs.Window.{Pair, pair, firsts, seconds, pairs_of, total, sum_in, window_words, held_in, display_in, small_pair, all_small, lawful_in, started, changed}
+use Rattle.window.specs.Steps.{put_at, moved_down, pair_plus, pair_minus, with_head, pushed}
 
 -- ---- stores
 
@@ -37,55 +37,20 @@ change-put l = refl
 
 -- ---- moving down
 
-module _ (l : List ℕ) (i : ℕ) (h : 7 + i < length l) where
-  pub next_down : get_or (paste l 5 (drop 7 l) i) (7 + i) 0 ≡ get_or (drop 7 l) i 0
-  next_down =
-      let p : List ℕ = take 5 l ++ take i (drop 7 l) in
-      let n : length (take 5 l ++ take i (drop 7 l)) ≡ 5 + i = length_paste_head l 5 (drop 7 l) i (omega arith) (omega (arith, length-drop 7 l)) in
-      let e : 7 + i ≡ length (take 5 l ++ take i (drop 7 l)) + 2 = omega arith in
-      let f : 5 + i + 2 ≡ 7 + i = omega arith in
-      ap (λ k. get_or (paste l 5 (drop 7 l) i) k 0) e ∙ get_or-append-add p (drop (5 + i) l) 2 0 ∙ get_or-drop (5 + i) l 2 0 ∙ ap (λ k. get_or l k 0) f ∙ sym (get_or-drop 7 l i 0)
-
-  pub down-go : set (paste l 5 (drop 7 l) i) (5 + i) (get_or (paste l 5 (drop 7 l) i) (7 + i) 0) ≡ paste l 5 (drop 7 l) (i + 1)
-  down-go = ap (set (paste l 5 (drop 7 l) i) (5 + i)) next_down ∙ paste-suc l 5 (drop 7 l) i 0 (omega arith) (omega (arith, length-drop 7 l)) ∙ ap (paste l 5 (drop 7 l)) (sym (add-one i))
-
 pub down-all : (l : List ℕ) (w i : ℕ) → i ≡ w * 2 - 2 → paste l 5 (drop 7 l) i ≡ moved_down w l
 unfolding moved_down
 down-all l w i h = ap (paste l 5 (drop 7 l)) h
 
 -- ---- question 24
 
-module _ (w scale : ℕ) (l : List ℕ) where
-  pub not-count : w < get_or l 0 0 → false ≡ lawful_in w scale l
+module _ (w scale : ℕ) (l : List ℕ) (n : get_or l 0 0 ≤ w) where
+  pub not-display : scale < display_in l → false ≡ lawful_in w scale l
   unfolding lawful_in
-  not-count h = rw (lt-leb (get_or l 0 0) w h)
+  not-display h = rw (le-leb (get_or l 0 0) w n, lt-leb (display_in l) scale h)
 
-  module _ (n : get_or l 0 0 ≤ w) where
-    pub not-display : scale < display_in l → false ≡ lawful_in w scale l
-    unfolding lawful_in
-    not-display h = rw (le-leb (get_or l 0 0) w n, lt-leb (display_in l) scale h)
-
-    module _ (s : display_in l ≤ scale) where
-      pub not-rule : 1 < get_or l 4 0 → false ≡ lawful_in w scale l
-      unfolding lawful_in
-      not-rule h = rw (le-leb (get_or l 0 0) w n, le-leb (display_in l) scale s, lt-leb (get_or l 4 0) 1 h)
-
-      module _ (r : get_or l 4 0 ≤ 1) where
-        words : words_ok w scale l ≡ true
-        words = rw (le-leb (get_or l 0 0) w n, le-leb (display_in l) scale s, le-leb (get_or l 4 0) 1 r)
-
-        pub not-small : all_small (held_in l) ≡ false → false ≡ lawful_in w scale l
-        unfolding lawful_in
-        not-small h = rw (words, h)
-
-        module _ (a : all_small (held_in l) ≡ true) where
-          pub not_first : (get_or l 1 0 ≡ sum_in (firsts (held_in l)) → ⊥) → false ≡ lawful_in w scale l
-          unfolding lawful_in
-          not_first h = rw (words, a, ne_eqb (get_or l 1 0) (sum_in (firsts (held_in l))) h)
-
-          pub by-second : get_or l 1 0 ≡ sum_in (firsts (held_in l)) → eqb (get_or l 2 0) (sum_in (seconds (held_in l))) ≡ lawful_in w scale l
-          unfolding lawful_in
-          by-second h = rw (words, a, eq-eqb (get_or l 1 0) (sum_in (firsts (held_in l))) h)
+  pub not-rule : display_in l ≤ scale → 1 < get_or l 4 0 → false ≡ lawful_in w scale l
+  unfolding lawful_in
+  not-rule s h = rw (le-leb (get_or l 0 0) w n, le-leb (display_in l) scale s, lt-leb (get_or l 4 0) 1 h)
 
 -- so many pairs are judged, and these are the sums so far
 pub record Judging (l : List ℕ) (i first second : ℕ) : Type 0 where
@@ -96,11 +61,6 @@ pub record Judging (l : List ℕ) (i first second : ℕ) : Type 0 where
   pub two : second < 2 ^ 64
   pub twos : sum_in (seconds (held_in l)) ≡ (second + total (seconds (pairs_of (get_or l 0 0 - i) (drop (5 + i * 2) l)))) % 2 ^ 64
 
-pub judging-starts : (l : List ℕ) → Judging l 0 0 0
-judging-starts l =
-    let z : get_or l 0 0 - 0 ≡ get_or l 0 0 = omega arith in
-    record { within = omega arith; smalls = rw z; ones = rw z (omega arith); twos = rw z (omega arith); one = omega arith; two = omega arith }
-
 module _ (l : List ℕ) (i first second : ℕ) (j : Judging l i first second) (h : i < get_or l 0 0) where
   turn : pairs_of (get_or l 0 0 - i) (drop (5 + i * 2) l) ≡ pair (get_or l (5 + i * 2) 0) (get_or l (5 + i * 2 + 1) 0) ∷ pairs_of (get_or l 0 0 - (i + 1)) (drop (5 + (i + 1) * 2) l)
   turn =
@@ -110,24 +70,29 @@ module _ (l : List ℕ) (i first second : ℕ) (j : Judging l i first second) (h
       ap (λ n. pairs_of n (drop (5 + i * 2) l)) e
       ∙ λ k. pair ((get_or-drop (5 + i * 2) l 0 0 ∙ ap (λ m. get_or l m 0) z) k) (get_or-drop (5 + i * 2) l 1 0 k) ∷ pairs_of (get_or l 0 0 - (i + 1)) ((drop-drop 2 (5 + i * 2) l ∙ ap (λ m. drop m l) t) k)
 
-  module _ (a b : ℕ) (p : a ≡ get_or l (5 + i * 2) 0) (q : b ≡ get_or l (5 + i * 2 + 1) 0) where
-    pub judging-first : small a ≡ false → all_small (held_in l) ≡ false
-    judging-first s = j.smalls ∙ ap all_small turn ∙ rw (← p, s)
+  abbrev next : Pair
+  next = pair (get_or l (5 + i * 2) 0) (get_or l (5 + i * 2 + 1) 0)
 
-    pub judging-second : small a ≡ true → small b ≡ false → all_small (held_in l) ≡ false
-    judging-second s t = j.smalls ∙ ap all_small turn ∙ rw (← p, ← q, s, t)
+  abbrev rest : List Pair
+  rest = pairs_of (get_or l 0 0 - (i + 1)) (drop (5 + (i + 1) * 2) l)
 
-    pub judging-goes : small a ≡ true → small b ≡ true → (x y : ℕ) → x ≡ (first + a) % 2 ^ 64 → y ≡ (second + b) % 2 ^ 64 → Judging l (i + 1) x y
-    judging-goes s t x y u v =
-        let f : total (firsts (pairs_of (get_or l 0 0 - i) (drop (5 + i * 2) l))) ≡ a + total (firsts (pairs_of (get_or l 0 0 - (i + 1)) (drop (5 + (i + 1) * 2) l))) = ap
-        (λ ps. total (firsts ps)) turn ∙ rw p in
-        let g : total (seconds (pairs_of (get_or l 0 0 - i) (drop (5 + i * 2) l))) ≡ b + total (seconds (pairs_of (get_or l 0 0 - (i + 1)) (drop (5 + (i + 1) * 2) l))) = ap
-        (λ ps. total (seconds ps)) turn ∙ rw q in
+  module _ (p : Pair) (e : p ≡ next) where
+    pub judging-stops : small_pair p ≡ false → all_small (held_in l) ≡ false
+    judging-stops s = j.smalls ∙ ap all_small turn ∙ ap (λ q. small_pair q && all_small rest) (sym e) ∙ ap (λ b. b && all_small rest) s
+
+    pub judging-goes : small_pair p ≡ true → (q : Pair) → q ≡ pair_plus (pair first second) p → Judging l (i + 1) q.first q.second
+    judging-goes s q u =
+        let x : q.first ≡ (first + p.first) % 2 ^ 64 = ap (λ r. r.first) u in
+        let y : q.second ≡ (second + p.second) % 2 ^ 64 = ap (λ r. r.second) u in
+        let f : total (firsts (pairs_of (get_or l 0 0 - i) (drop (5 + i * 2) l))) ≡ p.first + total (firsts (pairs_of (get_or l 0 0 - (i + 1)) (drop (5 + (i + 1) * 2) l)))
+        = ap (λ ps. total (firsts ps)) turn ∙ ap (λ r. r.first + total (firsts rest)) (sym e) in
+        let g : total (seconds (pairs_of (get_or l 0 0 - i) (drop (5 + i * 2) l))) ≡ p.second + total (seconds (pairs_of (get_or l 0 0 - (i + 1)) (drop (5 + (i + 1) * 2) l)))
+        = ap (λ ps. total (seconds ps)) turn ∙ ap (λ r. r.second + total (seconds rest)) (sym e) in
         record {
           within = omega arith;
-          smalls = j.smalls ∙ ap all_small turn ∙ rw (← p, ← q, s, t);
-          ones = j.ones ∙ added first a _ _ x f u;
-          twos = j.twos ∙ added second b _ _ y g v;
+          smalls = j.smalls ∙ ap all_small turn ∙ ap (λ q. small_pair q && all_small rest) (sym e) ∙ ap (λ b. b && all_small rest) s;
+          ones = j.ones ∙ added first p.first _ _ q.first f x;
+          twos = j.twos ∙ added second p.second _ _ q.second g y;
           one = omega arith;
           two = omega arith;
         }
@@ -135,30 +100,20 @@ module _ (l : List ℕ) (i first second : ℕ) (j : Judging l i first second) (h
         added : (s a t r x : ℕ) → t ≡ a + r → x ≡ (s + a) % 2 ^ 64 → (s + t) % 2 ^ 64 ≡ (x + r) % 2 ^ 64
         added s a t r x e u = omega arith
 
-module _ (l : List ℕ) (i first second : ℕ) (j : Judging l i first second) (h : get_or l 0 0 ≤ i) where
-  none_left : pairs_of (get_or l 0 0 - i) (drop (5 + i * 2) l) ≡ []
-  none_left = let z : get_or l 0 0 - i ≡ 0 = omega arith in rw z
-
-  pub judged-small : all_small (held_in l) ≡ true
-  judged-small = j.smalls ∙ ap all_small none_left
-
-  pub judged-first : sum_in (firsts (held_in l)) ≡ first
-  judged-first = let z : (first + 0) % 2 ^ 64 ≡ first = omega arith in j.ones ∙ ap (λ ps. (first + total (firsts ps)) % 2 ^ 64) none_left ∙ z
-
-  pub judged-second : sum_in (seconds (held_in l)) ≡ second
-  judged-second = let z : (second + 0) % 2 ^ 64 ≡ second = omega arith in j.twos ∙ ap (λ ps. (second + total (seconds ps)) % 2 ^ 64) none_left ∙ z
-
 -- ---- a pair more
 
-module _ (w a b : ℕ) (l : List ℕ) where
-  pub push-grows : get_or l 0 0 < w → (m e : List ℕ) (x y : ℕ) → m ≡ put_at (5 + get_or l 0 0 * 2) a b l → x ≡ word_plus (get_or l 1 0) a → y ≡ word_plus (get_or l 2 0) b
-      → e ≡ with_head (1 + get_or l 0 0) x y m → e ≡ pushed w a b l
+module _ (w : ℕ) (p : Pair) (l : List ℕ) (s : Pair) (u : s ≡ pair (get_or l 1 0) (get_or l 2 0)) where
+  pub push-grows : get_or l 0 0 < w → (m e : List ℕ) (t : Pair) → m ≡ put_at (5 + get_or l 0 0 * 2) p.first p.second l → t ≡ pair_plus s p
+      → e ≡ with_head (1 + get_or l 0 0) t.first t.second m → e ≡ pushed w p.first p.second l
   unfolding pushed
-  push-grows h m e x y p q r s = rw (lt-ltb (get_or l 0 0) w h) (s ∙ λ i. with_head (1 + get_or l 0 0) (q i) (r i) (p i))
+  push-grows h m e t x y z = rw (lt-ltb (get_or l 0 0) w h)
+      (z ∙ λ i. with_head (1 + get_or l 0 0) ((y ∙ ap (λ r. pair_plus r p) u) i).first ((y ∙ ap (λ r. pair_plus r p) u) i).second (x i))
 
-  pub push-rolls : w ≤ get_or l 0 0 → (d m e : List ℕ) (x y u v : ℕ) → d ≡ moved_down w l → m ≡ put_at (5 + (w * 2 - 2)) a b d
-      → x ≡ word_minus (get_or l 1 0) (get_or l 5 0) → y ≡ word_minus (get_or l 2 0) (get_or l 6 0) → u ≡ word_plus x a → v ≡ word_plus y b
-      → e ≡ with_head w u v m → e ≡ pushed w a b l
+  pub push-rolls : w ≤ get_or l 0 0 → (d m e : List ℕ) (o r t : Pair) → o ≡ pair (get_or l 5 0) (get_or l 6 0) → r ≡ pair_minus s o → d ≡ paste l 5 (drop 7 l) (5 + w * 2 - 7)
+      → m ≡ put_at (5 + (w * 2 - 2)) p.first p.second d → t ≡ pair_plus r p → e ≡ with_head w t.first t.second m → e ≡ pushed w p.first p.second l
   unfolding pushed
-  push-rolls h d m e x y u v p q r s t k z = rw (le-ltb (get_or l 0 0) w h)
-      (z ∙ λ i. with_head w ((t ∙ ap (λ n. word_plus n a) r) i) ((k ∙ ap (λ n. word_plus n b) s) i) ((q ∙ ap (put_at (5 + (w * 2 - 2)) a b) p) i))
+  push-rolls h d m e o r t x y z a b c =
+      let k : 5 + w * 2 - 7 ≡ w * 2 - 2 = omega arith in
+      let n : t ≡ pair_plus (pair_minus (pair (get_or l 1 0) (get_or l 2 0)) (pair (get_or l 5 0) (get_or l 6 0))) p = b ∙ ap (λ q. pair_plus q p) (y ∙ ap₂ pair_minus u x) in
+      let f : m ≡ put_at (5 + (w * 2 - 2)) p.first p.second (moved_down w l) = a ∙ ap (put_at (5 + (w * 2 - 2)) p.first p.second) (z ∙ down-all l w _ k) in
+      rw (le-ltb (get_or l 0 0) w h) (c ∙ λ i. with_head w (n i).first (n i).second (f i))

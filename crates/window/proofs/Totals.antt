@@ -118,18 +118,16 @@ sums-true xs few smalls =
 
 -- ---- words as the machine has them
 
-pub int-plain : (x : ℕ) → x < 2 ^ 63 → pos x ≡ whole_of x
-int-plain x h = rw (lt-leb (2 ^ 63) x h)
-
-pub int-negative : (x : ℕ) → 2 ^ 63 ≤ x → x < 2 ^ 64 → negsuc (18446744073709551615 - x) ≡ whole_of x
-int-negative x h k = let e : 2 ^ 64 - x ≡ suc (18446744073709551615 - x) = omega arith in rw (le-leb (2 ^ 63) x h, e)
-
 machine : (x : ℕ) → x < 2 ^ 64 → whole_of x ≡ to_z w64 x
 machine x h = go (dec_lt x (2 ^ 63))
   where
     go : Dec (x < 2 ^ 63) → whole_of x ≡ to_z w64 x
     go (yes k) = rw (lt-leb (2 ^ 63) x k, lt-ltb x (2 ^ 63) k)
     go (no k) = let e : 2 ^ 64 - x ≡ suc (2 ^ 64 - suc x) = omega arith in rw (le-leb (2 ^ 63) x (omega arith), le-ltb x (2 ^ 63) (omega arith), e)
+
+-- what a cast to a signed number gives
+pub cast_whole : (x : ℕ) → x < 2 ^ 64 → (z : ℤ) → z ≡ to_z w64 x → to_z w64 (of_z w64 z) ≡ whole_of x
+cast_whole x h z e = ap (λ y. to_z w64 (of_z w64 y)) e ∙ ap (to_z w64) (of_z-to_z w64 x (record { fits = h })) ∙ sym (machine x h)
 
 whole_word : (x : ℕ) → x < 2 ^ 64 → of_z w64 (whole_of x) ≡ x
 whole_word x h = ap (of_z w64) (machine x h) ∙ of_z-to_z w64 x (record { fits = h })

@@ -1,8 +1,10 @@
 -- The three calls: their questions in order, and what they leave.
-use Rattle.std.specs.Prelude.{◌≡◌, ℕ, cond, List, length, replicate, ℤ, pos, ◌==◌, nat_le}
+use Rattle.std.specs.Prelude.{◌≡◌, ℕ, cond, List, length, replicate, ℤ, pos, ◌==◌, nat_le, Result, Ok, Err}
+use Rattle.codes.specs.declared.Refusal.{Refusal}
 use Rattle.layout.specs.Layout.{layout_asks}
 use Rattle.walks.specs.Records.{asking, first_of, Decoded, decode_record, items_of}
 use Rattle.walks.specs.Records as Records
+use Rattle.window.specs.declared.Sums.{Sums}
 use Rattle.window.specs.Window.{Pair, firsts, seconds, window_words, held_in, display_in, sum_of, small_pair, lawful_in, accepted, rule_in, contributed_pair}
 use Rattle.window.specs.Pair.{scale_at, pair_asks, pair_in}
 
@@ -77,6 +79,15 @@ window_after scale w window (added p) = accepted w (contributed_pair scale (disp
 abbrev pub sum_after : (List Pair → List ℕ) → ℕ → ℕ → List ℕ → Added → ℤ
 sum_after half scale w window (refused n) = pos 0
 sum_after half scale w window (added p) = sum_of (half (held_in (window_after scale w window (added p))))
+
+-- the two sums of a call's own answer: 0 after a refusal
+abbrev pub first_in : Result Sums Refusal → ℤ
+first_in (Ok s) = s.first
+first_in (Err e) = pos 0
+
+abbrev pub second_in : Result Sums Refusal → ℤ
+second_in (Ok s) = s.second
+second_in (Err e) = pos 0
 
 -- All that the call leaves: its number, both sums, the window, and the buffers, all of them work space: "lists made on the way are work space".
 pub record WindowAdded (a : Added) (scale w number : ℕ) (one two : ℤ) (window window' items items' text text' : List ℕ) (counts counts' : List ℤ) : Type 0 where

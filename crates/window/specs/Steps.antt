@@ -1,5 +1,6 @@
 -- What the code does to a window, word by word. Only inner functions cite this file.
-use Rattle.std.specs.Prelude.{ℕ, ◌+◌, ◌-◌, ◌*◌, ◌%◌, ◌^◌, cond, List, ◌∷◌, ◌++◌, take, drop, ℤ, pos, negsuc, nat_lt, slice_index}
+use Rattle.std.specs.Prelude.{ℕ, ◌+◌, ◌-◌, ◌*◌, ◌%◌, ◌^◌, cond, List, ◌∷◌, ◌++◌, take, drop, nat_lt, slice_index}
+use Rattle.window.specs.Window.{Pair, pair}
 
 -- a pair put at a place
 unfoldable pub put_at : ℕ → ℕ → ℕ → List ℕ → List ℕ
@@ -20,6 +21,13 @@ word_plus x y = (x + y) % 2 ^ 64
 abbrev pub word_minus : ℕ → ℕ → ℕ
 word_minus x y = (x + (2 ^ 64 - y % 2 ^ 64)) % 2 ^ 64
 
+-- a pair of sums with a pair more, and without one
+abbrev pub pair_plus : Pair → Pair → Pair
+pair_plus p q = pair (word_plus p.first q.first) (word_plus p.second q.second)
+
+abbrev pub pair_minus : Pair → Pair → Pair
+pair_minus p q = pair (word_minus p.first q.first) (word_minus p.second q.second)
+
 -- a pair more, behind the others
 abbrev pub grown : ℕ → ℕ → List ℕ → List ℕ
 grown a b l = with_head (1 + slice_index l 0) (word_plus (slice_index l 1) a) (word_plus (slice_index l 2) b) (put_at (5 + slice_index l 0 * 2) a b l)
@@ -31,8 +39,3 @@ rolled w a b l =
 
 unfoldable pub pushed : ℕ → ℕ → ℕ → List ℕ → List ℕ
 pushed w a b l = cond (nat_lt (slice_index l 0) w) (grown a b l) (rolled w a b l)
-
--- -1 - n of a whole number
-abbrev pub complemented : ℤ → ℤ
-complemented (pos n) = negsuc n
-complemented (negsuc n) = pos n

@@ -5,14 +5,10 @@ use Rattle.std.specs.Prelude.{ℕ, zero, suc, ◌+◌, ◌-◌, ◌*◌, ◌/◌
 use Rattle.value.specs.Digits.{signed_of}
 use Rattle.value.specs.Rounding.{rounded}
 use Rattle.value.specs.Word.{word_of, minus_in, size_in}
+pub use Rattle.window.specs.declared.Pair.{Pair}
 
 abbrev pub window_words : ℕ → ℕ
 window_words w = 5 + w * 2
-
--- The two numbers that one record gives, as words.
-pub record Pair : Type 0 where
-  pub first : ℕ
-  pub second : ℕ
 
 abbrev pub pair : ℕ → ℕ → Pair
 pair a b = record { first = a; second = b }

@@ -1,65 +1,53 @@
-use mathlib.Core.Path.{refl}
-use mathlib.Core.Bool.{true}
-use lib.ListN.{length}
-use Rattle.decode_leaf.proofs.Scalars.{text-outside, text-pad, text-scalar}
-use mathlib.Core.Path.{refl}
-use mathlib.Core.Bool.{true}
-use lib.ListN.{length}
-use Rattle.decode_leaf.proofs.Scalars.{leaf-outside, leaf-inside, leaf-pad, leaf-scalar}
-use mathlib.Core.Path.{ap}
-use mathlib.Core.Bool.{not}
+-- By the tests of the code: outside the record, a Pad, a scalar.
+use Rattle.std.proofs.Common.{refl, sym, true, length}
+use Rattle.decode_leaf.proofs.Scalars.{leaf-outside, leaf-inside, leaf-pad, leaf-scalar, text-outside, text-pad, text-scalar}
 use Rattle.decode_leaf.proofs.decode_lone.Goals as goal
 
 pub returns-then-not-inside : goal.returns-then-not-inside
 returns-then-not-inside c =
-    let at-args = c.args in
-    let at-inside = c.inside in record {
+    let a = c.args in
+    let l = a.layout.now in
+    let t = c.inside in
+    record {
       lone = record {
-        met = leaf-outside at-args.layout.now at-args.«record».now at-args.page at-args.deps at-args.e at-args.e.name true at-args.at (length at-args.items.now) at-args.counts.now at-args.told at-args.text.now at-inside.result at-inside.ensures
-            (ap not c.if-not-inside.true) c.refusal.ensures;
+        met = leaf-outside l.words.now a.«record».now l.page a.deps a.e a.e.name true a.at (length a.items.now) a.counts.now a.told a.text.now t.result t.ensures c.if-not-inside.true;
         rest = refl;
-        counts = λ _. refl;
+        counts = refl;
       };
-      text_after = text-outside at-args.«record».now at-args.page at-args.e at-args.at at-args.told at-args.text.now at-inside.result at-inside.ensures (ap not c.if-not-inside.true);
+      text_after = text-outside a.«record».now l.page a.e a.at a.told a.text.now t.result t.ensures c.if-not-inside.true;
     }
 
-pub returns-then-e-eq-KIND_PAD : goal.returns-then-e-eq-KIND_PAD
-returns-then-e-eq-KIND_PAD c =
-    let at-args = c.args in
-    let at_pre = c.requires in
-    let at-inside = c.inside in
-    let at-if1 = c.if-not-inside in record {
+pub returns-then-is : goal.returns-then-is
+returns-then-is c =
+    let a = c.args in
+    let l = a.layout.now in
+    let t = c.inside in
+    record {
       lone = record {
-        met = leaf-pad at-args.layout.now at-args.«record».now at-args.page at-args.deps at-args.e at-args.e.name true at-args.at (length at-args.items.now) at-args.counts.now at-args.told at-args.text.now at-inside.result at-inside.ensures
-            (ap not at-if1.false) c.if-e-eq-KIND_PAD.true (at_pre) c.passed.ensures;
+        met = leaf-pad l.words.now a.«record».now l.page a.deps a.e a.e.name true a.at (length a.items.now) a.counts.now a.told a.text.now t.result t.ensures c.if-not-inside.false (sym c.if-is.ensures) c.requires
+            c.passed.ensures;
         rest = refl;
-        counts = λ _. refl;
+        counts = tt;
       };
-      text_after = text-pad at-args.«record».now at-args.page at-args.e at-args.at at-args.told at-args.text.now at-inside.result at-inside.ensures (ap not at-if1.false) c.if-e-eq-KIND_PAD.true;
+      text_after = text-pad a.«record».now l.page a.e a.at a.told a.text.now t.result t.ensures c.if-not-inside.false (sym c.if-is.ensures);
     }
 
 pub lone_value-requires : goal.lone_value-requires
 lone_value-requires c =
-    let at-args = c.args in
-    let at_pre = c.requires in
-    let at-inside = c.inside in
-    let at-if1 = c.if-not-inside in
+    let a = c.args in
+    let l = a.layout.now in
+    let t = c.inside in
     record {
-      width_in_bounds = leaf-inside at-args.layout.now at-args.«record».now at-args.page at-args.deps at-args.e at-args.e.name true at-args.at (length at-args.items.now) at-args.counts.now at-args.told at-args.text.now at-inside.result at-inside.ensures (ap not at-if1.false);
-      told_in_bounds = at_pre;
+      width_in_bounds = leaf-inside l.words.now a.«record».now l.page a.deps a.e a.e.name true a.at (length a.items.now) a.counts.now a.told a.text.now t.result t.ensures c.if-not-inside.false;
+      told_in_bounds = c.requires;
     }
 
 pub returns : goal.returns
 returns c =
-    let at-args = c.args in
-    let at-inside = c.inside in
-    let at-if1 = c.if-not-inside in
-    let at-if2 = c.if-e-eq-KIND_PAD in
-    let at-lone-value = c.lone_value in record {
-      lone = record {
-        met = leaf-scalar at-args.layout.now at-args.«record».now at-args.page at-args.deps at-args.e at-args.e.name true at-args.at (length at-args.items.now) at-args.counts.now at-args.told at-args.text.now at-inside.result at-inside.ensures at-if2.false at-lone-value.ensures.lone.met;
-        rest = at-lone-value.ensures.lone.rest;
-        counts = at-lone-value.ensures.lone.counts;
-      };
-      text_after = text-scalar at-args.«record».now at-args.page at-args.e at-args.at at-args.told at-args.text.now at-inside.result at-inside.ensures (ap not at-if1.false) at-if2.false at-lone-value.ensures.text_after;
+    let a = c.args in
+    let l = a.layout.now in
+    let t = c.inside in
+    record {
+      lone = rw (leaf-scalar l.words.now a.«record».now l.page a.deps a.e a.e.name true a.at (length a.items.now) a.counts.now a.told a.text.now (sym c.if-is.ensures)) c.lone_value.ensures.lone;
+      text_after = text-scalar a.«record».now l.page a.e a.at a.told a.text.now t.result t.ensures c.if-not-inside.false (sym c.if-is.ensures) c.lone_value.ensures.text_after;
     }

@@ -1,10 +1,7 @@
-use mathlib.Core.Path.{◌≡◌}
-use Prim.Native.Nat.{◌-◌, ◌≤◌}
+-- The first entry of the name is the first of those that are left.
+use Rattle.std.proofs.Common.{◌≡◌, ◌-◌}
 use Rattle.decode_leaf.specs.Counts.{first, first_in}
 use Rattle.decode_leaf.proofs.first_of.Given as goal
 
 abbrev pub invariant-loop-i : goal.invariant-loop-i
-invariant-loop-i l = (l.i ≤ l.n) × (first l.layout l.name ≡ first_in (l.n - l.i) l.layout l.name l.i)
-
-abbrev pub decreases-loop-i : goal.decreases-loop-i
-decreases-loop-i l = l.n - l.i
+invariant-loop-i l = first l.layout.words.now l.name ≡ first_in (l.n - l.i) l.layout.words.now l.name l.i

@@ -1,0 +1,2 @@
+-- What a call of the reader comes to, by its own answer.
+pub mod Answered

@@ -1,7 +1,7 @@
 -- What the call and its parts leave, from what the reader, the writer and the clearing leave: each law takes the facts of one way out of a function and makes the record that its contract cites.
 use mathlib.Core.Path.{◌≡◌, refl, sym, ap, ◌∙◌}
 use mathlib.Core.Bool.{Bool}
-use mathlib.Core.List.{List, [], ◌++◌}
+use mathlib.Core.List.{List, []}
 use Prim.Native.Nat.{ℕ, ◌-◌, ◌/◌, ◌≤◌}
 use native.Mathlib.Omega.{arith}
 use lib.IntN.{ℤ, pos}
@@ -16,9 +16,6 @@ use Rattle.convert.specs.Calls.{kept_in, back_asks, rewritten, convert_record, c
 use Rattle.convert.specs.Parts.{BackJudged, ListRewritten}
 
 -- ---- buffers
-
-pub cleared : (xs ys : List ℕ) → ys ≡ take 0 xs ++ replicate (length xs - 0) 0 → Cleared xs ys
-cleared xs ys e = let z : length xs - 0 ≡ length xs = omega arith in e ∙ ap (λ n. replicate n 0) z
 
 none_left : (xs ys : List ℕ) → Cleared xs ys → ys ≡ filled (length xs) []
 none_left xs ys e = let z : length xs ≡ length xs - 0 = omega arith in e ∙ ap (λ n. replicate n 0) z
@@ -117,11 +114,11 @@ module _ (l masks : List ℕ) (page : ℕ) (items text r bi bt : List ℕ) (c : 
     counts-are : c'' ≡ replicate (length c) (pos 0)
     counts-are = counted c c' c'' n j.counts_left
 
-    pub not-kept : (asked ≡ 0 → ⊥) → (r'' : List ℕ) → length r' ≡ length r → r'' ≡ take 0 r' ++ replicate (length r' - 0) 0
+    pub not-kept : (asked ≡ 0 → ⊥) → (r'' : List ℕ) → length r' ≡ length r → Cleared r' r''
         → (number' bytes' : ℕ) → (number' ≡ asked) × (bytes' ≡ 0) → ListRewritten Whole number' bytes' r r'' bi bi' bt bt' c c''
     unfolding rewritten
     not-kept h r'' m k number' bytes' f = record {
-      record_written = refusing Whole asked number' bytes' r r'' c c'' (asking-none refused _ (refusal_of E) (sym w.numbered ∙ z) ∙ asking-some refused E _ (λ e. h (asked_is ∙ e)) ∙ ap refused (sym asked_is)) f.0 f.1 (again r r' r'' m (cleared r' r'' k)) counts-are;
+      record_written = refusing Whole asked number' bytes' r r'' c c'' (asking-none refused _ (refusal_of E) (sym w.numbered ∙ z) ∙ asking-some refused E _ (λ e. h (asked_is ∙ e)) ∙ ap refused (sym asked_is)) f.0 f.1 (again r r' r'' m k) counts-are;
       back_items_left = j.back_items_left;
       back_text_left = j.back_text_left;
     }
@@ -148,13 +145,13 @@ module _ (old old_masks : List ℕ) (old_page : ℕ) (record' new new_masks : Li
   unread (Records.refused n) h = (refl, refl)
   unread (decoded ws t) h = absurd (h refl)
 
-  pub not-read : (number ≡ 0 → ⊥) → (r' : List ℕ) → r' ≡ take 0 r ++ replicate (length r - 0) 0 → (bi' bt' : List ℕ) → Cleared bi bi' × Cleared bt bt'
+  pub not-read : (number ≡ 0 → ⊥) → (r' : List ℕ) → Cleared r r' → (bi' bt' : List ℕ) → Cleared bi bi' × Cleared bt bt'
       → (number' bytes' : ℕ) → (number' ≡ number) × (bytes' ≡ 0) → RecordConverted Call number' bytes' r r' items items' text text' bi bi' bt bt' c c'
   unfolding convert_record
   not-read h r' k bi' bt' z number' bytes' f =
       let u = unread Read (λ e. h (d.numbered ∙ e)) in
       record {
-        record_written = refusing Call number number' bytes' r r' c c' (asking-some refused _ (number_of Read) (λ e. h (d.numbered ∙ e)) ∙ ap refused (sym d.numbered)) f.0 f.1 (cleared r r' k) d.counts_left;
+        record_written = refusing Call number number' bytes' r r' c c' (asking-some refused _ (number_of Read) (λ e. h (d.numbered ∙ e)) ∙ ap refused (sym d.numbered)) f.0 f.1 k d.counts_left;
         items_left = none-cleared items items' (d.items_left ∙ ap (filled (length items)) u.0);
         text_left = none-cleared text text' (d.text_left ∙ ap (filled (length text)) u.1);
         back_items_left = z.0;

@@ -3,8 +3,10 @@ use mathlib.Core.Path.{◌≡◌, refl, sym, ap, ◌∙◌}
 use mathlib.Core.Bool.{true, false, ◌&&◌}
 use mathlib.Core.List.{List}
 use Prim.Native.Nat.{ℕ, ◌+◌, ◌<◌, ◌≤◌}
-use lib.Dec.{eqb}
-use borrow.Author.Tests.{eq-eqb, ne_eqb}
+use lib.Dec.{eqb, leb}
+use native.Mathlib.Decide.{dec_lt}
+use native.Mathlib.Omega.{arith}
+use borrow.Author.Tests.{eq-eqb, ne_eqb, le-leb, lt-leb}
 use Rattle.spans.specs.Tree.{node, end_of}
 use Rattle.items.specs.declared.Item.{Item}
 use Rattle.items.specs.Items.{Values, values, span_of, head_of, lookup}
@@ -32,6 +34,14 @@ module _ (t u v w : List ℕ) (p ito q jto : ℕ) where
   pub all-shorter : ito ≤ p → q < jto → same_all t u (values v p ito) (values w q jto) ≡ false
   unfolding same_all
   all-shorter h k = rw (values-none v p ito h, node_at w q jto (head_of (values w q jto)) (end_of (span_of (head_of (values w q jto))) q jto) refl refl k)
+
+  -- behind the last item of the first sequence
+  pub all-done : ito ≤ p → same_all t u (values v p ito) (values w q jto) ≡ leb jto q
+  all-done h = by (dec_lt q jto)
+    where
+      by : Dec (q < jto) → same_all t u (values v p ito) (values w q jto) ≡ leb jto q
+      by (yes k) = all-shorter h k ∙ sym (lt-leb jto q k)
+      by (no k) = all_end h (omega arith) ∙ sym (le-leb jto q (omega arith))
 
   module _ (x y : Item) (pe qe : ℕ) (xp : x ≡ head_of (values v p ito)) (yp : y ≡ head_of (values w q jto))
       (ep : pe ≡ end_of (span_of (head_of (values v p ito))) p ito) (eq : qe ≡ end_of (span_of (head_of (values w q jto))) q jto) (h : p < ito) (k : q < jto) where

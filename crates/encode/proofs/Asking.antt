@@ -1,26 +1,23 @@
--- The questions before the walk.
+-- Names supplied.
 use mathlib.Core.Path.{◌≡◌, refl, sym, ap, ap₂, ◌∙◌}
 use mathlib.Core.Bool.{Bool, true, false, ◌||◌, cond, false≢true}
 use mathlib.Core.List.{List}
-use Prim.Native.Nat.{ℕ, ◌<◌, ◌≤◌, min}
+use Prim.Native.Nat.{ℕ, ◌<◌, ◌≤◌}
 use native.Mathlib.Omega.{arith}
 use native.Mathlib.Decide.{dec_lt}
-use lib.Dec.{eqb, leb, ltb}
-use lib.ListN.{length}
-use borrow.Author.Tests.{ne_eqb, eq-eqb, lt-leb, le-leb, lt-ltb, le-ltb}
+use lib.Dec.{eqb, ltb}
+use borrow.Author.Tests.{lt-ltb, le-ltb}
 use Rattle.spans.specs.Tree.{none, node, end_of}
 use Rattle.spans.proofs.Tree.{tree-none, tree-at}
 use Rattle.layout.specs.declared.Entry.{Entry}
-use Rattle.layout.specs.Layout.{entry_at, span_of, part, entries, layout_asks, record_length, is_pad}
+use Rattle.layout.specs.Layout.{entry_at, entry_count, span_of, part, entries, is_pad}
 use Rattle.items.specs.Items as Items
-use Rattle.items.specs.Items.{Values, item_count, values, head_of, rest_of, lookup, well_formed}
+use Rattle.items.specs.Items.{Values, item_count, values, head_of, rest_of, lookup}
 use Rattle.items.proofs.Items.{values-none, values-node}
-use Rattle.walks.specs.Records.{found, supplied, most, list_asks, writer_asks}
+use Rattle.walks.specs.Records.{found, supplied}
 use Rattle.walks.specs.Walk.{values_after}
 use Rattle.encode.specs.Order.{heads, sought}
 use Rattle.encode.proofs.Order.{lookup-heads}
-
--- ---- names supplied
 
 found-by : (v : List ℕ) (j to : ℕ) → found (values v j to) ≡ ltb j to
 found-by v j to = go (dec_lt j to)
@@ -96,53 +93,6 @@ module _ (l v : List ℕ) (i hi next to : ℕ) (w : Within (values v next to) (v
   pub within-behind : (j' : ℕ) → values v j' to ≡ values_after e (values v j to) → Within (values v j' to) (values v 0 to)
   within-behind j' r name k = within-next e (values v next to) (values v 0 to) w name (ap (λ vs. found (lookup name vs)) (sym (r ∙ ap (values_after e) q)) ∙ k)
 
--- by the items' number
-pub supplied-is : (l v : List ℕ) (n to : ℕ) → to ≡ item_count v → (z : Bool) → supplied (part l 0 n) (values v 0 to) ≡ z → z ≡ supplied (part l 0 n) (values v 0 (item_count v))
-supplied-is l v n to q z h = sym h ∙ ap (λ k. supplied (part l 0 n) (values v 0 k)) q
-
--- ---- where an item is seen
-
-module _ (v : List ℕ) (e : Entry) (next to : ℕ) where
-  pub sought-pad : e.kind ≡ 6 → values v next to ≡ sought e (values v next to) (values v 0 to)
-  unfolding is_pad
-  sought-pad k = rw (eq-eqb e.kind 6 k) refl
-
-  module _ (k : e.kind ≡ 6 → ⊥) (z : Bool) (y : z ≡ heads e.name (values v next to)) where
-    pub sought-here : z ≡ true → values v next to ≡ sought e (values v next to) (values v 0 to)
-    unfolding is_pad
-    sought-here f = rw (ne_eqb e.kind 6 k, sym y ∙ f) refl
-
-    pub sought-there : z ≡ false → (r : ℕ) → lookup e.name (values v 0 to) ≡ values v r to → values v r to ≡ sought e (values v next to) (values v 0 to)
-    unfolding is_pad
-    sought-there f r g = rw (ne_eqb e.kind 6 k, sym y ∙ f) (sym g)
-
--- ---- the first question that fails
-
--- on the list
-module _ (l items text : List ℕ) (room : ℕ) (a : Bool) (q : a ≡ well_formed items (length text)) where
-  pub asks-list : a ≡ false → 11 ≡ list_asks l items text room
-  asks-list f = rw (sym q ∙ f) refl
-
-  module _ (f : a ≡ true) (b : Bool) (r : b ≡ supplied (entries l) (values items 0 (item_count items))) where
-    pub asks-names : b ≡ false → 12 ≡ list_asks l items text room
-    asks-names g = rw (sym q ∙ f, sym r ∙ g) refl
-
-    module _ (g : b ≡ true) (m least : ℕ) (s : m ≡ min room 65536) (t : least ≡ record_length l) where
-      long : (x : Bool) → leb least m ≡ x → leb (record_length l) (min room most) ≡ x
-      long x k = ap₂ leb (sym t) (sym s) ∙ k
-
-      pub asks-room : m < least → 16 ≡ list_asks l items text room
-      asks-room k = rw (sym q ∙ f, sym r ∙ g, long false (lt-leb least m k)) refl
-
-      pub asks-all : least ≤ m → 0 ≡ list_asks l items text room
-      asks-all k = rw (sym q ∙ f, sym r ∙ g, long true (le-leb least m k)) refl
-
--- behind those on the layout
-module _ (l masks : List ℕ) (page : ℕ) (items text : List ℕ) (room work n : ℕ) (p : n ≡ layout_asks l masks page work) where
-  pub asked-layout : (n ≡ 0 → ⊥) → n ≡ writer_asks l masks page items text room work
-  unfolding writer_asks
-  asked-layout h = rw (← p, ne_eqb n 0 h) refl
-
-  pub asked-list : n ≡ 0 → (m : ℕ) → m ≡ list_asks l items text room → m ≡ writer_asks l masks page items text room work
-  unfolding writer_asks
-  asked-list z m q = q ∙ sym (rw (← p, eq-eqb n 0 z) refl)
+-- by the entries' and the items' number
+pub supplied-is : (l v : List ℕ) (n to : ℕ) → n ≡ entry_count l → to ≡ item_count v → (z : Bool) → supplied (part l 0 n) (values v 0 to) ≡ z → z ≡ supplied (entries l) (values v 0 (item_count v))
+supplied-is l v n to p q z h = sym h ∙ ap₂ (λ m k. supplied (part l 0 m) (values v 0 k)) p q

@@ -4,8 +4,9 @@ use mathlib.Core.Bool.{Bool, true, false, ◌&&◌, false≢true}
 use mathlib.Core.List.{List}
 use Prim.Native.Nat.{ℕ, ◌+◌, ◌≤◌, ◌<◌}
 use native.Mathlib.Omega.{arith}
-use lib.Dec.{eqb}
-use borrow.Author.Tests.{ne_eqb, eqb-true}
+use native.Mathlib.Decide.{dec_lt}
+use lib.Dec.{eqb, ltb}
+use borrow.Author.Tests.{ne_eqb, eqb-true, lt-ltb, le-ltb}
 use Rattle.spans.specs.Tree.{none, node, end_of}
 use Rattle.layout.specs.declared.Entry.{Entry}
 use Rattle.items.specs.declared.Item.{Item}
@@ -17,12 +18,15 @@ use Rattle.encode.specs.Order.{heads, value_of, Ahead}
 
 -- ---- the first item
 
-module _ (v : List ℕ) (name i to : ℕ) where
-  pub heads-item : i < to → (it : Item) → it ≡ head_of (values v i to) → eqb it.name name ≡ heads name (values v i to)
-  heads-item h it p = sym (ap (heads name) (values-node v i to it (Items.span_of it) (end_of (Items.span_of it) i to) p refl refl h))
+pub heads_at : (v : List ℕ) (name i to : ℕ) → heads name (values v i to) ≡ (ltb i to && eqb (head_of (values v i to)).name name)
+heads_at v name i to = go (dec_lt i to)
+  where
+    it : Item
+    it = head_of (values v i to)
 
-  pub heads-none : to ≤ i → false ≡ heads name (values v i to)
-  heads-none h = sym (ap (heads name) (values-none v i to h))
+    go : Dec (i < to) → heads name (values v i to) ≡ (ltb i to && eqb it.name name)
+    go (yes h) = ap (heads name) (values-node v i to it (Items.span_of it) (end_of (Items.span_of it) i to) refl refl refl h) ∙ ap (λ x. x && eqb it.name name) (sym (lt-ltb i to h))
+    go (no h) = ap (heads name) (values-none v i to (omega arith)) ∙ ap (λ x. x && eqb it.name name) (sym (le-ltb i to (omega arith)))
 
 pub lookup-heads : (name : ℕ) (vs : Values) → heads name vs ≡ true → lookup name vs ≡ vs
 unfolding lookup

@@ -1,5 +1,5 @@
 -- From the walk to the public function.
-use mathlib.Core.Path.{◌≡◌, refl, sym, ap, ap₂, ◌∙◌, subst}
+use mathlib.Core.Path.{◌≡◌, refl, sym, ap, ap₂, ◌∙◌, subst, subst⁻¹}
 use mathlib.Core.Bool.{Bool, true, false, cond, false≢true}
 use mathlib.Core.List.{List, [], ◌∷◌, ◌++◌}
 use Prim.Native.Nat.{ℕ, zero, suc, ◌+◌, ◌-◌, ◌≤◌, min, max}
@@ -10,7 +10,11 @@ use lib.IntN.{ℤ, pos}
 use lib.ListN.{length, take, drop, replicate, length-replicate}
 use lib.Seq.{take-append-le}
 use borrow.Author.Tests.{leb-true}
-use Rattle.layout.specs.Layout.{entries, entry_count, checked_of, record_length, layout_asks}
+use Rattle.std.specs.Prelude.{Result, Ok, Err}
+use Rattle.std.specs.Result.{IsErrAnd, result_unwrap_or}
+use Rattle.codes.specs.declared.Refusal.{Refusal}
+use Rattle.codes.specs.Refusals.{number_of, number_in}
+use Rattle.layout.specs.Layout.{part, entries, entry_count, checked_of, record_length, layout_asks}
 use Rattle.layout.proofs.Laws.{asked-lawful}
 use Rattle.items.specs.Items.{item_count, values, well_formed}
 use Rattle.walks.specs.Records.{most, filled, supplied, Encoded, refused, finish, writer_asks, encode_record, refusal_of, bytes_of, RecordWritten, asking, list_asks}
@@ -72,6 +76,11 @@ pub with-counts : {e : Encoded} {number long : ℕ} {r b : List ℕ} {counts cs 
     → RecordWritten e number long r b counts cs
 with-counts a c = record { numbered = a.0; record_bytes = a.1.0; record_left = a.1.1; counts_left = c }
 
+-- a refusal that is passed on
+pub passed-on : (e : Encoded) (n : ℕ) (b : List ℕ) (r : Result ℕ Refusal) (q : Refusal) → IsErrAnd r (λ x. x ≡ q) → Answer e n (number_of q) 0 b → Answer e n (number_in r) (result_unwrap_or r 0) b
+passed-on e n b (Err x) q h a = subst⁻¹ (λ y. Answer e n (number_of y) 0 b) h a
+passed-on e n b (Ok x) q h a = absurd h
+
 refused-answer : (e : Encoded) (m n : ℕ) (b : List ℕ) → e ≡ refused m → b ≡ replicate n 0 → Answer e n m 0 b
 refused-answer e m n b p q =
     let z : n ≡ n - 0 = omega arith in
@@ -85,9 +94,9 @@ abbrev past_of : Laid → ℕ
 past_of (L.refused n) = 0
 past_of (laid b past t) = past
 
-abbrev number_of : Laid → ℕ
-number_of (L.refused n) = n
-number_of (laid b past t) = 0
+abbrev question_of : Laid → ℕ
+question_of (L.refused n) = n
+question_of (laid b past t) = 0
 
 abbrev fine : Laid → Bool
 fine (L.refused n) = false
@@ -95,7 +104,7 @@ fine (laid b past t) = true
 
 -- what the loops refuse, the walk refuses
 refused-walk : (z : List ℕ) (least m : ℕ) (o : Wrote) → done z o ≡ L.refused m → finish least o ≡ refused m
-refused-walk z least m (W.refused n) h = ap refused (ap number_of h)
+refused-walk z least m (W.refused n) h = ap refused (ap question_of h)
 refused-walk z least m (wrote ps t) h = absurd (false≢true (sym (ap fine h)))
 
 laid-walk : (n least room past taken : ℕ) (b : List ℕ) (o : Wrote) → In room 0 o → least ≤ room → room ≤ n → done (replicate n 0) o ≡ laid b past taken
@@ -143,21 +152,21 @@ module _ (l masks : List ℕ) (page : ℕ) (items text : List ℕ) (n work numbe
     walked : E ≡ finish (record_length l) O
     walked = asked_is ∙ asking-none refused (finish (record_length l) O) (writer_asks l masks page items text n work) (sym asked ∙ zero)
 
-    module _ (b₀ : List ℕ) (q : b₀ ≡ replicate n 0) (to : ℕ) (all : to ≡ item_count items) where
-      loops : start (codec masks page text) (room_in b₀) (entries l) (values items 0 to) 0 b₀ ≡ done (replicate n 0) O
+    module _ (b₀ : List ℕ) (q : b₀ ≡ replicate n 0) (hi to : ℕ) (entire : hi ≡ entry_count l) (all : to ≡ item_count items) where
+      loops : start (codec masks page text) (room_in b₀) (part l 0 hi) (values items 0 to) 0 b₀ ≡ done (replicate n 0) O
       loops =
-          ap (λ k. start (codec masks page text) (room_in b₀) (entries l) (values items 0 k) 0 b₀) all
+          ap₂ (λ h k. start (codec masks page text) (room_in b₀) (part l 0 h) (values items 0 k) 0 b₀) entire all
           ∙ ap (λ b. start (codec masks page text) (room_in b) (entries l) (values items 0 (item_count items)) 0 b) q
           ∙ ap (λ k. start (codec masks page text) (min k most) (entries l) (values items 0 (item_count items)) 0 (replicate n 0)) (length-replicate {A = ℕ} n 0)
           ∙ start-does (codec masks page text) (min n most) (omega arith) (entries l)
           (fair-part masks text page l lawful 0 (entry_count l) (le_refl (entry_count l))) (values items 0 (item_count items)) (replicate n 0)
 
-      pub not-walked : (m : ℕ) → start (codec masks page text) (room_in b₀) (entries l) (values items 0 to) 0 b₀ ≡ L.refused m
+      pub not-walked : (m : ℕ) → start (codec masks page text) (room_in b₀) (part l 0 hi) (values items 0 to) 0 b₀ ≡ L.refused m
           → (b : List ℕ) → b ≡ replicate n 0 → Answer E n m 0 b
       not-walked m w b r = refused-answer E m n b (walked ∙ refused-walk (replicate n 0) (record_length l) m O (sym loops ∙ w)) r
 
       pub all-walked : (b : List ℕ) (past taken least less long : ℕ)
-          → start (codec masks page text) (room_in b₀) (entries l) (values items 0 to) 0 b₀ ≡ laid b past taken
+          → start (codec masks page text) (room_in b₀) (part l 0 hi) (values items 0 to) 0 b₀ ≡ laid b past taken
           → least ≡ record_length l → less ≡ past - 1 → long ≡ max least less → Answer E n 0 long b
       all-walked b past taken least less long w u v x =
           subst (λ e. Answer e n 0 long b) (sym walked)

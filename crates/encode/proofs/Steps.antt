@@ -23,33 +23,6 @@ use Rattle.encode_leaf.proofs.Inside.{spread}
 use Rattle.encode_leaf.proofs.Leaves.{leaf-pad}
 use Rattle.encode.specs.Order.{lone, value_of}
 
--- ---- tests
-
-module _ (e : Entry) where
-  pub lone-group : e.kind ≡ 9 → false ≡ lone e
-  unfolding lone
-  lone-group h = rw (eq-eqb e.kind 9 h) refl
-
-  pub lone-table : (z : Bool) → z ≡ unrepeated e → z ≡ false → false ≡ lone e
-  unfolding lone
-  lone-table z y f = rw (sym y ∙ f) (go (is_group e))
-    where
-      go : (g : Bool) → false ≡ (not g && (false && leb e.span 1))
-      go true = refl
-      go false = refl
-
-  pub lone-span : (e.kind ≡ 9 → ⊥) → (z : Bool) → z ≡ unrepeated e → z ≡ true → leb e.span 1 ≡ lone e
-  unfolding lone
-  lone-span h z y f = rw (ne_eqb e.kind 9 h, sym y ∙ f) refl
-
-  pub pad-kind : e.kind ≡ 6 → (z : Bool) → z ≡ unrepeated e → z ≡ (is_pad e && unrepeated e)
-  unfolding is_pad
-  pad-kind h z y = y ∙ ap (λ x. x && unrepeated e) (sym (eq-eqb e.kind 6 h))
-
-  pub pad-not : (e.kind ≡ 6 → ⊥) → false ≡ (is_pad e && unrepeated e)
-  unfolding is_pad
-  pad-not h = rw (ne_eqb e.kind 6 h) refl
-
 -- ---- an entry that is written at once
 
 module _ {S : Type 0} (k : Codec S) (room : ℕ) (e : Entry) (inner : Layer) (vs : Values) (at : ℕ) (b : List ℕ) where

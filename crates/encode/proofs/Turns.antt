@@ -4,10 +4,13 @@ use mathlib.Core.Bool.{Bool, true, false, cond}
 use mathlib.Core.List.{List}
 use Prim.Native.Nat.{ℕ, ◌+◌, ◌-◌, ◌<◌, ◌≤◌, min, max}
 use native.Mathlib.Omega.{arith}
+use lib.Dec.{eqb}
 use lib.ListN.{length}
+use Rattle.std.specs.Prelude.{Result, Ok, Err}
+use Rattle.codes.specs.declared.Refusal.{Refusal}
+use Rattle.codes.specs.Refusals.{number_of}
 use Rattle.spans.specs.Tree.{end_of}
 use Rattle.layout.specs.declared.Entry.{Entry}
-use borrow.Author.Tests.{eq-eqb, ne_eqb}
 use Rattle.layout.specs.Layout.{entry_at, part, is_group, reserved_width}
 use Rattle.items.specs.Items.{Values, values, lookup}
 use Rattle.items.proofs.Items.{values-none}
@@ -17,7 +20,7 @@ use Rattle.encode_leaf.specs.declared.Run.{Run}
 use Rattle.encode_leaf.specs.Laying.{Laid, refused, laid, Layer, group, leaves, one, elements, field, seq, start}
 use Rattle.positions.specs.Positions.{sat}
 use Rattle.encode_leaf.specs.Machine.{codec, room_in, elements_in}
-use Rattle.encode_leaf.proofs.Inside.{spread, Spreads, spreads}
+use Rattle.encode_leaf.proofs.Inside.{ran, spread_is}
 use Rattle.encode.specs.declared.Place.{Place}
 use Rattle.encode_leaf.proofs.Elements.{ElementsInv}
 use Rattle.encode.specs.Order.{value_of, Ahead}
@@ -83,33 +86,29 @@ module _ {masks text : List ℕ} {page : ℕ} {l v b₀ : List ℕ} {lo hi from 
 
 -- ---- the elements of an entry
 
-module _ (masks text : List ℕ) (page : ℕ) (l v b : List ℕ) (e : Entry) (lo hi i to at : ℕ) (small : e.width ≤ 9223372036854775808) (r : Run) (q : r ≡ elements_in v e i to) where
+module _ (masks text : List ℕ) (page : ℕ) (l v b : List ℕ) (e : Entry) (lo hi i to at : ℕ) (small : e.width ≤ 9223372036854775808) where
   -- a group's, or a scalar's or Pad's
   abbrev Elements : Bool → ℕ → Values → Laid
   Elements x n ms = elements (λ vs a c. cond x (group_in masks text page l b lo hi vs a c) (leaves (codec masks page text) (room_in b) e vs a c)) n ms at 0 0 b
 
-  law : Spreads v e (values v i to) r
-  law = spreads e v i to r q
-
-  spread-is : field_in masks text page l b e lo hi (values v i to) at b ≡ spread e (Elements (is_group e)) (values v i to)
+  field-run : (x : Bool) → is_group e ≡ x → (z : Result Run Refusal) → z ≡ elements_in v e i to → field_in masks text page l b e lo hi (values v i to) at b ≡ ran v (Elements x) z
   unfolding one
-  spread-is = field-spread (codec masks page text) (room_in b) e (part l lo hi) small (values v i to) at b
+  field-run x g z q =
+      field-spread (codec masks page text) (room_in b) e (part l lo hi) small (values v i to) at b
+      ∙ spread_is e v i to (Elements (is_group e)) ∙ ap₂ (λ y w. ran v (Elements y) w) g (sym q)
 
-  pub field-not : (r.refused ≡ 0 → ⊥) → field_in masks text page l b e lo hi (values v i to) at b ≡ refused r.refused
-  field-not h = spread-is ∙ law.refuses h (Elements (is_group e))
+  pub field-not : (q : Refusal) → Err q ≡ elements_in v e i to → field_in masks text page l b e lo hi (values v i to) at b ≡ refused (number_of q)
+  field-not q h = field-run (is_group e) refl (Err q) h
 
-  module _ (h : r.refused ≡ 0) where
-    spread-fine : (x : Bool) → is_group e ≡ x → field_in masks text page l b e lo hi (values v i to) at b ≡ Elements x r.n (values v r.from r.end)
-    spread-fine x g = spread-is ∙ law.fine h (Elements (is_group e)) ∙ ap (λ y. Elements y r.n (values v r.from r.end)) g
-
-    pub field-group : e.kind ≡ 9 → field_in masks text page l b e lo hi (values v i to) at b
+  module _ (r : Run) (h : Ok r ≡ elements_in v e i to) where
+    pub field-group : eqb e.kind 9 ≡ true → field_in masks text page l b e lo hi (values v i to) at b
         ≡ elements (group_in masks text page l b lo hi) r.n (values v r.from r.end) at 0 0 b
-    field-group k = spread-fine true (eq-eqb e.kind 9 k)
+    field-group k = field-run true k (Ok r) h
 
-    module _ (k : e.kind ≡ 9 → ⊥) where
+    module _ (k : eqb e.kind 9 ≡ false) where
       pub field-leaves : field_in masks text page l b e lo hi (values v i to) at b
           ≡ elements (leaves (codec masks page text) (room_in b) e) r.n (values v r.from r.end) at 0 0 b
-      field-leaves = spread-fine false (ne_eqb e.kind 9 k)
+      field-leaves = field-run false k (Ok r) h
 
       -- the same without values
       pub field-empty : r.end ≤ r.from → field_in masks text page l b e lo hi (values v i to) at b

@@ -20,7 +20,7 @@ use Rattle.encode_leaf.specs.Laying.{Laid, refused, laid, Layer, leaf, leaves, s
 use Rattle.positions.specs.Positions.{sat}
 use Rattle.encode_leaf.specs.Machine.{buffer_behind, codec, room_in}
 
-missing-by : (v : List ℕ) (j to : ℕ) → missing (values v j to) ≡ leb to j
+pub missing-by : (v : List ℕ) (j to : ℕ) → missing (values v j to) ≡ leb to j
 missing-by v j to = go (dec_lt j to)
   where
     go : Dec (j < to) → missing (values v j to) ≡ leb to j
@@ -58,8 +58,8 @@ pub record ElementsInv (o : Laid) (f : Layer) (v b₀ : List ℕ) (end : ℕ) (b
   pub whole : o ≡ elements f left (values v j end) at taken past b
   pub same : length b ≡ length b₀
 
-pub elements-starts : (f : Layer) (v b : List ℕ) (from end n at taken past : ℕ) → ElementsInv (elements f n (values v from end) at taken past b) f v b end b from n at taken past
-elements-starts f v b from end n at taken past = record { whole = refl; same = refl }
+pub elements-starts : (f : Layer) (v b : List ℕ) (from end n m at taken past : ℕ) → m ≡ n → ElementsInv (elements f n (values v from end) at taken past b) f v b end b from m at taken past
+elements-starts f v b from end n m at taken past e = record { whole = ap (λ k. elements f k (values v from end) at taken past b) (sym e); same = refl }
 
 module _ {o : Laid} {f : Layer} {v b₀ : List ℕ} {end : ℕ} {b : List ℕ} {j left at taken past : ℕ} (inv : ElementsInv o f v b₀ end b j left at taken past) where
   pub elements-done : left ≤ 0 → o ≡ laid b past taken
@@ -90,6 +90,9 @@ module _ {o : Laid} {f : Layer} {v b₀ : List ℕ} {end : ℕ} {b : List ℕ} {
 -- w is the buffer that all elements leave
 pub record BufferInv (w : List ℕ) (f : Layer) (v : List ℕ) (end : ℕ) (b : List ℕ) (j left at : ℕ) : Type 0 where
   pub whole : w ≡ buffer_behind f left (values v j end) at b
+
+pub buffer-starts : (f : Layer) (v b : List ℕ) (from end n m at : ℕ) → m ≡ n → BufferInv (buffer_behind f n (values v from end) at b) f v end b from m at
+buffer-starts f v b from end n m at e = record { whole = ap (λ k. buffer_behind f k (values v from end) at b) (sym e) }
 
 module _ {w : List ℕ} {f : Layer} {v : List ℕ} {end : ℕ} {b : List ℕ} {j left at : ℕ} (inv : BufferInv w f v end b j left at) where
   pub buffer-done : left ≤ 0 → b ≡ w

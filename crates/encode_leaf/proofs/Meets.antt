@@ -1,16 +1,16 @@
--- How a function comes to its contract, `Met`.
-use mathlib.Core.Path.{◌≡◌, refl, subst⁻¹}
+-- How a function comes to what its answer says.
+use mathlib.Core.Path.{◌≡◌, sym, ap, ◌∙◌}
 use mathlib.Core.List.{List}
 use Prim.Native.Nat.{ℕ}
+use Rattle.std.specs.Prelude.{Result, Ok, Err}
+use Rattle.std.specs.Result.{IsErrAnd}
+use Rattle.codes.specs.declared.Refusal.{Refusal}
+use Rattle.codes.specs.Refusals.{number_of}
 use Rattle.encode_leaf.specs.declared.Out.{Out}
-use Rattle.encode_leaf.specs.Laying.{Laid, refused, laid}
-use Rattle.encode_leaf.specs.Machine.{refusing, Met}
+use Rattle.encode_leaf.specs.Laying.{Laid, refused}
+use Rattle.encode_leaf.specs.Machine.{laid_in}
 
-pub refuse : {o : Laid} {r : Out} {b : List ℕ} (n : ℕ) → r ≡ refusing n → (n ≡ 0 → ⊥) → o ≡ refused n → Met o r b
-refuse n p f q = rw p (record { fine = λ z. absurd (f z); refuses = λ _. (q, refl) })
-
-pub fine : {o : Laid} {b : List ℕ} (past taken : ℕ) → o ≡ laid b past taken → Met o (record { refused = 0; past = past; taken = taken }) b
-fine past taken p = record { fine = λ _. p; refuses = λ n. absurd (n refl) }
-
-pub same-as : {o p : Laid} {r : Out} {b : List ℕ} → o ≡ p → Met p r b → Met o r b
-same-as {r = r} {b = b} q m = subst⁻¹ (λ x. Met x r b) q m
+-- an inner refusal is passed on
+pub stopped : {o : Laid} (r : Result Out Refusal) (e : Refusal) (b : List ℕ) → IsErrAnd r (λ x. x ≡ e) → o ≡ refused (number_of e) → laid_in r b ≡ o
+stopped (Err x) e b h p = ap (λ y. refused (number_of y)) h ∙ sym p
+stopped (Ok x) e b h p = absurd h

@@ -9,7 +9,7 @@ use lib.ListN.{length}
 use borrow.Author.Tests.{ne_eqb, eqb-true, leb-true, lt-leb}
 use Rattle.value.specs.declared.Scalar.{Scalar}
 use Rattle.value.specs.Answer.{Answer, refused, given}
-use Rattle.value.specs.Number.{Whole, number}
+use Rattle.value.specs.declared.Whole.{Whole}
 use Rattle.value.proofs.Answers.{Numbered}
 use Rattle.text.specs.Shown.{Shows, shows, none, text_in, refusal_at}
 use Rattle.text.proofs.Back.{written-length, padded-length}
@@ -41,11 +41,11 @@ text-wide page right pad w (shows t) h = written-length page right pad w t (leb-
 text-wide page right pad w none h = absurd (omega (arith, h))
 
 int-wide : (p q page w : ℕ) (n : Answer Whole) → Numbered n → int_judged p q w n ≡ 0 → length (int_written p q page w n) ≡ w
-int-wide p q page w (given (number negative size)) z h = int-length p q page w negative size (passed (int_fit p q w negative size) h)
+int-wide p q page w (given n) z h = int-length p q page w n.negative n.size (passed (int_fit p q w n.negative n.size) h)
 int-wide p q page w (refused question) z h = absurd (z h)
 
 binary-wide : (order w : ℕ) (n : Answer Whole) → Numbered n → binary_judged w n ≡ 0 → length (binary_written order w n) ≡ w
-binary-wide order w (given (number negative size)) z h = binary-length order w negative size
+binary-wide order w (given n) z h = binary-length order w n.negative n.size
 binary-wide order w (refused question) z h = absurd (z h)
 
 float-wide : (order bits w : ℕ) (f : Answer ℕ) → Numbered f → float_judged bits w f ≡ 0 → length (float_written order bits w f) ≡ w
@@ -57,7 +57,7 @@ hex-wide order w (shows t) h = HexBack.bytes-length order w t h
 hex-wide order w none h = absurd (omega (arith, h))
 
 decimal-wide : (p q s page w : ℕ) (n : Answer Whole) → Numbered n → decimal_judged p q s w n ≡ 0 → length (decimal_written p q page w n) ≡ w
-decimal-wide p q s page w (given (number negative size)) z h = decimal-length p q s page w negative size (passed (decimal_fit p q s w negative size) h)
+decimal-wide p q s page w (given n) z h = decimal-length p q s page w n.negative n.size (passed (decimal_fit p q s w n.negative n.size) h)
 decimal-wide p q s page w (refused question) z h = absurd (z h)
 
 edited-same : (w n : ℕ) (mask : List ℕ) → cond (eqb n 0) (cond (eqb w (length mask)) 0 14) n ≡ 0 → length mask ≡ w
@@ -69,7 +69,7 @@ edited-same w n mask h = by (eqb n 0) refl h
 
 edited-wide : (page w : ℕ) (mask : List ℕ) (n : Answer Whole) → Numbered n → Edited.answer_of w mask n ≡ 0 → length (edited_written page mask n) ≡ w
 unfolding Edited.judged
-edited-wide page w mask (given (number negative size)) z h = EditedRound.page-length page negative size mask ∙ edited-same w (Edited.judged mask (given (number negative size))) mask h
+edited-wide page w mask (given n) z h = EditedRound.page-length page n.negative n.size mask ∙ edited-same w (Edited.judged mask (given n)) mask h
 edited-wide page w mask (refused question) z h = absurd (by (eqb question 13) (Edited.is_floating mask) h)
   where
     by : (a b : Bool) → cond {A = ℕ} (eqb (cond a 13 (cond b 15 question)) 0) (cond (eqb w (length mask)) 0 14) (cond a 13 (cond b 15 question)) ≡ zero → ⊥

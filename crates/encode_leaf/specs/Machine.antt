@@ -1,6 +1,9 @@
 -- What the writer's inner functions promise, by their own answer.
-use Rattle.std.specs.Prelude.{◌≡◌, Bool, ◌||◌, cond, List, [], ℕ, zero, suc, ◌+◌, min, eqb, leb, length}
+use Rattle.std.specs.Prelude.{Result, Ok, Err, Bool, ◌||◌, cond, List, [], ℕ, zero, suc, ◌+◌, min, eqb, leb, length}
 use Rattle.codes.specs.Codes.{kind_bool, kind_edited, tag_null, tag_list}
+use Rattle.codes.specs.declared.Refusal.{Refusal}
+use Rattle.codes.specs.declared.Refusal.TheVariants.{WrongKind}
+use Rattle.codes.specs.Refusals.{number_of}
 use Rattle.layout.specs.declared.Entry.{Entry}
 use Rattle.items.specs.declared.Item.{Item}
 use Rattle.encode_scalar.specs.Encode.{judged_of, bytes_of}
@@ -16,13 +19,15 @@ use Rattle.encode_leaf.specs.declared.Run.{Run}
 use Rattle.encode_leaf.specs.Laying.{Laid, refused, laid, Layer, settled}
 use Rattle.positions.specs.Positions.{sat}
 
--- an answer that refuses: zeros behind its number
-abbrev pub refusing : ℕ → Out
-refusing n = record { refused = n; past = 0; taken = 0 }
+-- what an answer says that a part of the walk came to, the buffer as it is left
+abbrev pub laid_in : Result Out Refusal → List ℕ → Laid
+laid_in (Ok o) b = laid b o.past o.taken
+laid_in (Err e) b = refused (number_of e)
 
-pub record Met (o : Laid) (r : Out) (b : List ℕ) : Type 0 where
-  pub fine : r.refused ≡ 0 → o ≡ laid b r.past r.taken
-  pub refuses : (r.refused ≡ 0 → ⊥) → (o ≡ refused r.refused) × (r ≡ refusing r.refused)
+-- the buffer behind what was put; what is refused leaves it as it was
+abbrev pub behind : List ℕ → Laid → List ℕ
+behind b (refused n) = b
+behind b (laid b' past t) = b'
 
 -- the buffer as f goes on from what was put; what is refused leaves it as it was
 abbrev pub onward : List ℕ → (List ℕ → ℕ → ℕ → List ℕ) → Laid → List ℕ
@@ -46,17 +51,17 @@ end_in v i to = end_of (span_of (head_of (values v i to))) i to
 abbrev pub place_after : List ℕ → Entry → ℕ → ℕ → ℕ
 place_after v e j to = cond (is_pad e) j (end_in v j to)
 
-abbrev pub run : ℕ → ℕ → ℕ → ℕ → Run
-run number n from end = record { refused = number; n = n; from = from; end = end }
+abbrev pub run : ℕ → ℕ → ℕ → Run
+run n from end = record { n = n; from = from; end = end }
 
 abbrev pub members_in : List ℕ → Entry → ℕ → ℕ → Run
-members_in v e from end = run 0 (table_length e (values v from end)) from end
+members_in v e from end = run (table_length e (values v from end)) from end
 
 -- the elements of an entry by the first of the items i up to `to`: that value alone, or those of a table, the members of a List or Null
-unfoldable pub elements_in : List ℕ → Entry → ℕ → ℕ → Run
+unfoldable pub elements_in : List ℕ → Entry → ℕ → ℕ → Result Run Refusal
 elements_in v e i to =
-    cond (unrepeated e) (run 0 1 i to)
-    (cond (taking (head_of (values v i to)).tag tag_list) (members_in v e (min (end_in v i to) (i + 1)) (end_in v i to)) (run 13 0 0 0))
+    cond (unrepeated e) (Ok (run 1 i to))
+    (cond (taking (head_of (values v i to)).tag tag_list) (Ok (members_in v e (min (end_in v i to) (i + 1)) (end_in v i to))) (Err WrongKind))
 
 -- the writer's codec, and the bytes that the record may have in a buffer
 abbrev pub codec : List ℕ → ℕ → List ℕ → Codec State

@@ -3,38 +3,27 @@
 #![tactic(auto)]
 
 ghost use Rattle.std.specs.Prelude.{◌≡◌, Bool, true, false, ◌||◌, ◌&&◌, cond, List, ℕ, ◌+◌, ◌-◌, ◌*◌, ◌≤◌, min, max, pos, eqb, leb, length, replicate};
-ghost use Rattle.codes.specs.Codes.{most, tag_text};
-ghost use Rattle.items.specs.Items.{values, text_of};
+ghost use Rattle.codes.specs.Codes.{most};
+ghost use Rattle.codes.specs.Refusals.{number_of, number_in};
+ghost use Rattle.items.specs.Items.{values};
 ghost use Rattle.layout.specs.Layout.{unrepeated};
 ghost use Rattle.walks.specs.Walk.{values_after};
-ghost use Rattle.walks.specs.Writing.{lay, table_length};
+ghost use Rattle.walks.specs.Writing.{table_length};
 ghost use Rattle.encode_leaf.specs.Laying.{leaf, leaves, elements};
-ghost use Rattle.encode_leaf.specs.Machine.{place_after, Met, refusing, buffer_behind, elements_in, codec, room_in, put_width, mask_for, judged, outside, bytes_in, taking};
+ghost use Rattle.encode_leaf.specs.Machine.{place_after, laid_in, behind, buffer_behind, elements_in, codec, room_in, put_width, mask_for, judged, outside, bytes_in, taking};
 
-use codes::{ABSENT, KIND_BOOL, KIND_EDITED, KIND_PAD, MAX_RECORD, TAG_LIST, TAG_NULL, TAG_TEXT};
-use items::{Item, after, fetch, item_end, members};
-use layout::{Entry, unrepeated};
-use lists::fill;
-use positions::{inside, larger, sat_add, sat_mul};
-use zeros::clear_counts;
+use codes::{ABSENT, Kind, MAX_RECORD, Refusal, Tag};
+use decode_scalar::Field;
+use items::{Item, ValueList, after};
+use layout::{Entry, Layout};
+use positions::{inside, sat_add, sat_mul};
+use value::Words;
 
-// What a part of the walk came to: the number that refuses it, or 0 with one more than the furthest end of what was put, 0 where
-// nothing was, and the bytes taken.
+// What a part of the walk came to: one more than the furthest end of what was put, 0 where nothing was, and the bytes taken.
 #[derive(Clone, Copy)]
 pub struct Out {
-    pub refused: u32,
     pub past: u64,
     pub taken: u64,
-}
-
-pub fn refusal(n: u32) -> Out
-    ensures { result ≡ refusing n }
-{
-    Out {
-        refused: n,
-        past: 0,
-        taken: 0,
-    }
 }
 
 // ---- tables
@@ -43,84 +32,67 @@ pub fn refusal(n: u32) -> Out
 pub fn takes(tag: u64, wanted: u64) -> bool
     ensures { result ≡ taking tag wanted }
 {
-    if tag == wanted {
-        return true;
-    }
-    tag == TAG_NULL
+    tag == wanted || Tag::Null.is(tag)
 }
 
 // How many elements a table has: occurs, or under depending as many as the items from..to.
-fn table_length(items: &[u64], e: Entry, from: usize, to: usize) -> u64
-    ensures { result ≡ table_length e (values items.now from to) }
+#[tactic(auto, unfolding(walks::specs::Writing::table_length))]
+fn table_length(list: &ValueList, e: Entry, from: usize, to: usize) -> u64
+    ensures { result ≡ table_length e (values list.now.items.now from to) }
 {
     if e.depending == ABSENT {
-        return e.occurs as u64;
+        e.occurs as u64
+    } else {
+        list.members(from, to)
     }
-    members(items, from, to)
 }
 
-// The elements of an entry: how many, and the items from..end that they are; or the number that refuses the value.
+// The elements of an entry: how many, and the items from..end that they are.
 #[derive(Clone, Copy)]
 pub struct Run {
-    pub refused: u32,
     pub n: u64,
     pub from: usize,
     pub end: usize,
 }
 
 // The elements of an entry by the first of the items i..to: one, that value, or those of a table, the members of a List.
-pub fn elements_of(items: &[u64], e: Entry, i: usize, to: usize) -> Run
-    ensures { result ≡ elements_in items.now e i to }
+#[tactic(auto, unfolding(crate::specs::Machine::elements_in))]
+pub fn elements_of(list: &ValueList, e: Entry, i: usize, to: usize) -> Result<Run, Refusal>
+    ensures { result ≡ elements_in list.now.items.now e i to }
 {
-    if unrepeated(e) {
-        return Run {
-            refused: 0,
+    if e.is_unrepeated() {
+        return Ok(Run {
             n: 1,
             from: i,
             end: to,
-        };
+        });
     }
-    let it = fetch(items, i, to);
-    if !takes(it.tag, TAG_LIST) {
-        return Run {
-            refused: 13,
-            n: 0,
-            from: 0,
-            end: 0,
-        };
+    if !takes(list.fetch(i, to).tag, Tag::List.into()) {
+        return Err(Refusal::WrongKind);
     }
-    let end = item_end(items, i, to);
+    let end = list.item_end(i, to);
     let from = after(i, end);
-    let n = table_length(items, e, from, end);
-    Run {
-        refused: 0,
-        n,
-        from,
-        end,
-    }
+    let n = table_length(list, e, from, end);
+    Ok(Run { n, from, end })
 }
 
 // The place behind the item of an entry, which is at j; a Pad has none.
-pub fn values_after(items: &[u64], e: Entry, j: usize, to: usize) -> usize
-    ensures { (result ≡ place_after items.now e j to) × (values items.now result to ≡ values_after e (values items.now j to)) }
+#[tactic(auto, using(crate::proofs::Inside::item_behind), unfolding(layout::specs::Layout::is_pad))]
+pub fn values_after(list: &ValueList, e: Entry, j: usize, to: usize) -> usize
+    ensures { (result ≡ place_after list.now.items.now e j to) × (values list.now.items.now result to ≡ values_after e (values list.now.items.now j to)) }
 {
-    if e.kind == KIND_PAD {
-        return j;
+    if Kind::Pad.is(e.kind) {
+        j
+    } else {
+        list.item_end(j, to)
     }
-    item_end(items, j, to)
 }
 
 // Whether the element j of the items up to `end` is missing and took or put nothing, so that all behind it go alike.
-pub fn settles(j: usize, end: usize, past: u64, taken: u64) -> bool
-    ensures { result ≡ (leb end j && (eqb taken 0 || eqb past 0)) }
+pub fn settles(j: usize, end: usize, o: Out) -> bool
+    ensures { result ≡ (leb end j && (eqb o.taken 0 || eqb o.past 0)) }
 {
-    if j < end {
-        return false;
-    }
-    if taken == 0 {
-        return true;
-    }
-    past == 0
+    end <= j && (o.taken == 0 || o.past == 0)
 }
 
 // ---- one scalar or Pad
@@ -129,198 +101,182 @@ pub fn settles(j: usize, end: usize, past: u64, taken: u64) -> bool
 pub fn room_of(bytes: usize) -> u64
     ensures { result ≡ min bytes most }
 {
-    if bytes < MAX_RECORD {
-        bytes as u64
-    } else {
-        MAX_RECORD as u64
-    }
-}
-
-pub fn clip(n: u64, bytes: usize) -> usize
-    ensures { result ≡ min bytes n }
-{
-    if n < bytes as u64 { n as usize } else { bytes }
-}
-
-// The length of a Text, 0 for any other item.
-pub fn text_size(it: Item) -> u64
-    ensures { result ≡ cond (eqb it.tag tag_text) it.b 0 }
-{
-    if it.tag == TAG_TEXT {
-        return it.b;
-    }
-    0
+    bytes.min(MAX_RECORD) as u64
 }
 
 fn put_width(e: Entry) -> u64
     ensures { result ≡ put_width e }
 {
-    if e.kind == KIND_BOOL {
-        return 1;
+    match Kind::try_from(e.kind) {
+        Ok(Kind::Bool) => 1,
+        Ok(Kind::Group) | Err(_) => 0,
+        _ => e.width as u64,
     }
-    if e.kind <= KIND_EDITED {
-        return e.width as u64;
-    }
-    0
 }
 
 // The mask of an Edited, no bytes for any other entry.
 fn mask_of(masks: &[u8], e: Entry) -> &[u8]
     ensures { result.now ≡ mask_for masks.now e }
 {
-    if e.kind != KIND_EDITED {
-        return &masks[0..0];
+    if !Kind::Edited.is(e.kind) {
+        return &masks[..0];
     }
-    let m = clip(e.mask as u64, masks.len());
-    let n = clip(e.width as u64, masks.len() - m);
-    &masks[m..m + n]
+    let start = (e.mask as usize).min(masks.len());
+    let rest = &masks[start..];
+    let count = (e.width as usize).min(rest.len());
+    &rest[..count]
 }
 
-// The bytes of a Text, none for any other item.
-fn text_of(text: &[u8], it: Item) -> &[u8]
-    ensures { result.now ≡ text_of text.now it }
+// The words of an entry that tell how a value is written in its field.
+pub fn field_of(e: Entry) -> Field
+    ensures kind { result.kind ≡ e.kind }
+    ensures p { result.p ≡ e.p }
+    ensures q { result.q ≡ e.q }
+    ensures r { result.r ≡ e.r }
+    ensures s { result.s ≡ e.s }
 {
-    if it.tag != TAG_TEXT {
-        return &text[0..0];
+    Field {
+        kind: e.kind,
+        p: e.p,
+        q: e.q,
+        r: e.r,
+        s: e.s,
     }
-    let a = clip(it.a, text.len());
-    let b = clip(it.b, text.len() - a);
-    &text[a..a + b]
 }
 
-// The number of the question that refuses an item for an entry of this width, 0 for none.
-fn judge_leaf(masks: &[u8], text: &[u8], e: Entry, width: u64, it: Item) -> u32
+// The words of an item that tell its value.
+fn words_of(it: Item) -> Words
+    ensures tag { result.tag ≡ it.tag }
+    ensures a { result.a ≡ it.a }
+    ensures b { result.b ≡ it.b }
+{
+    Words {
+        tag: it.tag,
+        a: it.a,
+        b: it.b,
+    }
+}
+
+// The question that refuses an item for an entry of this width.
+#[tactic(auto, using(crate::proofs::Leaves::judged_there))]
+fn judge_leaf(
+    layout: &Layout,
+    list: &ValueList,
+    e: Entry,
+    width: u64,
+    it: Item,
+) -> Result<(), Refusal>
     requires { width ≡ put_width e }
-    ensures { result ≡ judged masks.now text.now e it }
+    ensures { number_in result ≡ judged layout.now.masks.now list.now.text.now e it }
 {
+    let mask = mask_of(layout.masks, e);
     encode_scalar::judge_scalar(
-        e.kind,
-        e.p,
-        e.q,
-        e.r,
-        e.s,
-        mask_of(masks, e),
+        field_of(e),
+        mask,
         width as usize,
-        it.tag,
-        it.a,
-        it.b,
-        text_of(text, it),
+        words_of(it),
+        it.text_in(list.text),
     )
 }
 
 // An item judged, and put into its entry's stretch of the record if no question refuses it.
-fn put_leaf(masks: &[u8], page: u32, text: &[u8], part: &mut [u8], e: Entry, it: Item) -> u32
+#[tactic(auto, using(crate::proofs::Leaves::judged_there, crate::proofs::Leaves::bytes_there, crate::proofs::Leaves::put_there))]
+fn put_leaf(
+    layout: &Layout,
+    list: &ValueList,
+    part: &mut [u8],
+    e: Entry,
+    it: Item,
+) -> Result<(), Refusal>
     requires { length part.old ≡ put_width e }
-    ensures value { result ≡ judged masks.now text.now e it }
-    ensures part_after { part.new ≡ cond (eqb result 0) (bytes_in masks.now page text.now e it) part.old }
+    ensures value { number_in result ≡ judged layout.now.masks.now list.now.text.now e it }
+    ensures part_after { part.new ≡ cond (eqb (number_in result) 0) (bytes_in layout.now.masks.now layout.now.page list.now.text.now e it) part.old }
 {
+    let mask = mask_of(layout.masks, e);
     encode_scalar::encode_scalar(
         part,
-        e.kind,
-        e.p,
-        e.q,
-        e.r,
-        e.s,
-        mask_of(masks, e),
-        page,
-        it.tag,
-        it.a,
-        it.b,
-        text_of(text, it),
+        field_of(e),
+        mask,
+        layout.page,
+        words_of(it),
+        it.text_in(list.text),
     )
 }
 
-// The number that refuses an item for an entry that is not inside the room.
-fn no_room(masks: &[u8], text: &[u8], e: Entry, width: u64, it: Item) -> u32
+// What refuses an item for an entry that is not inside the room.
+fn no_room(layout: &Layout, list: &ValueList, e: Entry, width: u64, it: Item) -> Refusal
     requires { width ≡ put_width e }
-    ensures { result ≡ outside (judged masks.now text.now e it) }
+    ensures { number_of result ≡ outside (judged layout.now.masks.now list.now.text.now e it) }
 {
-    let n = judge_leaf(masks, text, e, width, it);
-    if n == 0 {
-        return 16;
+    match judge_leaf(layout, list, e, width, it) {
+        Ok(()) => Refusal::NoRoom,
+        Err(refusal) => refusal,
     }
-    n
 }
 
 // One scalar or Pad, every entry but a group, by the item of its value; a refusal leaves the record as it was.
 pub fn encode_leaf(
-    masks: &[u8],
-    text: &[u8],
+    layout: &Layout,
+    list: &ValueList,
     record: &mut [u8],
-    page: u32,
     e: Entry,
     it: Item,
     at: u64,
-) -> Out
-    ensures met { Met (leaf (codec masks.now page text.now) (room_in «record».old) e it at «record».old) result «record».new }
-    ensures record_unchanged { (result.refused ≡ 0 → ⊥) → «record».new ≡ «record».old }
+) -> Result<Out, Refusal>
+    ensures value { laid_in result «record».new ≡
+        leaf (codec layout.now.masks.now layout.now.page list.now.text.now) (room_in «record».old) e it at «record».old }
+    ensures record_after { «record».new ≡ behind «record».old
+        (leaf (codec layout.now.masks.now layout.now.page list.now.text.now) (room_in «record».old) e it at «record».old) }
 {
     let width = put_width(e);
     if !inside(room_of(record.len()), at, width) {
-        return refusal(no_room(masks, text, e, width, it));
+        return Err(no_room(layout, list, e, width, it));
     }
     let from = at as usize;
     let end = from + width as usize;
-    let n = put_leaf(masks, page, text, &mut record[from..end], e, it);
-    if n != 0 {
-        return refusal(n);
-    }
-    Out {
-        refused: 0,
+    put_leaf(layout, list, &mut record[from..end], e, it)?;
+    Ok(Out {
         past: at + width + 1,
         taken: e.width as u64,
-    }
+    })
 }
 
-// The elements of an entry that is no group, n of them, by the items from..end.
+// The elements of an entry that is no group.
 pub fn encode_table(
-    masks: &[u8],
-    text: &[u8],
-    items: &[u64],
+    layout: &Layout,
+    list: &ValueList,
     record: &mut [u8],
-    page: u32,
     e: Entry,
-    n: u64,
-    from: usize,
-    end: usize,
+    run: Run,
     at: u64,
-) -> Out
-    ensures met { Met
-        (elements (leaves (codec masks.now page text.now) (room_in «record».old) e) n (values items.now from end) at 0 0 «record».old)
-        result «record».new }
+) -> Result<Out, Refusal>
+    ensures value { laid_in result «record».new ≡
+        elements (leaves (codec layout.now.masks.now layout.now.page list.now.text.now) (room_in «record».old) e)
+        run.n (values list.now.items.now run.from run.end) at 0 0 «record».old }
     ensures record_after { «record».new ≡
-        buffer_behind (leaves (codec masks.now page text.now) (room_in «record».old) e) n (values items.now from end) at «record».old }
+        buffer_behind (leaves (codec layout.now.masks.now layout.now.page list.now.text.now) (room_in «record».old) e)
+        run.n (values list.now.items.now run.from run.end) at «record».old }
 {
-    let mut j = from;
-    let mut left = n;
+    let mut j = run.from;
     let mut place = at;
     let mut taken: u64 = 0;
     let mut past: u64 = 0;
-    while left > 0 {
-        let it = fetch(items, j, end);
-        let next = item_end(items, j, end);
-        let o = encode_leaf(masks, text, record, page, e, it, place);
-        if o.refused != 0 {
-            return refusal(o.refused);
-        }
-        past = larger(past, o.past);
-        if settles(j, end, o.past, o.taken) {
-            return Out {
-                refused: 0,
+    for done in 0..run.n {
+        let it = list.fetch(j, run.end);
+        let next = list.item_end(j, run.end);
+        let o = encode_leaf(layout, list, record, e, it, place)?;
+        past = past.max(o.past);
+        if settles(j, run.end, o) {
+            return Ok(Out {
                 past,
-                taken: sat_add(taken, sat_mul(left, o.taken)),
-            };
+                taken: sat_add(taken, sat_mul(run.n - done, o.taken)),
+            });
         }
         place = sat_add(place, o.taken);
         taken = sat_add(taken, o.taken);
         j = next;
-        left = left - 1;
     }
-    Out {
-        refused: 0,
-        past,
-        taken,
-    }
+    Ok(Out { past, taken })
 }
 
 // ---- zeros
@@ -330,6 +286,6 @@ pub fn clear(record: &mut [u8], counts: &mut [i64])
     ensures record_after { «record».new ≡ replicate (length «record».old) 0 }
     ensures counts_after { counts.new ≡ replicate (length counts.old) (pos 0) }
 {
-    fill(record, 0);
-    clear_counts(counts);
+    record.fill(0);
+    counts.fill(0);
 }

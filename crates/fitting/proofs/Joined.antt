@@ -9,11 +9,15 @@ use lib.IntN.{ℤ, pos}
 use lib.Ieee.{binary64, of_bits, nan_bits}
 use lib.ListN.{length, take, drop, replicate, length-replicate, take-append-drop}
 use lib.Seq.{length-take-le, take-append-add}
-use borrow.Author.Tests.{eq-eqb, ne_eqb, eqb-true, eqb-false, lt-ltb, ltb-true, leb-false, le-leb, lt-leb}
+use borrow.Author.Tests.{eq-eqb, ne_eqb, eqb-true, eqb-false, lt-ltb, ltb-true, leb-false, le-leb}
 use Rattle.spans.specs.Tree.{Tree, none, node, end_of, tree_in, tree}
 use Rattle.lists.proofs.Logic.{and_left, and_right}
 use Rattle.layout.specs.declared.Entry.{Entry}
-use Rattle.layout.specs.Layout.{work_for, present, entry_at, entry_count, span_of, is_group, entries, unrepeated, is_pad, controls}
+use Rattle.std.specs.Prelude.{⊤, Result, is_err}
+use Rattle.codes.specs.declared.Refusal.{Refusal}
+use Rattle.codes.specs.Refusals.{number_in}
+use Rattle.codes.proofs.Refusals as Refusals
+use Rattle.layout.specs.Layout.{part, work_for, present, entry_at, entry_count, span_of, is_group, entries, unrepeated, is_pad, controls}
 use Rattle.items.specs.declared.Item.{Item}
 use Rattle.items.specs.Items.{Values, item_count, values, count, head_of, members_of, rest_of, scalar_ok, well_formed, text_of, scalar_in, missing}
 use Rattle.value.specs.declared.Scalar.{Scalar}
@@ -311,30 +315,38 @@ text-alike l masks source (both-fit {s} {run} {told} r) = ap (λ t. same t sourc
 
 -- ---- the answers of the whole
 
+-- question 11 by its answer
+list-not : (r : Result ⊤ Refusal) (w : Bool) → number_in r ≡ cond w 0 11 → is_err r ≡ true → w ≡ false
+list-not r true q f = absurd (Refusals.refused r f q)
+list-not r false q f = refl
+
+list-so : (r : Result ⊤ Refusal) (w : Bool) → number_in r ≡ cond w 0 11 → is_err r ≡ false → w ≡ true
+list-so r true q f = refl
+list-so r false q f = let z : number_in r ≡ 0 = Refusals.accepted r f in absurd (omega arith)
+
 module _ (l masks items text : List ℕ) (n : ℕ) where
   abbrev pub Answer : Bool
   Answer = leb (work_for l) n && fitting l masks items text
 
-  pub no-work : n < work_for l → false ≡ Answer
-  no-work h = rw (lt-leb (work_for l) n h) refl
-
-  module _ (h : work_for l ≤ n) (w : Bool) (q : w ≡ well_formed items (length text)) where
-    pub no-list : w ≡ false → false ≡ Answer
+  module _ (h : work_for l ≤ n) (r : Result ⊤ Refusal) (q : number_in r ≡ cond (well_formed items (length text)) 0 11) where
+    pub no-list : is_err r ≡ true → false ≡ Answer
     unfolding fitting
-    no-list f = rw (le-leb (work_for l) n h, sym q ∙ f) refl
+    no-list f = rw (le-leb (work_for l) n h, list-not r (well_formed items (length text)) q f) refl
 
-    module _ (t : w ≡ true) (run₀ : List ℤ) (z : run₀ ≡ replicate n (pos 0)) (to : ℕ) (all : to ≡ item_count items) where
-      abbrev Walk : List ℤ → ℕ → Fit Progress
-      Walk run k = seq l masks text (entries l) (values items 0 k) run 0
+    module _ (t : is_err r ≡ false) (run₀ : List ℤ) (z : run₀ ≡ replicate n (pos 0)) (hi to : ℕ) (entire : hi ≡ entry_count l) (all : to ≡ item_count items) where
+      abbrev Walk : List ℤ → ℕ → ℕ → Fit Progress
+      Walk run j k = seq l masks text (part l 0 j) (values items 0 k) run 0
 
-      walked : Answer ≡ answer l masks text (Walk run₀ to)
+      walked : Answer ≡ answer l masks text (Walk run₀ hi to)
       unfolding fitting
       walked =
-          rw (le-leb (work_for l) n h, sym q ∙ t)
-          (text-alike l masks text (joined l masks text (values items 0 (item_count items)) n h) ∙ ap₂ (λ r k. answer l masks text (Walk r k)) (sym z) (sym all))
+          rw (le-leb (work_for l) n h, list-so r (well_formed items (length text)) q t)
+          (text-alike l masks text (joined l masks text (values items 0 (item_count items)) n h)
+          ∙ ap (λ run. answer l masks text (Walk run (entry_count l) (item_count items))) (sym z)
+          ∙ ap₂ (λ j k. answer l masks text (Walk run₀ j k)) (sym entire) (sym all))
 
-      pub no-fit : Walk run₀ to ≡ misfit → false ≡ Answer
-      no-fit f = sym (walked ∙ ap (answer l masks text) f)
+      pub no-fit : misfit ≡ Walk run₀ hi to → false ≡ Answer
+      no-fit f = sym (walked ∙ ap (answer l masks text) (sym f))
 
-      pub all_fit : (run : List ℤ) (told : ℕ) → Walk run₀ to ≡ fits run told → eqb told (length text) ≡ Answer
-      all_fit run told f = sym (walked ∙ ap (answer l masks text) f)
+      pub all_fit : (run : List ℤ) (told : ℕ) → fits run told ≡ Walk run₀ hi to → eqb told (length text) ≡ Answer
+      all_fit run told f = sym (walked ∙ ap (answer l masks text) (sym f))

@@ -1,5 +1,5 @@
 -- The parts of the walk, the invariants of its two loops, and what a turn makes of them.
-use mathlib.Core.Path.{◌≡◌, refl, sym, ap, ap₂, ◌∙◌, subst⁻¹}
+use mathlib.Core.Path.{◌≡◌, refl, sym, ap, ap₂, ◌∙◌}
 use mathlib.Core.Bool.{Bool, true, false, ◌&&◌, ◌||◌, not, cond, false≢true}
 use mathlib.Core.List.{List}
 use Prim.Native.Nat.{ℕ, ◌+◌, ◌^◌, ◌<◌, ◌≤◌, min, max}
@@ -7,7 +7,7 @@ use native.Mathlib.Omega.{arith}
 use lib.Dec.{eqb, ltb}
 use lib.IntN.{ℤ}
 use lib.ListN.{length, replicate, length-replicate}
-use borrow.Author.Tests.{eq-eqb, ne_eqb, eqb-true}
+use borrow.Author.Tests.{eqb-true}
 use Rattle.spans.specs.Tree.{none, node, end_of}
 use Rattle.spans.proofs.Tree.{tree-none, tree-at}
 use Rattle.lists.proofs.Logic.{and_left, and_right}
@@ -23,22 +23,9 @@ use Rattle.walks.specs.Kinds.{mask_of}
 use Rattle.walks.specs.Decide.{Fit, misfit, bind, guard, good_of}
 use Rattle.walks.specs.Walk.{values_after}
 use Rattle.decode_leaf.specs.Counts.{note_in}
-use Rattle.fitting.specs.declared.Out.{Out}
 use Rattle.fitting.specs.Steps.{Progress, fits, Fitter, headed, name_of, told_after, tabled, good, leaf, one, each, field, seq}
 use Rattle.walks.specs.Walk.{values_after}
-use Rattle.fitting.specs.Machine.{Met}
 use Rattle.fitting.proofs.Asks.{text-within}
-
--- ---- how a function comes to its contract
-
-pub refuse : {o : Fit Progress} {r : Out} {run : List ℤ} → r.ok ≡ false → o ≡ misfit → Met o r run
-refuse p q = record { fine = λ z. absurd (false≢true (sym p ∙ z)); refuses = λ _. q }
-
-pub fine : {o : Fit Progress} {run : List ℤ} (told : ℕ) → o ≡ fits run told → Met o (record { ok = true; told = told }) run
-fine told p = record { fine = λ _. p; refuses = λ z. absurd (false≢true (sym z)) }
-
-pub same-as : {o p : Fit Progress} {r : Out} {run : List ℤ} → o ≡ p → Met p r run → Met o r run
-same-as {r = r} {run = run} q m = subst⁻¹ (λ x. Met x r run) q m
 
 -- ---- a scalar
 
@@ -94,14 +81,14 @@ module _ (l masks text : List ℕ) (e : Entry) (vs : Values) (run : List ℤ) (t
 -- ---- one element, and where a field begins
 
 module _ (l masks text : List ℕ) (e : Entry) (inner : Fitter) (v : List ℕ) (j to : ℕ) (run : List ℤ) (told : ℕ) where
-  pub one-leaf : (e.kind ≡ 9 → ⊥) → one l masks text e inner (values v j to) run told ≡ leaf l masks text e (values v j to) run told
+  pub one-leaf : eqb e.kind 9 ≡ false → one l masks text e inner (values v j to) run told ≡ leaf l masks text e (values v j to) run told
   unfolding one
-  one-leaf h = rw (ne_eqb e.kind 9 h) refl
+  one-leaf h = rw h refl
 
-  module _ (h : e.kind ≡ 9) (name : ℕ) (u : Bool) (y : u ≡ unrepeated e) (n : name ≡ cond u e.name 65536) (b : Bool) (p : b ≡ headed name 7 (values v j to)) where
+  module _ (h : eqb e.kind 9 ≡ true) (name : ℕ) (u : Bool) (y : u ≡ unrepeated e) (n : name ≡ cond u e.name 65536) (b : Bool) (p : b ≡ headed name 7 (values v j to)) where
     one-headed : one l masks text e inner (values v j to) run told ≡ guard b (inner (members_of (values v j to)) run told)
     unfolding one
-    one-headed = rw (eq-eqb e.kind 9 h) (ap (λ x. guard x (inner (members_of (values v j to)) run told)) (sym (p ∙ ap (λ k. headed k 7 (values v j to)) (n ∙ ap (λ x. cond x e.name 65536) y))))
+    one-headed = rw h (ap (λ x. guard x (inner (members_of (values v j to)) run told)) (sym (p ∙ ap (λ k. headed k 7 (values v j to)) (n ∙ ap (λ x. cond x e.name 65536) y))))
 
     pub one-not : b ≡ false → one l masks text e inner (values v j to) run told ≡ misfit
     one-not f = one-headed ∙ ap (λ x. guard x (inner (members_of (values v j to)) run told)) f
@@ -112,25 +99,25 @@ module _ (l masks text : List ℕ) (e : Entry) (inner : Fitter) (v : List ℕ) (
         one-headed ∙ ap (λ x. guard x (inner (members_of (values v j to)) run told)) f
         ∙ ap (λ ns. inner ns run told) (members-is v j to (head_of (values v j to)) (Items.span_of (head_of (values v j to))) en refl refl q m s)
 
-  pub field-pad : e.kind ≡ 6 → field l masks text e inner (values v j to) run told ≡ fits run told
+  pub field-pad : eqb e.kind 6 ≡ true → field l masks text e inner (values v j to) run told ≡ fits run told
   unfolding field is_pad
-  field-pad h = rw (eq-eqb e.kind 6 h) refl
+  field-pad h = rw h refl
 
-  module _ (h : e.kind ≡ 6 → ⊥) (z : Bool) (y : z ≡ unrepeated e) where
+  module _ (h : eqb e.kind 6 ≡ false) (z : Bool) (y : z ≡ unrepeated e) where
     pub field-one : z ≡ true → field l masks text e inner (values v j to) run told ≡ one l masks text e inner (values v j to) run told
     unfolding field is_pad
-    field-one f = rw (ne_eqb e.kind 6 h, sym y ∙ f) refl
+    field-one f = rw (h, sym y ∙ f) refl
 
     module _ (f : z ≡ false) (b : Bool) (p : b ≡ tabled l e (values v j to) run) where
       pub field-not : b ≡ false → field l masks text e inner (values v j to) run told ≡ misfit
       unfolding field is_pad
-      field-not g = rw (ne_eqb e.kind 6 h, sym y ∙ f, sym p ∙ g) refl
+      field-not g = rw (h, sym y ∙ f, sym p ∙ g) refl
 
       pub field-each : b ≡ true → (en m : ℕ) → en ≡ end_of (Items.span_of (head_of (values v j to))) j to → m ≡ min en (j + 1)
           → field l masks text e inner (values v j to) run told ≡ each l masks text e inner (values v m en) run told
       unfolding field is_pad
       field-each g en m q s =
-          rw (ne_eqb e.kind 6 h, sym y ∙ f, sym p ∙ g)
+          rw (h, sym y ∙ f, sym p ∙ g)
           (ap (λ ns. each l masks text e inner ns run told) (members-is v j to (head_of (values v j to)) (Items.span_of (head_of (values v j to))) en refl refl q m s))
 
 -- ---- the elements of a table: o is what the whole field comes to

@@ -1,20 +1,12 @@
 -- A record in a buffer of zeros, and bytes put behind it.
 use mathlib.Core.Path.{◌≡◌, sym, ap, ap₂, ◌∙◌}
-use mathlib.Core.List.{List, [], ◌∷◌, ◌++◌, append_assoc}
-use Prim.Native.Nat.{ℕ, zero, suc, ◌+◌, ◌-◌, ◌≤◌, min}
+use mathlib.Core.List.{List, ◌++◌, append_assoc}
+use Prim.Native.Nat.{ℕ, ◌+◌, ◌-◌, ◌≤◌, min}
 use native.Mathlib.Omega.{arith}
 use lib.ListN.{length, take, drop, replicate, length-append, length-take}
 use lib.Seq.{take_at, drop-append-add}
-use Rattle.lists.proofs.Part.{copy-part}
 use Rattle.lists.proofs.Lists.{drop-replicate}
 use Rattle.walks.specs.Records.{filled}
-
-pub take_min : (k : ℕ) (xs : List ℕ) → take (min k (length xs)) xs ≡ take k xs
-take_min zero xs = let z : min zero (length xs) ≡ zero = omega arith in ap (λ n. take n xs) z
-take_min (suc k) [] = let z : min (suc k) zero ≡ zero = omega arith in ap (λ n. take {A = ℕ} n []) z
-take_min (suc k) (x ∷ xs) =
-    let z : min (suc k) (suc (length xs)) ≡ suc (min k (length xs)) = omega arith in
-    ap (λ n. take n (x ∷ xs)) z ∙ ap (λ l. x ∷ l) (take_min k xs)
 
 -- a buffer that holds a list and zeros behind it is as long as the list at least
 pub fits-room : (n : ℕ) (r bs : List ℕ) → r ≡ filled n bs → length r ≡ n → length bs ≤ n
@@ -22,19 +14,6 @@ fits-room n r bs p q =
     let a : length (filled n bs) ≡ length bs + length (replicate {A = ℕ} (n - length bs) 0) = length-append bs (replicate (n - length bs) 0) in
     let b : length r ≡ length (filled n bs) = ap (λ l. length l) p in
     omega arith
-
--- ---- bytes put from a place on, as far as the buffer goes
-
-module _ (r bytes : List ℕ) (at n : ℕ) (p : n ≡ min (length r - at) (length bytes)) where
-  pub end_is : at + n ≡ at + length (take (length r - at) bytes)
-  end_is = ap (λ m. at + m) (p ∙ sym (length-take (length r - at) bytes))
-
-  pub put_front : (part : List ℕ) → at ≤ length r
-      → part ≡ take (length (take (at + n - at) (drop at r))) bytes ++ drop (length bytes) (take (at + n - at) (drop at r))
-      → take at r ++ (part ++ drop (at + n - at) (drop at r)) ≡ take at r ++ (take (length r - at) bytes ++ drop (at + n) r)
-  put_front part h s =
-      copy-part at n r bytes part (omega arith) (omega arith) s
-      ∙ ap (λ l. take at r ++ (l ++ drop (at + n) r)) (ap (λ i. take i bytes) p ∙ take_min (length r - at) bytes)
 
 -- ---- a record, zeros, and the bytes put behind the record
 

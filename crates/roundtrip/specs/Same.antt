@@ -1,11 +1,31 @@
 -- Writing a list and reading the record back: what the buffers hold, and demand 3.
-use Rattle.std.specs.Prelude.{◌≡◌, Bool, true, cond, List, [], ◌++◌, ℕ, ◌+◌, ◌-◌, ◌≤◌, eqb, ℤ, length, take}
+use Rattle.std.specs.Prelude.{◌≡◌, Result, Ok, Err, Bool, true, cond, List, [], ◌++◌, ℕ, ◌+◌, ◌-◌, ◌≤◌, eqb, ℤ, length, take}
+use Rattle.codes.specs.declared.Refusal.{Refusal}
+use Rattle.codes.specs.Refusals.{number_in}
+use Rattle.decode.specs.Answered.{words_used, bytes_used}
 use Rattle.layout.specs.Layout.{work_for}
 use Rattle.walks.specs.Records.{most, filled, Decoded, decoded, decode_record, RecordRead, Encoded, encode_record, refusal_of, bytes_of}
 use Rattle.walks.specs.Plain.{plain}
 use Rattle.walks.specs.Decide.{fitting}
 use Rattle.walks.specs.Needs.{needed}
 use Rattle.roundtrip.specs.declared.Trip.{Trip}
+
+-- The record's length, the number that refuses to read, the item words and the text bytes that were read: all 0 where writing refuses.
+abbrev pub length_in : Result Trip Refusal → ℕ
+length_in (Ok t) = t.length
+length_in (Err e) = 0
+
+abbrev pub read_in : Result Trip Refusal → ℕ
+read_in (Ok t) = number_in t.read
+read_in (Err e) = 0
+
+abbrev pub words_in : Result Trip Refusal → ℕ
+words_in (Ok t) = words_used t.read
+words_in (Err e) = 0
+
+abbrev pub bytes_in : Result Trip Refusal → ℕ
+bytes_in (Ok t) = bytes_used t.read
+bytes_in (Err e) = 0
 
 -- the layout, its masks and its page, the list and its texts, the bytes to stand behind the record; the bytes of the record buffer, the words of the work space
 module _ (l masks : List ℕ) (page : ℕ) (items text behind : List ℕ) (room work : ℕ) where
@@ -32,18 +52,18 @@ module _ (l masks : List ℕ) (page : ℕ) (items text behind : List ℕ) (room 
 
 -- "writing accepts, and reading the written record returns the same list"
 -- "The same list: as many items, all words equal, and as many bytes of packed text, all equal." `back` and `said` are the buffers read into.
-pub record Same (l items text : List ℕ) (r : Trip) (back said : List ℕ) : Type 0 where
-  pub accepts : r.written ≡ 0
-  pub long : r.length ≡ needed l items
-  pub reads : r.read ≡ 0
-  pub many_items : r.items ≡ length items
-  pub many_bytes : r.text ≡ length text
+pub record Same (l items text : List ℕ) (r : Result Trip Refusal) (back said : List ℕ) : Type 0 where
+  pub accepts : number_in r ≡ 0
+  pub long : length_in r ≡ needed l items
+  pub reads : read_in r ≡ 0
+  pub many_items : words_in r ≡ length items
+  pub many_bytes : bytes_in r ≡ length text
   pub same_items : back ≡ filled (length back) items
   pub same_text : said ≡ filled (length said) text
 
 -- Demand 3: "for every plain layout, either page, every fitting list that needs at most 65,536 bytes"; "Enough room: for each call the work space that the questions
 -- ask for, a record buffer of at least the bytes needed, place for the list's items and text bytes"; "whatever stands behind it", the whole at most 65,536 bytes.
-abbrev pub Returns : (l masks : List ℕ) (page : ℕ) (items text behind : List ℕ) (room work : ℕ) → Trip → List ℕ → List ℕ → Type 0
+abbrev pub Returns : (l masks : List ℕ) (page : ℕ) (items text behind : List ℕ) (room work : ℕ) → Result Trip Refusal → List ℕ → List ℕ → Type 0
 Returns l masks page items text behind room work r back said =
     plain l masks page ≡ true → fitting l masks items text ≡ true → needed l items + length behind ≤ most → needed l items ≤ room → work_for l ≤ work
     → length items ≤ length back → length text ≤ length said → Same l items text r back said

@@ -2,22 +2,21 @@
 
 #![tactic(auto)]
 
-ghost use Rattle.std.specs.Prelude.{◌≡◌, ◌++◌, ◌+◌, ◌-◌, ◌≤◌, length, take, drop};
-ghost use Rattle.roundtrip.specs.Same.{RoundTrip, Returns};
+ghost use Rattle.std.specs.Prelude.{◌≡◌, ◌++◌, ◌+◌, ◌-◌, ◌≤◌, length, take, drop, replicate};
+ghost use Rattle.codes.specs.Refusals.{number_in};
+ghost use Rattle.roundtrip.specs.Same.{length_in, read_in, words_in, bytes_in, RoundTrip, Returns};
 
-use decode::decode_record;
+use codes::Refusal;
+use decode::{Reading, decode_record};
 use encode::encode_record;
-use zeros::{clear_items, clear_text};
+use items::ValueList;
+use layout::Layout;
 
-// What writing and reading back answer: the number that refuses to write, or 0 with the record's length; then the number that refuses to read,
-// or 0 with the item words and the text bytes used. All are 0 behind a refusal.
+// What writing and reading back answer: the record's length, and what the reader answers.
 #[derive(Clone, Copy)]
 pub struct Trip {
-    pub written: u32,
     pub length: usize,
-    pub read: u32,
-    pub items: usize,
-    pub text: usize,
+    pub read: Result<Reading, Refusal>,
 }
 
 // The bytes from a place of the record buffer on, as far as it goes, and where they end.
@@ -26,51 +25,47 @@ fn put_behind(record: &mut [u8], at: usize, bytes: &[u8]) -> usize
     ensures value { result ≡ at + length (take (length «record».old - at) bytes.now) }
     ensures record_after { «record».new ≡ take at «record».old ++ (take (length «record».old - at) bytes.now ++ drop result «record».old) }
 {
-    let n = lists::least(record.len() - at, bytes.len());
+    let n = bytes.len().min(record.len() - at);
     let end = at + n;
-    lists::copy(bytes, &mut record[at..end]);
+    record[at..end].copy_from_slice(&bytes[..n]);
     end
 }
 
-// Writes a record by a layout and a value list, puts bytes behind it, and reads it back.
+fn clear(back: &mut [u64], said: &mut [u8])
+    ensures back_after { back.new ≡ replicate (length back.old) 0 }
+    ensures said_after { said.new ≡ replicate (length said.old) 0 }
+{
+    back.fill(0);
+    said.fill(0);
+}
+
+// Writes a record by a layout and a value list, puts bytes behind it, and reads it back; nothing is read where writing refuses.
 pub fn round_trip(
-    layout: &[u32],
-    masks: &[u8],
-    page: u32,
-    items: &[u64],
-    text: &[u8],
+    layout: &Layout,
+    list: &ValueList,
     behind: &[u8],
     record: &mut [u8],
     counts: &mut [i64],
     back: &mut [u64],
     said: &mut [u8],
-) -> Trip
-    ensures round_trip { RoundTrip layout.now masks.now page items.now text.now behind.now (length «record».old) (length counts.old)
-        result.written result.length result.read result.items result.text
+) -> Result<Trip, Refusal>
+    ensures round_trip { RoundTrip layout.now.words.now layout.now.masks.now layout.now.page list.now.items.now list.now.text.now behind.now
+        (length «record».old) (length counts.old)
+        (number_in result) (length_in result) (read_in result) (words_in result) (bytes_in result)
         «record».old «record».new back.old back.new said.old said.new counts.old counts.new }
-    ensures returns { Returns layout.now masks.now page items.now text.now behind.now (length «record».old) (length counts.old)
+    ensures returns { Returns layout.now.words.now layout.now.masks.now layout.now.page list.now.items.now list.now.text.now behind.now
+        (length «record».old) (length counts.old)
         result back.new said.new }
 {
-    let w = encode_record(layout, masks, page, items, text, record, counts);
-    if w.number != 0 {
-        clear_items(back, 0);
-        clear_text(said, 0);
-        return Trip {
-            written: w.number,
-            length: 0,
-            read: 0,
-            items: 0,
-            text: 0,
-        };
-    }
-    let length = w.length;
-    let end = put_behind(record, length, behind);
-    let r = decode_record(layout, masks, page, &record[..end], back, said, counts);
-    Trip {
-        written: 0,
-        length,
-        read: r.number,
-        items: r.items,
-        text: r.text,
+    match encode_record(layout, list, record, counts) {
+        Ok(length) => {
+            let end = put_behind(record, length, behind);
+            let read = decode_record(layout, &record[..end], back, said, counts);
+            Ok(Trip { length, read })
+        }
+        Err(refusal) => {
+            clear(back, said);
+            Err(refusal)
+        }
     }
 }

@@ -3,7 +3,7 @@
 -- The measure of a call is to - i, how many items its first sequence has with all their members; a call inside another must have less.
 use mathlib.Core.Path.{refl, sym, ◌∙◌}
 use native.Mathlib.Omega.{arith}
-use Rattle.convert.proofs.Turns.{all_end, all-longer, all-shorter, all_named, all-item, all-inner, all-next}
+use Rattle.convert.proofs.Turns.{all-done, all-longer, all_named, all-item, all-inner, all-next}
 use Rattle.convert.proofs.+same_all.Goals as goal
 
 pub loop-p-init : goal.loop-p-init
@@ -61,12 +61,5 @@ loop-p-preserved t c =
     let at-item-end2 = c.item_end-qe in
     (omega arith, at-loop.invariant.1 ∙ all-next _ _ _ _ _ _ _ _ at-fetch.result at-fetch2.result _ _ at-fetch.ensures at-fetch2.ensures at-item-end.ensures at-item-end2.ensures at-loop-test.true at-if1.false at-if2.false (sym at-same-item.ensures ∙ at-if3.false) (sym c.same_all.ensures ∙ c.if-not-same_all.false))
 
-pub returns-then-q-end-2 : goal.returns-then-q-end-2
-returns-then-q-end-2 t c =
-    let at-loop = c.loop-p in
-    sym (at-loop.invariant.1 ∙ all-shorter _ _ _ _ _ _ _ _ c.loop-p-test.false c.if-q-end-2.true)
-
 pub returns : goal.returns
-returns t c =
-    let at-loop = c.loop-p in
-    sym (at-loop.invariant.1 ∙ all_end _ _ _ _ _ _ _ _ c.loop-p-test.false c.if-q-end-2.false)
+returns t c = sym (c.loop-p.invariant.1 ∙ all-done _ _ _ _ _ _ _ _ c.loop-p-test.false)

@@ -2,14 +2,15 @@
 -- The loop keeps that the two whole sequences are the same exactly if what is left of both is; each way out is one law of Turns.antt about where it leaves the loop.
 -- The measure of a call is to - i, how many items its first sequence has with all their members; a call inside another must have less.
 use mathlib.Core.Path.{◌≡◌}
-use Prim.Native.Nat.{◌-◌, ◌≤◌}
+use Rattle.std.proofs.Common.{ℕ, Bool, ◌-◌, ◌≤◌}
 use Rattle.items.specs.Items.{values}
 use Rattle.convert.specs.Same.{same_all}
-use Prim.Native.Nat.{◌-◌}
 use Rattle.convert.proofs.+same_all.Given as goal
 
 abbrev pub invariant-loop-p : goal.invariant-loop-p
-invariant-loop-p l = (l.i ≤ l.p) × (same_all l.t l.u (values l.v l.i l.to) (values l.w l.j l.end) ≡ same_all l.t l.u (values l.v l.p l.to) (values l.w l.q l.end))
+invariant-loop-p l =
+    let kept : ℕ → ℕ → Bool = λ i j. same_all l.old.text.now l.new.text.now (values l.old.items.now i l.to) (values l.new.items.now j l.end) in
+    (l.i ≤ l.p) × (kept l.i l.j ≡ kept l.p l.q)
 
 abbrev pub decreases-loop-p : goal.decreases-loop-p
 decreases-loop-p l = l.to - l.p

@@ -1,43 +1,24 @@
 -- Two ways: not read, or read and rewritten; each is a law of Calls from the contracts of the parts.
-use mathlib.Core.Path.{sym}
-use lib.Seq.{length-take-le}
-use Rattle.convert.proofs.Calls.{words-in, bytes-in, not-read, whole-call}
+use Rattle.std.proofs.Common.{refl, rules}
+use Rattle.codes.specs.Refusals.{number_of}
+use Rattle.codes.proofs.Refusals.{some_number}
+use Rattle.convert.specs.Calls.{Cleared}
+use Rattle.convert.proofs.Calls.{not-read, whole-call}
 use Rattle.convert.proofs.convert_record.Goals as goal
 
-pub returns-then-r-ne0 : goal.returns-then-r-ne0
-returns-then-r-ne0 c =
-    let at-args = c.args in
-    let at-decode-record = c.decode_record-r in
-    let at-if1 = c.if-r-ne0 in
-    let at-clear-text = c.clear_text in
-    let at-clear-list = c.clear_list in
-    not-read _ _ _ _ at-args.new_layout.now at-args.new_masks.now at-args.new_page at-args.new_record.now _ _ at-args.back_items.now at-args.back_text.now _ _ _ _ _ _ _ at-decode-record.ensures at-if1.true _ at-clear-text.ensures _ _ at-clear-list.ensures _ _ c.refusal.ensures
+pub returns-in-Ok : goal.returns-in-Ok
+returns-in-Ok c =
+    let a = c.args in
+    let new = a.new.now in
+    let read = c.decode_record in
+    whole-call _ _ _ _ new.words.now new.masks.now new.page a.new_record.now _ _ a.back_items.now a.back_text.now _ _ _ _ _ _ _ c.in-Ok.ensures refl read.auto.counts _ _ _ _ _ _ c.rewrite-length.ensures
+    _ _ c.clear_list.ensures read.auto.items read.auto.text
 
-pub slice_bounds-rewrite-end : goal.slice_bounds-rewrite-end
-slice_bounds-rewrite-end c =
-    let at-decode-record = c.decode_record-r in
-    words-in _ _ _ _ _ _ _ _ _ _ at-decode-record.ensures
-
-pub slice_bounds-rewrite-end-2 : goal.slice_bounds-rewrite-end-2
-slice_bounds-rewrite-end-2 c =
-    let at-decode-record = c.decode_record-r in
-    sym (length-take-le _ _ (words-in _ _ _ _ _ _ _ _ _ _ at-decode-record.ensures))
-
-pub slice_bounds-rewrite-end-3 : goal.slice_bounds-rewrite-end-3
-slice_bounds-rewrite-end-3 c =
-    let at-decode-record = c.decode_record-r in
-    bytes-in _ _ _ _ _ _ _ _ _ _ at-decode-record.ensures
-
-pub slice_bounds-rewrite-end-4 : goal.slice_bounds-rewrite-end-4
-slice_bounds-rewrite-end-4 c =
-    let at-decode-record = c.decode_record-r in
-    sym (length-take-le _ _ (bytes-in _ _ _ _ _ _ _ _ _ _ at-decode-record.ensures))
-
-pub returns : goal.returns
-returns c =
-    let at-args = c.args in
-    let at-decode-record = c.decode_record-r in
-    let at-if1 = c.if-r-ne0 in
-    let at-rewrite = c.rewrite-w in
-    let at-clear-list2 = c.clear_list-2 in
-    whole-call _ _ _ _ at-args.new_layout.now at-args.new_masks.now at-args.new_page at-args.new_record.now _ _ at-args.back_items.now at-args.back_text.now _ _ _ _ _ _ _ at-decode-record.ensures at-if1.false at-decode-record.auto.counts _ _ _ _ _ _ at-rewrite.ensures _ _ at-clear-list2.ensures at-decode-record.auto.items at-decode-record.auto.text
+pub returns-in-Err : goal.returns-in-Err
+returns-in-Err c =
+    let a = c.args in
+    let new = a.new.now in
+    let refusal = c.in-Err.refusal in
+    let zeros : Cleared a.new_record.now c.fill.new.self = search rules in
+    not-read _ _ _ _ new.words.now new.masks.now new.page a.new_record.now _ _ a.back_items.now a.back_text.now _ _ _ _ _ _ _ c.in-Err.ensures (some_number refusal) _ zeros
+    _ _ c.clear_list-in-Err.ensures (number_of refusal) 0 (refl, refl)

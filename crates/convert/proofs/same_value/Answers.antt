@@ -35,5 +35,5 @@ returns c =
     let at-if3 = c.if-x-y in
     let at-same-item = c.same_item in
     let at-if4 = c.if-not-same_item in
-    let at-item-end = c.item_end-pe in
-    c.same_all.ensures ∙ value-members _ _ _ _ _ _ _ _ at-fetch.result at-fetch2.result _ _ at-fetch.ensures at-fetch2.ensures at-item-end.ensures c.item_end-qe.ensures at-if1.false at-if2.false at-if3.false (sym at-same-item.ensures ∙ at-if4.false)
+    let at-item-end = c.item_end in
+    c.same_all.ensures ∙ value-members _ _ _ _ _ _ _ _ at-fetch.result at-fetch2.result _ _ at-fetch.ensures at-fetch2.ensures at-item-end.ensures c.item_end-2.ensures at-if1.false at-if2.false at-if3.false (sym at-same-item.ensures ∙ at-if4.false)

@@ -1,25 +1,20 @@
--- A sequence writes fields, a field writes elements, a group element writes a sequence. The falling number is three for each entry of the span.
--- The falling number of each function: its entries, lo up to hi.
--- An entry that is a table or a group. The loop's invariant: what all elements come to is what the elements that are left come to, in the buffer as it is. The elements left fall.
--- One group: the sequence of its members by the members of its value.
--- The entries of a sequence. The loop's invariant: what the whole comes to is what the entries that are left come to, in the buffer as it is. The entries left fall.
+-- A sequence writes fields, a field writes elements, a group element writes a sequence: the falling number is three for each entry, lo up to hi.
+-- Of an entry's elements, what all come to is what those that are left come to, in the buffer as it is; of a sequence's entries likewise, which fall.
 use Prim.Native.Nat.{◌+◌, ◌-◌, ◌*◌}
-use Prim.Native.Nat.{◌-◌}
 use Rattle.items.specs.Items.{values}
 use Rattle.encode_leaf.specs.Laying.{elements}
 use Rattle.encode_leaf.proofs.Elements.{ElementsInv}
-use Rattle.encode.proofs.Turns.{group_in}
-use Rattle.encode.proofs.Turns.{SeqInv}
+use Rattle.encode.proofs.Turns.{group_in, SeqInv}
 use Rattle.encode.proofs.+encode_field_encode_one_encode_seq.Given as goal
 
 abbrev pub decreases-encode_field : goal.decreases-encode_field
 decreases-encode_field l = 3 * (l.hi - l.lo) + 2
 
-abbrev pub invariant-encode_field-loop-left : goal.invariant-encode_field-loop-left
-invariant-encode_field-loop-left l = ElementsInv (elements (group_in l.masks l.text l.page l.layout l.initial.rec l.lo l.hi) l.initial.left (values l.items l.initial.j l.end) l.initial.place l.initial.taken l.initial.past l.initial.rec) (group_in l.masks l.text l.page l.layout l.initial.rec l.lo l.hi) l.items l.initial.rec l.end l.rec l.j l.left l.place l.taken l.past
-
-abbrev pub decreases-encode_field-loop-left : goal.decreases-encode_field-loop-left
-decreases-encode_field-loop-left l = l.left
+abbrev pub invariant-encode_field-loop-done : goal.invariant-encode_field-loop-done
+invariant-encode_field-loop-done l =
+    let f = group_in l.layout.masks.now l.list.text.now l.layout.page l.layout.words.now l.initial.rec l.lo l.hi in
+    let v = l.list.items.now in
+    ElementsInv (elements f l.run.n (values v l.run.from l.end) l.at 0 0 l.initial.rec) f v l.initial.rec l.end l.rec l.j (l.run.n - l.done) l.place l.taken l.past
 
 abbrev pub decreases-encode_one : goal.decreases-encode_one
 decreases-encode_one l = 3 * (l.hi - l.lo) + 1
@@ -28,7 +23,8 @@ abbrev pub decreases-encode_seq : goal.decreases-encode_seq
 decreases-encode_seq l = 3 * (l.hi - l.lo)
 
 abbrev pub invariant-encode_seq-loop-i : goal.invariant-encode_seq-loop-i
-invariant-encode_seq-loop-i l = SeqInv l.masks l.text l.page l.layout l.items l.initial.rec l.lo l.hi l.from l.to l.base l.rec l.i l.shift l.taken l.past l.f
+invariant-encode_seq-loop-i l =
+    SeqInv l.layout.masks.now l.list.text.now l.layout.page l.layout.words.now l.list.items.now l.initial.rec l.lo l.hi l.from l.to l.base l.rec l.i l.shift l.taken l.past l.f
 
 abbrev pub decreases-encode_seq-loop-i : goal.decreases-encode_seq-loop-i
 decreases-encode_seq-loop-i l = l.hi - l.i

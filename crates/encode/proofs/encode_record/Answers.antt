@@ -1,35 +1,33 @@
-use mathlib.Core.Path.{ap, ◌∙◌}
-use lib.ListN.{length, replicate}
-use Rattle.encode.proofs.Public.{with-counts, not-asked, not-walked, all-walked}
+-- Each way out by the law of Public of that name; the work space is left as zeros.
+use Rattle.std.proofs.Common.{refl, sym, ap, ◌∙◌, length, replicate}
+use Rattle.codes.proofs.Refusals.{some_number}
+use Rattle.encode.proofs.Public.{E, with-counts, passed-on, not-asked, not-walked, all-walked}
 use Rattle.encode.proofs.encode_record.Goals as goal
 
-pub returns-then-number-ne0 : goal.returns-then-number-ne0
-returns-then-number-ne0 c =
-    let at-args = c.args in
-    let at-asked = c.asked-number in
-    let at_clear = c.clear in
-    with-counts (not-asked at-args.layout.now at-args.masks.now at-args.page at-args.items.now at-args.text.now (length at-args.«record».now) (length at-args.counts.now) _ at-asked.ensures c.if-number-ne0.true _ at_clear.ensures.record_after) at_clear.ensures.counts_after
+pub returns-in_err-questions : goal.returns-in_err-questions
+returns-in_err-questions c =
+    let a = c.args in
+    let l = a.layout.now in
+    let v = a.list.now in
+    let q = c.in_err-questions in
+    with-counts (passed-on (E l.words.now l.masks.now l.page v.items.now v.text.now (length a.record.now) (length a.counts.now) _ q.ensures) (length a.record.now) c.clear.new.record _ _
+    c.from_residual.ensures.1
+    (not-asked l.words.now l.masks.now l.page v.items.now v.text.now (length a.record.now) (length a.counts.now) _ q.ensures (some_number q.field-0.0) _ c.clear.ensures.record_after))
+    c.clear.ensures.counts_after
 
-pub returns-then-o-ne0 : goal.returns-then-o-ne0
-returns-then-o-ne0 c =
-    let at-args = c.args in
-    let at-asked = c.asked-number in
-    let at_clear = c.clear in
-    let at-if1 = c.if-number-ne0 in
-    let at-item-count = c.item_count in
-    let at-encode-seq = c.encode_seq-o in
-    let at-if2 = c.if-o-ne0 in
-    let at_fill_lem = c.fill in
-    with-counts (not-walked at-args.layout.now at-args.masks.now at-args.page at-args.items.now at-args.text.now (length at-args.«record».now) (length at-args.counts.now) _ at-asked.ensures at-if1.false _ at_clear.ensures.record_after _ at-item-count.ensures _ (at-encode-seq.ensures.refuses at-if2.true).0 _ (at_fill_lem.ensures ∙ ap (λ n. replicate n 0) (at-encode-seq.auto.rec ∙ at_clear.auto.record))) at_clear.ensures.counts_after
+pub returns-in-Ok : goal.returns-in-Ok
+returns-in-Ok c =
+    let a = c.args in
+    let l = a.layout.now in
+    let v = a.list.now in
+    with-counts (all-walked l.words.now l.masks.now l.page v.items.now v.text.now (length a.record.now) (length a.counts.now) 0 c.in_ok-questions.ensures refl _ c.clear.ensures.record_after
+    _ _ c.entry_count.ensures c.item_count.ensures _ _ _ _ _ _ (sym c.in-Ok.ensures) c.record_length-least.ensures c.saturating_sub.ensures c.max.ensures) c.clear.ensures.counts_after
 
-pub returns : goal.returns
-returns c =
-    let at-args = c.args in
-    let at-record-length = c.record_length-least in
-    let at-asked = c.asked-number in
-    let at_clear = c.clear in
-    let at-if1 = c.if-number-ne0 in
-    let at-item-count = c.item_count in
-    let at-encode-seq = c.encode_seq-o in
-    let at-if2 = c.if-o-ne0 in
-    with-counts (all-walked at-args.layout.now at-args.masks.now at-args.page at-args.items.now at-args.text.now (length at-args.«record».now) (length at-args.counts.now) _ at-asked.ensures at-if1.false _ at_clear.ensures.record_after _ at-item-count.ensures _ _ _ _ _ _ (at-encode-seq.ensures.fine at-if2.false) at-record-length.ensures c.less.ensures c.larger-length.ensures) at_clear.ensures.counts_after
+pub returns-in-Err : goal.returns-in-Err
+returns-in-Err c =
+    let a = c.args in
+    let l = a.layout.now in
+    let v = a.list.now in
+    with-counts (not-walked l.words.now l.masks.now l.page v.items.now v.text.now (length a.record.now) (length a.counts.now) 0 c.in_ok-questions.ensures refl _ c.clear.ensures.record_after
+    _ _ c.entry_count.ensures c.item_count.ensures _ (sym c.in-Err.ensures) _ (c.wipe.ensures ∙ ap (λ n. replicate n 0) (c.encode_seq.auto.rec ∙ c.clear.auto.record)))
+    c.clear.ensures.counts_after

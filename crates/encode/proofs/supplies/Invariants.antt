@@ -1,6 +1,5 @@
--- The invariant: the names of all entries are supplied if those of the entries that are left are; a name from `next` on is a name of the list. The entries left fall.
-use mathlib.Core.Path.{◌≡◌}
-use Prim.Native.Nat.{◌-◌}
+-- The names of all entries are supplied if those of the entries that are left are; a name from `next` on is a name of the list. The entries left fall.
+use Rattle.std.proofs.Common.{◌≡◌, ◌-◌}
 use Rattle.layout.specs.Layout.{part}
 use Rattle.items.specs.Items.{values}
 use Rattle.walks.specs.Records.{supplied}
@@ -8,7 +7,10 @@ use Rattle.encode.proofs.Asking.{Within}
 use Rattle.encode.proofs.supplies.Given as goal
 
 abbrev pub invariant-loop-i : goal.invariant-loop-i
-invariant-loop-i l = (supplied (part l.layout 0 l.n) (values l.items 0 l.to) ≡ supplied (part l.layout l.i l.n) (values l.items 0 l.to)) × Within (values l.items l.next l.to) (values l.items 0 l.to)
+invariant-loop-i l =
+    let l' = l.layout.words.now in
+    let v = l.list.items.now in
+    (supplied (part l' 0 l.n) (values v 0 l.to) ≡ supplied (part l' l.i l.n) (values v 0 l.to)) × Within (values v l.next l.to) (values v 0 l.to)
 
 abbrev pub decreases-loop-i : goal.decreases-loop-i
 decreases-loop-i l = l.n - l.i

@@ -1,76 +1,42 @@
--- The invariant: the elements that are left, in the buffer as it is now, come to what all come to, and leave the buffer that all leave; the elements left fall.
-use mathlib.Core.Path.{refl, ◌∙◌}
-use Rattle.encode_leaf.proofs.Meets.{refuse, fine}
-use Rattle.encode_leaf.proofs.Elements.{buffer-done, buffer-stops, buffer-settles, buffer-goes, elements-starts, elements-stops, elements-settles, elements-goes, elements-done, leaf-here}
+-- Each way out by the law of Elements of that name, at the element as it is put into the buffer as it is now.
+use Rattle.std.proofs.Common.{sym, ◌∙◌, arith}
+use Rattle.encode_leaf.proofs.Meets.{stopped}
+use Rattle.encode_leaf.proofs.Elements.{buffer-starts, buffer-done, buffer-stops, buffer-settles, buffer-goes, elements-starts, elements-stops, elements-settles, elements-goes, elements-done, leaf-here}
 use Rattle.encode_leaf.proofs.encode_table.Goals as goal
 
-pub loop-left-init : goal.loop-left-init
-loop-left-init c = (elements-starts _ _ _ _ _ _ _ _ _, record { whole = refl })
+pub loop-done-init : goal.loop-done-init
+loop-done-init c = (elements-starts _ _ _ _ _ _ _ _ _ _ (omega arith), buffer-starts _ _ _ _ _ _ _ _ (omega arith))
 
-pub shape_of-record-then-o-ne0 : goal.shape_of-record-then-o-ne0
-shape_of-record-then-o-ne0 c =
-    let at-loop = c.loop-left in
-    let at-encode-leaf = c.encode_leaf-o in
-    at-encode-leaf.auto.record ∙ at-loop.invariant.0.same
+pub returns-in_err-o-clause-value : goal.returns-in_err-o-clause-value
+returns-in_err-o-clause-value c =
+    let stops = leaf-here _ _ _ _ c.loop-done.invariant.0 _ c.fetch-it.ensures _ (sym c.in_err-o.ensures.value) in
+    stopped _ _ _ c.from_residual.ensures.1 (elements-stops c.loop-done.invariant.0 (omega arith) _ stops)
 
-pub returns-then-o-ne0 : goal.returns-then-o-ne0
-returns-then-o-ne0 c =
-    let at-args = c.args in
-    let at-loop = c.loop-left in
-    let at-loop-test = c.loop-left-test in
-    let at-fetch = c.fetch-it in
-    let at-encode-leaf = c.encode_leaf-o in
-    let stops = leaf-here at-args.masks.now at-args.text.now at-args.page at-args.e at-loop.invariant.0 _ at-fetch.ensures _ (at-encode-leaf.ensures.met.refuses c.if-o-ne0.true).0 in record {
-      met = refuse at-encode-leaf.result.refused c.refusal.ensures c.if-o-ne0.true (elements-stops at-loop.invariant.0 at-loop-test.true _ stops);
-      record_after = at-encode-leaf.ensures.record_unchanged c.if-o-ne0.true ∙ buffer-stops at-loop.invariant.1 at-loop-test.true _ stops;
-    }
+pub returns-in_err-o-clause-record_after : goal.returns-in_err-o-clause-record_after
+returns-in_err-o-clause-record_after c =
+    let stops = leaf-here _ _ _ _ c.loop-done.invariant.0 _ c.fetch-it.ensures _ (sym c.in_err-o.ensures.value) in
+    c.in_err-o.ensures.record_after ∙ rw (← c.in_err-o.ensures.value) (buffer-stops c.loop-done.invariant.1 (omega arith) _ stops)
 
-pub shape_of-record-then-settles : goal.shape_of-record-then-settles
-shape_of-record-then-settles c =
-    let at-loop = c.loop-left in
-    let at-encode-leaf = c.encode_leaf-o in
-    at-encode-leaf.auto.record ∙ at-loop.invariant.0.same
+pub returns-then-settles-clause-value : goal.returns-then-settles-clause-value
+returns-then-settles-clause-value c =
+    let put = leaf-here _ _ _ _ c.loop-done.invariant.0 _ c.fetch-it.ensures _ (sym c.in_ok-o.ensures.value) in
+    sym (elements-settles c.loop-done.invariant.0 (omega arith) c.in_ok-o.o _ _ put c.max-past.ensures _ c.settles.ensures c.if-settles.true _ _ c.sat_mul.ensures c.sat_add.ensures)
 
-pub returns-then-settles : goal.returns-then-settles
-returns-then-settles c =
-    let at-args = c.args in
-    let at-loop = c.loop-left in
-    let at-loop-test = c.loop-left-test in
-    let at-fetch = c.fetch-it in
-    let at-encode-leaf = c.encode_leaf-o in
-    let at-if1 = c.if-o-ne0 in
-    let at-larger = c.larger-past in
-    let at-settles = c.settles in
-    let at-if2 = c.if-settles in
-    let put = (leaf-here at-args.masks.now at-args.text.now at-args.page at-args.e at-loop.invariant.0 _ at-fetch.ensures _ (at-encode-leaf.ensures.met.fine at-if1.false)) in record {
-      met = fine _ _ (elements-settles at-loop.invariant.0 at-loop-test.true at-encode-leaf.result _ _ put at-larger.ensures _ at-settles.ensures at-if2.true _ _ c.sat_mul.ensures c.sat_add.ensures);
-      record_after = buffer-settles at-loop.invariant.1 at-loop-test.true at-encode-leaf.result _ put _ at-settles.ensures at-if2.true;
-    }
+pub returns-then-settles-clause-record_after : goal.returns-then-settles-clause-record_after
+returns-then-settles-clause-record_after c =
+    let put = leaf-here _ _ _ _ c.loop-done.invariant.0 _ c.fetch-it.ensures _ (sym c.in_ok-o.ensures.value) in
+    buffer-settles c.loop-done.invariant.1 (omega arith) c.in_ok-o.o _ put _ c.settles.ensures c.if-settles.true
 
-pub loop-left-preserved : goal.loop-left-preserved
-loop-left-preserved c =
-    let at-args = c.args in
-    let at-loop = c.loop-left in
-    let at-loop-test = c.loop-left-test in
-    let at-fetch = c.fetch-it in
-    let at-item-end = c.item_end-next in
-    let at-encode-leaf = c.encode_leaf-o in
-    let at-if1 = c.if-o-ne0 in
-    let at-larger = c.larger-past in
-    let at-settles = c.settles in
-    let at-if2 = c.if-settles in
-    let put = (leaf-here at-args.masks.now at-args.text.now at-args.page at-args.e at-loop.invariant.0 _ at-fetch.ensures _ (at-encode-leaf.ensures.met.fine at-if1.false)) in (
-      elements-goes at-loop.invariant.0 at-loop-test.true at-encode-leaf.result _ _ put at-larger.ensures _ at-settles.ensures at-if2.false _ _ _ _ at-encode-leaf.auto.record
-          c.sat_add-place.ensures c.sat_add-taken.ensures at-item-end.ensures refl,
-      buffer-goes at-loop.invariant.1 at-loop-test.true at-encode-leaf.result _ put _ at-settles.ensures at-if2.false _ _ _ c.sat_add-place.ensures at-item-end.ensures refl,
+pub loop-done-preserved : goal.loop-done-preserved
+loop-done-preserved c =
+    let put = leaf-here _ _ _ _ c.loop-done.invariant.0 _ c.fetch-it.ensures _ (sym c.in_ok-o.ensures.value) in (
+      elements-goes c.loop-done.invariant.0 (omega arith) c.in_ok-o.o _ _ put c.max-past.ensures _ c.settles.ensures c.if-settles.false _ _ _ _ c.encode_leaf.auto.record
+          c.sat_add-place.ensures c.sat_add-taken.ensures c.item_end-next.ensures (omega arith),
+      buffer-goes c.loop-done.invariant.1 (omega arith) c.in_ok-o.o _ put _ c.settles.ensures c.if-settles.false _ _ _ c.sat_add-place.ensures c.item_end-next.ensures (omega arith),
     )
 
-pub shape_of-record : goal.shape_of-record
-shape_of-record c = c.loop-left.invariant.0.same
+pub returns-clause-value : goal.returns-clause-value
+returns-clause-value c = sym (elements-done c.loop-done.invariant.0 (omega arith))
 
-pub returns : goal.returns
-returns c =
-    record {
-      met = fine _ _ (elements-done c.loop-left.invariant.0 c.loop-left-test.false);
-      record_after = buffer-done c.loop-left.invariant.1 c.loop-left-test.false;
-    }
+pub returns-clause-record_after : goal.returns-clause-record_after
+returns-clause-record_after c = buffer-done c.loop-done.invariant.1 (omega arith)

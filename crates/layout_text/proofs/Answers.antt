@@ -2,14 +2,15 @@
 use mathlib.Core.Path.{◌≡◌, refl, sym, ap, ◌∙◌}
 use mathlib.Core.Bool.{Bool, true, false, ◌&&◌, cond}
 use mathlib.Core.List.{List, [], ◌++◌}
-use Prim.Native.Nat.{ℕ, ◌*◌, ◌/◌, ◌%◌, ◌≤◌, ◌<◌, min}
+use Prim.Native.Nat.{ℕ, ◌*◌, ◌/◌, ◌%◌, ◌≤◌, ◌<◌}
 use native.Mathlib.Omega.{arith}
 use native.Mathlib.Nat.{sub-zero}
 use lib.Dec.{eqb, leb}
 use lib.ListN.{length, get_or, take, drop, replicate, length-replicate}
 use Rattle.lists.proofs.Lists.{drop-replicate}
 use Rattle.zeros.proofs.Filled.{in-front}
-use borrow.Author.Tests.{le-leb, eq-eqb, ne_eqb, leb-true, eqb-true}
+use borrow.Author.Tests.{le-leb, eq-eqb, ne_eqb, leb-true, eqb-true, eqb-false}
+use Rattle.value.specs.Answer.{given, refused as not_given}
 use Rattle.spans.specs.Tree.{nested}
 use Rattle.spans.proofs.Tree.{nested-as}
 use Rattle.lists.proofs.Logic.{and_left, and_right}
@@ -18,8 +19,8 @@ use Rattle.layout_text.specs.declared.Judged.{Judged}
 use Rattle.layout_text.specs.declared.LayoutReading.{LayoutReading}
 use Rattle.layout_text.specs.Form.{lines_of, line_in, count_of, kind_said, entry_lawful, lawful, span_word}
 use Rattle.layout_text.specs.Reading.{number_said, masks_of, mask_long, entry_said, words_of, page_of, judged, placed, text_checked, refusal}
-use Rattle.layout_text.specs.Reading.{Read, refused, read, read_of, layout_into, number_read, page_read, words_read, masks_read, filled, LayoutRead}
-use Rattle.layout_text.specs.Walk.{span_in, group_in, nested_in, fine_in, Finds, number_given, refused_by, answer_given, answer_of, Lasts}
+use Rattle.layout_text.specs.Reading.{refused, read, read_of, layout_into, number_read, page_read, words_read, masks_read, filled, LayoutRead}
+use Rattle.layout_text.specs.Walk.{span_in, group_in, nested_in, fine_in, Finds, reading_of, Lasts}
 use Rattle.layout_text.proofs.Words.{words_long, words_count, entry-words}
 use Rattle.layout_text.proofs.Ranges.{ranges-are}
 use Rattle.layout_text.proofs.Storing.{lawful-entry}
@@ -43,7 +44,7 @@ kind-said : (l : List (List ℕ)) (i : ℕ) → (entry_said l i).kind ≡ kind_s
 unfolding entry_said
 kind-said l i = refl
 
-pub spans-asked : (l : List (List ℕ)) (spans groups : List ℕ) → ((i : ℕ) → i < count_of l → get_or spans i 0 ≡ number_said span_word (line_in l i 6)) → ((i : ℕ) → i < count_of l → eqb (get_or groups i 0) 1 ≡ eqb (kind_said l i) 9)
+pub spans-asked : (l : List (List ℕ)) (spans : List ℕ) (groups : List Bool) → ((i : ℕ) → i < count_of l → get_or spans i 0 ≡ number_said span_word (line_in l i 6)) → ((i : ℕ) → i < count_of l → get_or groups i false ≡ eqb (kind_said l i) 9)
     → spans_ok (words_of l) ≡ nested_in spans groups 8 0 (count_of l)
 unfolding spans_ok nested_in
 spans-asked l spans groups a b =
@@ -61,76 +62,75 @@ ranges l = entries_ok (words_of l) (length (masks_of l)) && all_below (mask_long
 abbrev fits : List (List ℕ) → ℕ → ℕ → Bool
 fits l words masks = leb (length (words_of l)) words && leb (length (masks_of l)) masks
 
-module _ (text : List ℕ) (j : Judged) (spans groups : List ℕ) (f : Finds text j spans groups) (most : ℕ) (d : most ≡ min j.count 512) (nests : Bool) (e : nests ≡ nested_in spans groups 8 0 most) (words masks : ℕ) where
+pub both-true : {s t : Bool} → s ≡ true → t ≡ true → (s && t) ≡ true
+both-true a b = rw (a, b) refl
+
+pub left-false : {s : Bool} (t : Bool) → s ≡ false → (s && t) ≡ false
+left-false t a = rw a refl
+
+pub right-false : (s : Bool) {t : Bool} → t ≡ false → (s && t) ≡ false
+right-false true b = b
+right-false false b = refl
+
+-- the questions of a text that was judged, one after the other
+module _ (text : List ℕ) (words masks : ℕ) where
   abbrev l : List (List ℕ)
   l = lines_of text
 
-  abbrev room : Bool
-  room = leb (j.count * 12) words && leb j.masks masks
+  pub unlawful-is : lawful text ≡ false → refusal text words masks ≡ 17
+  unfolding refusal text_checked
+  unlawful-is f = rw f refl
 
-  few : (a : Bool) → (leb (count_of l) 512 && leb (page_of l) 1) ≡ a → j.lawful ≡ true → judged true a j.fine nests ≡ judged true a (ranges l) (spans_ok (words_of l))
-  few false q t = refl
-  few true q t =
-      let n : count_of l ≤ 512 = leb-true (count_of l) 512 (and_left (leb (count_of l) 512) (leb (page_of l) 1) q) in
-      let m : most ≡ count_of l = omega (arith, f.count t) in
-      let s : nests ≡ spans_ok (words_of l) =
-      e ∙ ap (nested_in spans groups 8 0) m ∙ sym (spans-asked l spans groups (λ i h. f.spans-kept t i h (omega arith)) (λ i h. f.groups-kept t i h (omega arith))) in
-      rw (f.fine t, ranges-are l n, s) refl
+  module _ (j : Judged) (spans : List ℕ) (groups : List Bool) (f : Finds text j spans groups) where
+    abbrev room : Bool
+    room = leb (j.count * 12) words && leb j.masks masks
 
-  number_is : (t : Bool) → j.lawful ≡ t
-      → placed (judged t (leb j.count 512 && leb j.page 1) j.fine nests) room
-      ≡ placed (judged t (words_ok (words_of l) (page_of l)) (ranges l) (spans_ok (words_of l))) (fits l words masks)
-  number_is false q = refl
-  number_is true q =
-      rw (page-asked l, f.count q, f.page q, f.masks q, words_long l (count_of l))
-      (ap (λ (n : ℕ). placed n (leb (count_of l * 12) words && leb (length (masks_of l)) masks)) (few (leb (count_of l) 512 && leb (page_of l) 1) refl q))
+    first-is : (leb (count_of l) 512 && leb (page_of l) 1) ≡ (leb j.count 512 && leb j.page 1)
+    first-is = sym (λ i. leb (f.count i) 512 && leb (f.page i) 1)
 
-  pub number_same : number_given j nests words masks ≡ refusal text words masks
-  unfolding number_given refusal text_checked
-  number_same = number_is j.lawful refl ∙ ap (λ (t : Bool). placed (judged t (words_ok (words_of l) (page_of l)) (ranges l) (spans_ok (words_of l))) (fits l words masks)) f.lawful-is
+    room-is : fits l words masks ≡ room
+    room-is = rw (words_long l (count_of l)) (sym (λ i. leb (f.count i * 12) words && leb (f.masks i) masks))
 
-  lawful_then : number_given j nests words masks ≡ 0 → j.lawful ≡ true
-  unfolding number_given
-  lawful_then z = by j.lawful z
-    where
-      by : (t : Bool) → placed (judged t (leb j.count 512 && leb j.page 1) j.fine nests) room ≡ 0 → t ≡ true
-      by true q = refl
-      by false q = absurd (omega (arith, q))
+    pub page-fails : (leb j.count 512 && leb j.page 1) ≡ false → refusal text words masks ≡ 1
+    unfolding refusal text_checked
+    page-fails a = rw (f.is_lawful, page-asked l, first-is, a) refl
 
-  pub answer-is : answer_given j nests words masks ≡ answer_of (read_of text words masks)
-  unfolding answer_given read_of
-  answer-is = rw (← number_same) (by (eqb (number_given j nests words masks) 0) refl)
-    where
-      by : (t : Bool) → eqb (number_given j nests words masks) 0 ≡ t
-          → ◌≡◌ {A = LayoutReading} (cond t (record { number = 0; page = j.page; words = j.count * 12; masks = j.masks }) (record { number = number_given j nests words masks; page = 0; words = 0; masks = 0 }))
-          (answer_of (cond t (read (page_of l) (words_of l) (masks_of l)) (refused (number_given j nests words masks))))
-      by false q = refl
-      by true q =
-          let t : j.lawful ≡ true = lawful_then (eqb-true (number_given j nests words masks) 0 q) in
-          let n : j.count * 12 ≡ length (words_of l) = ap (λ (k : ℕ). k * 12) (f.count t) ∙ sym (words_long l (count_of l)) in
-          λ i. record { number = 0; page = f.page t i; words = n i; masks = f.masks t i }
+    module _ (a : (leb j.count 512 && leb j.page 1) ≡ true) where
+      few : count_of l ≤ 512
+      few = leb-true (count_of l) 512 (and_left (leb (count_of l) 512) (leb (page_of l) 1) (first-is ∙ a))
 
-  -- "Place for words and masks": no lawful text that passes 1 and 2 is longer than its starts can say
-  pub text-small : number_given j nests words masks ≡ 0 → length text < 4294967296
-  unfolding number_given
-  text-small z = by j.lawful (leb j.count 512 && leb j.page 1) j.fine refl refl refl z
-    where
-      by : (t a b : Bool) → j.lawful ≡ t → (leb j.count 512 && leb j.page 1) ≡ a → j.fine ≡ b → placed (judged t a b nests) room ≡ 0 → length text < 4294967296
-      by true true true x y w q =
-          let n : j.count ≤ 512 = leb-true j.count 512 (and_left (leb j.count 512) (leb j.page 1) y) in
-          omega (arith, f.short x, f.small w)
-      by true true false x y w q = absurd (omega (arith, q))
-      by true false b x y w q = absurd (omega (arith, q))
-      by false a b x y w q = absurd (omega (arith, q))
+      pub fine-fails : j.fine ≡ false → refusal text words masks ≡ 2
+      unfolding refusal text_checked
+      fine-fails b = rw (f.is_lawful, page-asked l, first-is, a, ranges-are l few, sym f.fine ∙ b) refl
 
-pub number-given : (j : Judged) (nests : Bool) (words masks : ℕ) (r : LayoutReading) → r ≡ answer_given j nests words masks → r.number ≡ 0 → number_given j nests words masks ≡ 0
-unfolding answer_given
-number-given j nests words masks r e z = by (eqb (number_given j nests words masks) 0) refl (sym (ap (λ (x : LayoutReading). x.number) e) ∙ z)
-  where
-    by : (t : Bool) → eqb (number_given j nests words masks) 0 ≡ t
-        → (cond t (record { number = 0; page = j.page; words = j.count * 12; masks = j.masks }) (refused_by (number_given j nests words masks))).number ≡ 0 → number_given j nests words masks ≡ 0
-    by true q x = eqb-true (number_given j nests words masks) 0 q
-    by false q x = x
+      module _ (b : j.fine ≡ true) where
+        nests-is : spans_ok (words_of l) ≡ nested_in spans groups 8 0 j.count
+        nests-is =
+            spans-asked l spans groups (λ i h. f.spans-kept i h (omega (arith, few))) (λ i h. f.groups-kept i h (omega (arith, few)))
+            ∙ ap (nested_in spans groups 8 0) (sym f.count)
+
+        pub nesting-fails : nested_in spans groups 8 0 j.count ≡ false → refusal text words masks ≡ 3
+        unfolding refusal text_checked
+        nesting-fails c = rw (f.is_lawful, page-asked l, first-is, a, ranges-are l few, sym f.fine ∙ b, nests-is, c) refl
+
+        module _ (c : nested_in spans groups 8 0 j.count ≡ true) where
+          pub room-fails : room ≡ false → refusal text words masks ≡ 16
+          unfolding refusal text_checked
+          room-fails d = rw (f.is_lawful, page-asked l, first-is, a, ranges-are l few, sym f.fine ∙ b, nests-is, c, room-is, d) refl
+
+          pub all-pass : room ≡ true → refusal text words masks ≡ 0
+          unfolding refusal text_checked
+          all-pass d = rw (f.is_lawful, page-asked l, first-is, a, ranges-are l few, sym f.fine ∙ b, nests-is, c, room-is, d) refl
+
+    pub reading-is : refusal text words masks ≡ 0 → given (record { page = j.page; words = j.count * 12; masks = j.masks }) ≡ reading_of (read_of text words masks)
+    unfolding read_of
+    reading-is z =
+        let n : j.count * 12 ≡ length (words_of l) = ap (λ (k : ℕ). k * 12) f.count ∙ sym (words_long l (count_of l)) in
+        rw z (λ i. given (record { page = f.page i; words = n i; masks = f.masks i }))
+
+  pub refusal-is : (q : ℕ) → refusal text words masks ≡ q → (q ≡ 0 → ⊥) → not_given q ≡ reading_of (read_of text words masks)
+  unfolding read_of
+  refusal-is q e z = rw (e, ne_eqb q 0 z) refl
 
 -- ---- a text that is accepted
 
@@ -151,6 +151,31 @@ pub read-refused : (text : List ℕ) (words masks : ℕ) → (refusal text words
 unfolding read_of
 read-refused text words masks z = rw (ne_eqb (refusal text words masks) 0 z) refl
 
+-- what was answered tells the outcome
+pub record Taken (text : List ℕ) (words masks : ℕ) (r : LayoutReading) : Type 0 where
+  pub passes : refusal text words masks ≡ 0
+  pub page : r.page ≡ page_of (lines_of text)
+  pub count : r.words ≡ length (words_of (lines_of text))
+  pub mask_bytes : r.masks ≡ length (masks_of (lines_of text))
+
+pub taken_by : (text : List ℕ) (words masks : ℕ) (r : LayoutReading) → given r ≡ reading_of (read_of text words masks) → Taken text words masks r
+unfolding read_of
+taken_by text words masks r e = by (eqb (refusal text words masks) 0) refl e
+  where
+    by : (t : Bool) → eqb (refusal text words masks) 0 ≡ t → given r ≡ reading_of (cond t (read (page_of (lines_of text)) (words_of (lines_of text)) (masks_of (lines_of text))) (refused (refusal text words masks)))
+        → Taken text words masks r
+    by false q x = let z : ◌≡◌ {A = ℕ} 0 1 = cc in absurd (omega arith)
+    by true q x = record { passes = eqb-true (refusal text words masks) 0 q; page = cc; count = cc; mask_bytes = cc }
+
+pub refused_by : (text : List ℕ) (words masks n : ℕ) → not_given n ≡ reading_of (read_of text words masks) → (n ≡ refusal text words masks) × (refusal text words masks ≡ 0 → ⊥)
+unfolding read_of
+refused_by text words masks n e = by (eqb (refusal text words masks) 0) refl e
+  where
+    by : (t : Bool) → eqb (refusal text words masks) 0 ≡ t → not_given n ≡ reading_of (cond t (read (page_of (lines_of text)) (words_of (lines_of text)) (masks_of (lines_of text))) (refused (refusal text words masks)))
+        → (n ≡ refusal text words masks) × (refusal text words masks ≡ 0 → ⊥)
+    by true q x = let z : ◌≡◌ {A = ℕ} 0 1 = cc in absurd (omega arith)
+    by false q x = (cc, eqb-false (refusal text words masks) 0 q)
+
 pub number-is-refusal : (text : List ℕ) (words masks : ℕ) → number_read (read_of text words masks) ≡ refusal text words masks
 unfolding read_of
 number-is-refusal text words masks = by (eqb (refusal text words masks) 0) refl
@@ -159,9 +184,6 @@ number-is-refusal text words masks = by (eqb (refusal text words masks) 0) refl
         → number_read (cond t (read (page_of (lines_of text)) (words_of (lines_of text)) (masks_of (lines_of text))) (refused (refusal text words masks))) ≡ refusal text words masks
     by true q = sym (eqb-true (refusal text words masks) 0 q)
     by false q = refl
-
-pub number_read_lem : (text : List ℕ) (words masks : ℕ) (r : LayoutReading) → r ≡ answer_of (read_of text words masks) → r.number ≡ refusal text words masks
-number_read_lem text words masks r e = ap (λ (x : LayoutReading). x.number) e ∙ number-is-refusal text words masks
 
 module _ (text : List ℕ) (words masks : ℕ) (z : refusal text words masks ≡ 0) where
   asked : (lawful text ≡ true) × ((words_ok (words_of (lines_of text)) (page_of (lines_of text)) ≡ true) × ((ranges (lines_of text) ≡ true) × ((spans_ok (words_of (lines_of text)) ≡ true) × (fits (lines_of text) words masks ≡ true))))
@@ -183,9 +205,8 @@ module _ (text : List ℕ) (words masks : ℕ) (z : refusal text words masks ≡
   read-lawful =
       rw (asked.1.0, and_left (entries_ok (words_of (lines_of text)) (length (masks_of (lines_of text)))) (all_below (mask_long (lines_of text)) (count_of (lines_of text))) asked.1.1.0, asked.1.1.1.0) refl
 
-  pub lasts : (r : LayoutReading) → r ≡ answer_of (read_of text words masks) → length text < 4294967296 → Lasts text (r.words / 12)
-  lasts r e s =
-      let w : r.words ≡ length (words_of (lines_of text)) = ap (λ (x : LayoutReading). x.words) e ∙ ap (λ (d : Read). length (words_read d)) (read_taken text words masks z) in
+  pub lasts : (r : LayoutReading) → r.words ≡ length (words_of (lines_of text)) → length text < 4294967296 → Lasts text (r.words / 12)
+  lasts r w s =
       let n : r.words / 12 ≡ count_of (lines_of text) = omega (arith, words_long (lines_of text) (count_of (lines_of text))) in
       record { is_lawful = asked.0; counted = n; few = omega (arith, count-few); small = s }
 
@@ -199,9 +220,9 @@ filled-front size used xs before b e = e ∙ ap (λ (x : List ℕ). used ++ drop
 
 -- ---- the whole call: the buffers as lent, then zeroed
 
-module _ (text w₀ m₀ w₁ m₁ : List ℕ) (a : w₁ ≡ replicate (length w₀) 0) (b : m₁ ≡ replicate (length m₀) 0) (r : LayoutReading) (e : r ≡ answer_of (read_of text (length w₁) (length m₁))) where
-  abbrev Done : List ℕ → List ℕ → Type 0
-  Done w m = LayoutRead (layout_into text w₀ m₀) r.number r.page r.words r.masks w₀ w m₀ m
+module _ (text w₀ m₀ w₁ m₁ : List ℕ) (a : w₁ ≡ replicate (length w₀) 0) (b : m₁ ≡ replicate (length m₀) 0) where
+  abbrev Done : ℕ → ℕ → ℕ → ℕ → List ℕ → List ℕ → Type 0
+  Done number page words masks w m = LayoutRead (layout_into text w₀ m₀) number page words masks w₀ w m₀ m
 
   w-same : length w₁ ≡ length w₀
   w-same = ap length a ∙ length-replicate (length w₀) 0
@@ -209,39 +230,41 @@ module _ (text w₀ m₀ w₁ m₁ : List ℕ) (a : w₁ ≡ replicate (length w
   m-same : length m₁ ≡ length m₀
   m-same = ap length b ∙ length-replicate (length m₀) 0
 
-  answered : r ≡ answer_of (layout_into text w₀ m₀)
-  answered = e ∙ ap (λ (n : ℕ). answer_of (read_of text n (length m₁))) w-same ∙ ap (λ (n : ℕ). answer_of (read_of text (length w₀) n)) m-same
+  same : read_of text (length w₁) (length m₁) ≡ layout_into text w₀ m₀
+  same = ap (λ (n : ℕ). read_of text n (length m₁)) w-same ∙ ap (read_of text (length w₀)) m-same
 
-  number_of : r.number ≡ refusal text (length w₀) (length m₀)
-  number_of = number_read_lem text (length w₀) (length m₀) r answered
+  pub refused_all : (n : ℕ) → not_given n ≡ reading_of (read_of text (length w₁) (length m₁)) → Done n 0 0 0 w₁ m₁
+  refused_all n e =
+      let r = refused_by text (length w₀) (length m₀) n (e ∙ ap reading_of same) in
+      let d : layout_into text w₀ m₀ ≡ refused (refusal text (length w₀) (length m₀)) = read-refused text (length w₀) (length m₀) r.1 in
+      rw d (record {
+        numbered = r.0;
+        paged = refl;
+        layout_words = refl;
+        mask_bytes = refl;
+        layout_left = filled_none (length w₀) w₁ a;
+        masks_left = filled_none (length m₀) m₁ b;
+      })
 
-  done : (w m : List ℕ) → w ≡ filled (length w₀) (words_read (layout_into text w₀ m₀)) → m ≡ filled (length m₀) (masks_read (layout_into text w₀ m₀)) → Done w m
-  done w m x y = record {
-    numbered = ap (λ (k : LayoutReading). k.number) answered;
-    paged = ap (λ (k : LayoutReading). k.page) answered;
-    layout_words = ap (λ (k : LayoutReading). k.words) answered;
-    mask_bytes = ap (λ (k : LayoutReading). k.masks) answered;
-    layout_left = x;
-    masks_left = y;
-  }
-
-  pub refused_all : (r.number ≡ 0 → ⊥) → Done w₁ m₁
-  refused_all z =
-      let d = sym (read-refused text (length w₀) (length m₀) (λ x. z (number_of ∙ x))) in
-      done w₁ m₁ (filled_none (length w₀) w₁ a ∙ ap (λ (k : Read). filled (length w₀) (words_read k)) d) (filled_none (length m₀) m₁ b ∙ ap (λ (k : Read). filled (length m₀) (masks_read k)) d)
-
-  module _ (z : r.number ≡ 0) where
-    accepted-there : refusal text (length w₁) (length m₁) ≡ 0
-    accepted-there = sym (number_read_lem text (length w₁) (length m₁) r e) ∙ z
+  module _ (r : LayoutReading) (e : given r ≡ reading_of (read_of text (length w₁) (length m₁))) where
+    here : Taken text (length w₁) (length m₁) r
+    here = taken_by text (length w₁) (length m₁) r e
 
     pub can_store : length text < 4294967296 → Lasts text (r.words / 12) × ((length (words_of (lines_of text)) ≤ length w₁) × (length (masks_of (lines_of text)) ≤ length m₁))
-    can_store s = (lasts text (length w₁) (length m₁) accepted-there r e s, (words-fit text (length w₁) (length m₁) accepted-there, masks-fit text (length w₁) (length m₁) accepted-there))
+    can_store s = (lasts text (length w₁) (length m₁) here.passes r here.count s, (words-fit text (length w₁) (length m₁) here.passes, masks-fit text (length w₁) (length m₁) here.passes))
 
-    pub stored-all : (w₂ m₂ : List ℕ) → w₂ ≡ words_of (lines_of text) ++ drop (length (words_of (lines_of text))) w₁ → m₂ ≡ masks_of (lines_of text) ++ drop (length (masks_of (lines_of text))) m₁ → Done w₂ m₂
-    stored-all w₂ m₂ x y =
-        let d = sym (read_taken text (length w₀) (length m₀) (sym number_of ∙ z)) in
-        done w₂ m₂ (filled-front (length w₀) (words_of (lines_of text)) w₂ w₁ a x ∙ ap (λ (k : Read). filled (length w₀) (words_read k)) d)
-        (filled-front (length m₀) (masks_of (lines_of text)) m₂ m₁ b y ∙ ap (λ (k : Read). filled (length m₀) (masks_read k)) d)
+    pub stored_all : (w₂ m₂ : List ℕ) → w₂ ≡ words_of (lines_of text) ++ drop (length (words_of (lines_of text))) w₁ → m₂ ≡ masks_of (lines_of text) ++ drop (length (masks_of (lines_of text))) m₁ → Done 0 r.page r.words r.masks w₂ m₂
+    stored_all w₂ m₂ x y =
+        let t = taken_by text (length w₀) (length m₀) r (e ∙ ap reading_of same) in
+        let d : layout_into text w₀ m₀ ≡ read (page_of (lines_of text)) (words_of (lines_of text)) (masks_of (lines_of text)) = read_taken text (length w₀) (length m₀) t.passes in
+        rw d (record {
+          numbered = refl;
+          paged = t.page;
+          layout_words = t.count;
+          mask_bytes = t.mask_bytes;
+          layout_left = filled-front (length w₀) (words_of (lines_of text)) w₂ w₁ a x;
+          masks_left = filled-front (length m₀) (masks_of (lines_of text)) m₂ m₁ b y;
+        })
 
 -- ---- a text that passes 17, 1, 2 and 3
 

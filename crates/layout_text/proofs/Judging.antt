@@ -1,6 +1,6 @@
 -- The pass that judges a text: what is known before an entry, and how it ends.
 use mathlib.Core.Path.{◌≡◌, refl, sym, ap, ◌∙◌, subst}
-use mathlib.Core.Bool.{Bool, true, false, ◌&&◌, ◌||◌, not, cond, false≢true, and-false}
+use mathlib.Core.Bool.{Bool, true, false, ◌&&◌, ◌||◌, not, and-false}
 use mathlib.Core.List.{List, []}
 use Prim.Native.Nat.{ℕ, suc, ◌+◌, ◌*◌, ◌%◌, ◌≤◌, ◌<◌}
 use native.Mathlib.Nat.{not-suc-le-zero}
@@ -10,16 +10,16 @@ use lib.Dec.{eqb}
 use lib.ListN.{length, get_or, set, length-set, length-append}
 use lib.Seq.{get_or-set_same, get_or-set_other}
 use borrow.Author.Tests.{eq-eqb, eqb-true, eqb-false}
+use Rattle.std.specs.Prelude.{Ok}
 use Rattle.layout.specs.Layout.{all_below, entry_ok}
 use Rattle.layout.proofs.Laws.{all-not}
 use Rattle.layout.proofs.Lawful.{width-lawful}
 use Rattle.lists.proofs.Logic.{and_left, and_right}
 use Rattle.layout_text.specs.declared.Said.{Said}
 use Rattle.layout_text.specs.declared.Number.{Number}
-use Rattle.layout_text.specs.declared.Judged.{Judged}
 use Rattle.layout_text.specs.Form.{lines_of, ended, is_number, says, line_in, count_of, kind_said, all, entry_lawful, lawful, page_word, span_word}
 use Rattle.layout_text.specs.Reading.{number_said, scale_of, precision_of, mask_word_of, masks_below}
-use Rattle.layout_text.specs.Walk.{Here, PageTold, Told, Tells, entry_with, fine_alone, bare_said, fine_in, not_lawful, Finds}
+use Rattle.layout_text.specs.Walk.{Here, PageTold, Told, Tells, entry_with, fine_alone, bare_said, fine_in, Finds}
 use Rattle.layout_text.proofs.Place.{here_end, here-more}
 
 -- ---- question 2 of one entry
@@ -58,7 +58,7 @@ fine-small s z e = by (eqb s.kind 8) refl (and_right (entry_ok (entry_with s 0 0
 
 -- ---- before the entry `count`, at `at`
 
-pub record Going (text : List ℕ) (at count : ℕ) (fine : Bool) (masks : ℕ) (spans groups : List ℕ) : Type 0 where
+pub record Going (text : List ℕ) (at count : ℕ) (fine : Bool) (masks : ℕ) (spans : List ℕ) (groups : List Bool) : Type 0 where
   pub here : Here text (count * 11 + 1) at
   pub lawful-yet : all_below (entry_lawful (lines_of text)) count ≡ true
   pub fine-yet : fine ≡ all_below (fine_in (lines_of text)) count
@@ -69,12 +69,12 @@ pub record Going (text : List ℕ) (at count : ℕ) (fine : Bool) (masks : ℕ) 
   pub spans-long : length spans ≡ 512
   pub groups-long : length groups ≡ 512
   pub spans-kept : (i : ℕ) → i < count → i < 512 → get_or spans i 0 ≡ number_said span_word (line_in (lines_of text) i 6)
-  pub groups-kept : (i : ℕ) → i < count → i < 512 → eqb (get_or groups i 0) 1 ≡ eqb (kind_said (lines_of text) i) 9
+  pub groups-kept : (i : ℕ) → i < count → i < 512 → get_or groups i false ≡ eqb (kind_said (lines_of text) i) 9
 
-pub going_start : (text : List ℕ) (n : Number) (spans groups : List ℕ) → PageTold text n → (n.next ≡ 0 → ⊥) → length spans ≡ 512 → length groups ≡ 512 → Going text n.next 0 true 0 spans groups
+pub going_start : (text : List ℕ) (n : Number) (spans : List ℕ) (groups : List Bool) → PageTold text n → length spans ≡ 512 → length groups ≡ 512 → Going text n.next 0 true 0 spans groups
 unfolding all_below masks_below
-going_start text n spans groups t z a b = record {
-  here = t.here z;
+going_start text n spans groups t a b = record {
+  here = t.here;
   lawful-yet = refl;
   fine-yet = refl;
   masks-yet = refl;
@@ -88,26 +88,28 @@ going_start text n spans groups t z a b = record {
 }
 
 -- a store at `count` and what was stored before it
-kept_next : (A : Type 0) (f : ℕ → A) (g : ℕ → A) (xs : List ℕ) (count v : ℕ) → length xs ≡ 512 → f v ≡ g count → ((i : ℕ) → i < count → i < 512 → f (get_or xs i 0) ≡ g i)
-    → (i : ℕ) → i < count + 1 → i < 512 → f (get_or (set xs count v) i 0) ≡ g i
-kept_next A f g xs count v l e h i a b = by (eqb i count) refl
+kept_next : {A : Type 0} (g : ℕ → A) (xs : List A) (count : ℕ) (v d : A) → length xs ≡ 512 → v ≡ g count → ((i : ℕ) → i < count → i < 512 → get_or xs i d ≡ g i)
+    → (i : ℕ) → i < count + 1 → i < 512 → get_or (set xs count v) i d ≡ g i
+kept_next g xs count v d l e h i a b = by (eqb i count) refl
   where
-    by : (t : Bool) → eqb i count ≡ t → f (get_or (set xs count v) i 0) ≡ g i
+    by : (t : Bool) → eqb i count ≡ t → get_or (set xs count v) i d ≡ g i
     by true q =
         let z : i ≡ count = eqb-true i count q in
-        ap (λ (j : ℕ). f (get_or (set xs count v) j 0)) z ∙ ap f (get_or-set_same xs count v 0 (omega arith)) ∙ e ∙ ap g (sym z)
+        ap (λ (j : ℕ). get_or (set xs count v) j d) z ∙ get_or-set_same xs count v d (omega arith) ∙ e ∙ ap g (sym z)
     by false q =
         let z : i ≡ count → ⊥ = eqb-false i count q in
-        ap f (get_or-set_other xs count i v 0 z) ∙ h i (omega arith) b
+        get_or-set_other xs count i v d z ∙ h i (omega arith) b
 
-flag : (t : Bool) → eqb (cond t 1 0) 1 ≡ t
-flag true = refl
-flag false = refl
+and-swap : (a b : Bool) → (a && b) ≡ (b && a)
+and-swap true true = refl
+and-swap true false = refl
+and-swap false true = refl
+and-swap false false = refl
 
-module _ (text : List ℕ) (at count : ℕ) (fine : Bool) (masks : ℕ) (spans groups : List ℕ) (g : Going text at count fine masks spans groups) (s : Said) (t : Tells text at s) where
-  module _ (z : s.next ≡ 0 → ⊥) where
+module _ (text : List ℕ) (at count : ℕ) (fine : Bool) (masks : ℕ) (spans : List ℕ) (groups : List Bool) (g : Going text at count fine masks spans groups) where
+  module _ (s : Said) (t : Tells text at (Ok s)) where
     told : Told text count at s
-    told = t.reads z count g.here
+    told = t count g.here
 
     pub going-room : masks + s.length ≤ s.next
     going-room = omega (arith, g.room, told.room)
@@ -118,26 +120,24 @@ module _ (text : List ℕ) (at count : ℕ) (fine : Bool) (masks : ℕ) (spans g
     pub going-inside : s.next ≤ length text
     going-inside = told.here.inside
 
-    pub going_next : (f fine' : Bool) (spans' groups' : List ℕ) → f ≡ fine_alone s → fine' ≡ (fine && f)
-        → spans' ≡ set spans count s.span → groups' ≡ set groups count (cond (eqb s.kind 9) 1 0)
+    pub going_next : (f fine' : Bool) (spans' : List ℕ) (groups' : List Bool) (group : Bool) → f ≡ fine_alone s → fine' ≡ (f && fine)
+        → spans' ≡ set spans count s.span → groups' ≡ set groups count group → group ≡ eqb s.kind 9
         → Going text s.next (count + 1) fine' (masks + s.length) spans' groups'
     unfolding all_below masks_below
-    going_next f fine' spans' groups' a b c d = record {
+    going_next f fine' spans' groups' group a b c d e = record {
       here = let e : suc count * 11 + 1 ≡ (count + 1) * 11 + 1 = omega arith in subst (λ (i : ℕ). Here text i s.next) e told.here;
       lawful-yet = rw (add-one, g.lawful-yet, told.fine) refl;
-      fine-yet = b ∙ rw (add-one, g.fine-yet, a, fine-is text count at s told) refl;
+      fine-yet = b ∙ rw (add-one, g.fine-yet, a, fine-is text count at s told) (and-swap (fine_in (lines_of text) count) (all_below (fine_in (lines_of text)) count));
       masks-yet = rw (add-one, length-append) (omega (arith, g.masks-yet, told.long));
       room = going-room;
       short = omega (arith, g.short, told.short);
       small = λ x.
-          let y : (fine && f) ≡ true = sym b ∙ x in
-          omega (arith, g.small (and_left fine f y), fine-small s told.empty (sym a ∙ and_right fine f y));
+          let y : (f && fine) ≡ true = sym b ∙ x in
+          omega (arith, g.small (and_right f fine y), fine-small s told.empty (sym a ∙ and_left f fine y));
       spans-long = ap length c ∙ length-set spans count s.span ∙ g.spans-long;
-      groups-long = ap length d ∙ length-set groups count (cond (eqb s.kind 9) 1 0) ∙ g.groups-long;
-      spans-kept = rw c (kept_next ℕ (λ x. x) (λ i. number_said span_word (line_in (lines_of text) i 6)) spans count s.span g.spans-long told.span g.spans-kept);
-      groups-kept =
-          rw d (kept_next Bool (λ x. eqb x 1) (λ i. eqb (kind_said (lines_of text) i) 9) groups count (cond (eqb s.kind 9) 1 0) g.groups-long
-          (flag (eqb s.kind 9) ∙ ap (λ (n : ℕ). eqb n 9) told.kind) g.groups-kept);
+      groups-long = ap length d ∙ length-set groups count group ∙ g.groups-long;
+      spans-kept = rw c (kept_next (λ i. number_said span_word (line_in (lines_of text) i 6)) spans count s.span 0 g.spans-long told.span g.spans-kept);
+      groups-kept = rw d (kept_next (λ i. eqb (kind_said (lines_of text) i) 9) groups count group false g.groups-long (e ∙ ap (λ (n : ℕ). eqb n 9) told.kind) g.groups-kept);
     }
 
   not-lawful : (a c p : Bool) → (a && entry_lawful (lines_of text) count) ≡ false → ended text ≡ a → eqb (length (lines_of text) % 11) 1 ≡ c → count * 11 + 1 < length (lines_of text)
@@ -149,47 +149,32 @@ module _ (text : List ℕ) (at count : ℕ) (fine : Bool) (masks : ℕ) (spans g
       let k : count < count_of (lines_of text) = omega arith in
       rw (all-not (entry_lawful (lines_of text)) (count_of (lines_of text)) count k e) (and-false p)
 
-  pub going-stop : at < length text → s.next ≡ 0 → lawful text ≡ false
+  pub going-stop : at < length text → ((k : ℕ) → Here text (k * 11 + 1) at → (ended text && entry_lawful (lines_of text) k) ≡ false) → lawful text ≡ false
   unfolding lawful all
-  going-stop h z =
+  going-stop h r =
       not-lawful (ended text) (eqb (length (lines_of text) % 11) 1) (says page_word is_number (get_or (lines_of text) 0 []))
-      (t.refuses z count g.here) refl refl (here-more text (count * 11 + 1) at g.here h)
+      (r count g.here) refl refl (here-more text (count * 11 + 1) at g.here h)
 
-pub none_found : (text : List ℕ) (j : Judged) (spans groups : List ℕ) → lawful text ≡ false → j ≡ not_lawful → Finds text j spans groups
-none_found text j spans groups f e =
-    subst (λ (x : Judged). Finds text x spans groups) (sym e)
-    (record {
-      lawful-is = sym f;
-      page = λ x. absurd (false≢true x);
-      count = λ x. absurd (false≢true x);
-      fine = λ x. absurd (false≢true x);
-      masks = λ x. absurd (false≢true x);
-      spans-kept = λ x. absurd (false≢true x);
-      groups-kept = λ x. absurd (false≢true x);
-      short = λ x. absurd (false≢true x);
-      small = λ x. absurd (false≢true x);
-    })
-
-module _ (text : List ℕ) (at count : ℕ) (fine : Bool) (masks : ℕ) (spans groups : List ℕ) (g : Going text at count fine masks spans groups) (h : length text ≤ at) (n : Number) (t : PageTold text n) (z : n.next ≡ 0 → ⊥) where
+module _ (text : List ℕ) (at count : ℕ) (fine : Bool) (masks : ℕ) (spans : List ℕ) (groups : List Bool) (g : Going text at count fine masks spans groups) (h : length text ≤ at) (n : Number) (t : PageTold text n) where
   counted : count_of (lines_of text) ≡ count
   counted = let e : length (lines_of text) ≡ count * 11 + 1 = (here_end text (count * 11 + 1) at g.here h).0 in omega arith
 
-  is_lawful : true ≡ lawful text
+  lawful-is : lawful text ≡ true
   unfolding lawful all
-  is_lawful =
+  lawful-is =
       let e : length (lines_of text) ≡ count * 11 + 1 = (here_end text (count * 11 + 1) at g.here h).0 in
       let r : length (lines_of text) % 11 ≡ 1 = omega arith in
-      rw ((here_end text (count * 11 + 1) at g.here h).1, eq-eqb (length (lines_of text) % 11) 1 r, t.says-page z, counted, g.lawful-yet) refl
+      rw ((here_end text (count * 11 + 1) at g.here h).1, eq-eqb (length (lines_of text) % 11) 1 r, t.says-page, counted, g.lawful-yet) refl
 
-  pub going_end : Finds text (record { lawful = true; page = n.value; count = count; fine = fine; masks = masks }) spans groups
+  pub going_end : Finds text (record { page = n.value; count = count; fine = fine; masks = masks }) spans groups
   going_end = record {
-    lawful-is = is_lawful;
-    page = λ x. t.value z;
-    count = λ x. sym counted;
-    fine = λ x. g.fine-yet ∙ ap (all_below (fine_in (lines_of text))) (sym counted);
-    masks = λ x. g.masks-yet ∙ ap (λ (k : ℕ). length (masks_below (lines_of text) k)) (sym counted);
-    spans-kept = λ x i a b. g.spans-kept i (omega (arith, counted)) b;
-    groups-kept = λ x i a b. g.groups-kept i (omega (arith, counted)) b;
-    short = λ x. omega (arith, g.short);
+    is_lawful = lawful-is;
+    page = t.value;
+    count = sym counted;
+    fine = g.fine-yet ∙ ap (all_below (fine_in (lines_of text))) (sym counted);
+    masks = g.masks-yet ∙ ap (λ (k : ℕ). length (masks_below (lines_of text) k)) (sym counted);
+    spans-kept = λ i a b. g.spans-kept i (omega (arith, counted)) b;
+    groups-kept = λ i a b. g.groups-kept i (omega (arith, counted)) b;
+    short = omega (arith, g.short);
     small = g.small;
   }

@@ -13,7 +13,7 @@ use Rattle.value.specs.Answer.{refused, given}
 use Rattle.lines.specs.Lines.{place, is_end, line_from, ends_in, starts_with, value_at}
 use Rattle.lines.proofs.Inside.{value-inside, Inside}
 use Rattle.lines.proofs.Laws.{starts-long}
-use Rattle.layout_text.specs.declared.Part.{Part}
+use Rattle.lines.specs.declared.Found.{Found}
 use Rattle.layout_text.specs.Form.{onto, lines_of, size_of, line_start, ended}
 use Rattle.layout_text.specs.Walk.{Here, bytes_of}
 
@@ -88,7 +88,7 @@ shape word text at a e n h = by (ends_in text at) (starts_with word (line_from t
     by true false p q r = let z : ◌≡◌ {A = ℕ} 0 1 = cc in absurd (omega arith)
     by false q p s r = let z : ◌≡◌ {A = ℕ} 0 1 = cc in absurd (omega arith)
 
-pub record Lined (word text : List ℕ) (i at : ℕ) (p : Part) : Type 0 where
+pub record Lined (word text : List ℕ) (i at : ℕ) (p : Found) : Type 0 where
   pub here : Here text (i + 1) p.next
   pub starts : starts_with word (get_or (lines_of text) i []) ≡ true
   pub bytes : bytes_of text p ≡ drop (length word) (get_or (lines_of text) i [])
@@ -233,3 +233,12 @@ here-at text i at h =
     let c : size_of (drop i (lines_of text)) ≡ length (drop at text) + cond (ended text) 0 1 =
     ap size_of h.rest ∙ size-lines (drop at text) ∙ ap (λ (t : Bool). length (drop at text) + cond t 0 1) (sym h.same) in
     omega (arith, length-drop at text, h.inside)
+
+-- a line is refused by 17
+pub value_17 : (word text : List ℕ) (at q : ℕ) → refused q ≡ value_at word text at → q ≡ 17
+unfolding value_at
+value_17 word text at q e = by (ends_in text at && starts_with word (line_from text at)) e
+  where
+    by : (t : Bool) → refused q ≡ cond t (given (place (at + length word) (at + length (line_from text at)) (at + length (line_from text at) + 1))) (refused 17) → q ≡ 17
+    by true r = let z : ◌≡◌ {A = ℕ} 0 1 = cc in absurd (omega arith)
+    by false r = cc

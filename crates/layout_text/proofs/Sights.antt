@@ -4,15 +4,14 @@ use mathlib.Core.Bool.{Bool, true, false, cond}
 use mathlib.Core.List.{List, map}
 use Prim.Native.Nat.{ℕ, ◌+◌, ◌≤◌, ◌<◌, min}
 use native.Mathlib.Omega.{arith}
-use lib.Dec.{eqb}
+use Rattle.std.specs.Prelude.{Option, Some, None, MatchOption, ⊤}
 use lib.ListN.{length, set, take, drop, length-set, length-map, length-take}
-use borrow.Author.Tests.{eq-eqb, ne_eqb}
 use Rattle.layout.specs.Layout.{absent}
 use Rattle.lines.specs.Lines.{line_from}
-use Rattle.lines.specs.Names.{index_in, see, names_at, see_at, number_at, is_new, count_after, starts_after}
+use Rattle.lines.specs.Names.{index_in, names_at, see_at, number_at, is_new, count_after, starts_after}
 use Rattle.lines.proofs.Sight.{index-most, seen-after, seen-names}
 use Rattle.lists.proofs.Lists.{behind, later}
-use Rattle.layout_text.specs.Firsts.{see_both}
+use Rattle.layout_text.specs.Firsts.{see_both, depending_in}
 
 names-most : (text starts : List ℕ) (count : ℕ) → length (names_at text starts count) ≤ length starts
 names-most text starts count =
@@ -49,49 +48,45 @@ module _ (text starts : List ℕ) (count at c : ℕ) (s : List ℕ) (e : c ≡ c
       by true x y = rw (x, y) (behind starts starts count at refl)
       by false x y = ap (drop c) y
 
--- the first name, and the second if there is one
-module _ (text starts : List ℕ) (count name depending : ℕ) (h : count + 2 ≤ length starts) (u : name < 4294967296) (v : depending < 4294967296)
+-- what is known when an entry's names are seen: the first, and the second if there is one
+pub record Both (text starts : List ℕ) (count name : ℕ) (o : Option ℕ) (n d : ℕ) (s : List ℕ) (c : ℕ) : Type 0 where
+  pub name_value : n ≡ index_in (line_from text name) (names_at text starts count)
+  pub depending_value : d ≡ depending_in text (names_at text starts count) name o
+  pub starts_after : take c s ≡ see_both text (take count starts) name o
+  pub starts_unchanged : drop c s ≡ drop c starts
+  pub count_le_count : (count ≤ c) × (c ≤ count + 2)
+  pub starts_len_unchanged : length s ≡ length starts
+
+module _ (text starts : List ℕ) (count name : ℕ) (h : count + 2 ≤ length starts) (u : name < 4294967296)
     (n c : ℕ) (s : List ℕ) (a : n ≡ number_at text starts count name) (e : c ≡ count_after text starts count name) (q : s ≡ starts_after text starts count name) where
-  abbrev before : List (List ℕ)
-  before = names_at text starts count
-
-  abbrev One : ℕ → ℕ → List ℕ → ℕ → Type 0
-  One n d s c =
-      (n ≡ index_in (line_from text name) before)
-      × ((d ≡ cond (eqb depending 0) absent (index_in (line_from text depending) (see before (line_from text name))))
-      × ((take c s ≡ see_both text (take count starts) name depending)
-      × ((drop c s ≡ drop c starts) × (((count ≤ c) × (c ≤ count + 2)) × (length s ≡ length starts)))))
-
-  pub one_name : depending ≡ 0 → One n absent s c
-  one_name z =
+  pub one_name : Both text starts count name None n absent s c
+  one_name =
       let k = count_most text starts count name c s e q in
-      rw (eq-eqb depending 0 z) (
-        a,
-        (
-          refl,
-          (
-            seen_one text starts count name c s e q (omega arith) u,
-            (kept-one text starts count name c s e q, ((k.0, omega arith), starts-same text starts count name c s e q)),
-          ),
-        ),
-      )
+      record {
+        name_value = a;
+        depending_value = refl;
+        starts_after = seen_one text starts count name c s e q (omega arith) u;
+        starts_unchanged = kept-one text starts count name c s e q;
+        count_le_count = (k.0, omega arith);
+        starts_len_unchanged = starts-same text starts count name c s e q;
+      }
 
-  pub two-names : (depending ≡ 0 → ⊥) → (m d : ℕ) (t : List ℕ) → m ≡ number_at text s c depending → d ≡ count_after text s c depending → t ≡ starts_after text s c depending → One n m t d
-  two-names z m d t b f g =
+  pub two-names : (depending : ℕ) → depending < 4294967296 → (m d : ℕ) (t : List ℕ) → m ≡ number_at text s c depending → d ≡ count_after text s c depending → t ≡ starts_after text s c depending
+      → Both text starts count name (Some depending) n m t d
+  two-names depending v m d t b f g =
       let k = count_most text starts count name c s e q in
       let j = count_most text s c depending d t f g in
       let l : length s ≡ length starts = starts-same text starts count name c s e q in
       let w : take c s ≡ see_at text (take count starts) name = seen_one text starts count name c s e q (omega arith) u in
-      rw (ne_eqb depending 0 z) (
-        a,
-        (
-          b ∙ ap (index_in (line_from text depending)) (ap (map (line_from text)) w ∙ seen-names text (take count starts) name),
-          (
-            seen_one text s c depending d t f g (omega arith) v ∙ ap (λ (x : List ℕ). see_at text x depending) w,
-            (
-              kept-one text s c depending d t f g ∙ later s starts c d j.0 (kept-one text starts count name c s e q),
-              ((omega arith, omega arith), starts-same text s c depending d t f g ∙ l),
-            ),
-          ),
-        ),
-      )
+      record {
+        name_value = a;
+        depending_value = b ∙ ap (index_in (line_from text depending)) (ap (map (line_from text)) w ∙ seen-names text (take count starts) name);
+        starts_after = seen_one text s c depending d t f g (omega arith) v ∙ ap (λ (x : List ℕ). see_at text x depending) w;
+        starts_unchanged = kept-one text s c depending d t f g ∙ later s starts c d j.0 (kept-one text starts count name c s e q);
+        count_le_count = (omega arith, omega arith);
+        starts_len_unchanged = starts-same text s c depending d t f g ∙ l;
+      }
+
+pub some_bound : (o : Option ℕ) (x : ℕ) → o ≡ Some x → MatchOption o ⊤ (λ d. d < 4294967296) → x < 4294967296
+some_bound None x e h = let z : ◌≡◌ {A = ℕ} 0 1 = cc in absurd (omega arith)
+some_bound (Some y) x e h = let z : y ≡ x = cc in omega (arith, h)

@@ -21,9 +21,10 @@ use Rattle.layout_text.specs.declared.LayoutReading.{LayoutReading}
 use Rattle.layout_text.specs.Form.{lines_of, is_none, mask_for, count_of, line_in, kind_said, all, tests, entry_lawful, mask_word}
 use Rattle.layout_text.specs.Reading.{width_said, mask_said, names_of, masks_below, masks_of, mask_long, text_checked, refusal, read_of, spelling, first_start, spelling_at, name_count}
 use Rattle.layout_text.specs.Firsts.{firsts_of, Firsts}
-use Rattle.layout_text.specs.Walk.{bare_said, fine_in, Lasts, answer_of}
+use Rattle.layout_text.specs.Walk.{bare_said, fine_in, Lasts, reading_of}
 use Rattle.layout_text.proofs.Words.{words_long}
-use Rattle.layout_text.proofs.Answers.{Passed, passed, number_read_lem, refusal-place, refusal-other, lasts}
+use Rattle.layout_text.proofs.Answers.{Passed, passed, Taken, taken_by, refused_by, refusal-place, refusal-other, lasts}
+use Rattle.value.specs.Answer.{given, refused as not_given}
 
 -- ---- a text that passes 1 and 2 has few mask bytes
 
@@ -106,41 +107,47 @@ module _ {text starts : List ℕ} (starts₀ : List ℕ) {count : ℕ} (e : coun
 
 -- ---- the first spelling, where it starts, and how many names there are
 
-module _ (text : List ℕ) (r : LayoutReading) (e : r ≡ answer_of (read_of text 18446744073709551615 18446744073709551615)) where
-  asked : r.number ≡ text_checked text
-  asked = number_read_lem text 18446744073709551615 18446744073709551615 r e ∙ room-enough text
+abbrev most : ℕ
+most = 18446744073709551615
 
-  module _ (z : r.number ≡ 0) where
-    pub spelled-there : (number : ℕ) → get_or (distinct (names_of (lines_of text))) number [] ≡ spelling text number
+module _ (text : List ℕ) where
+  module _ (r : LayoutReading) (e : given r ≡ reading_of (read_of text most most)) where
+    t : Taken text most most r
+    t = taken_by text most most r e
+
+    asked : text_checked text ≡ 0
+    asked = sym (room-enough text) ∙ t.passes
+
+    pub spelled_there : (number : ℕ) → get_or (distinct (names_of (lines_of text))) number [] ≡ spelling text number
     unfolding spelling
-    spelled-there number = rw (sym asked ∙ z) refl
+    spelled_there number = rw asked refl
 
-    pub place-there : (number : ℕ) → first_start (lines_of text) number ≡ spelling_at text number
+    pub place_there : (number : ℕ) → first_start (lines_of text) number ≡ spelling_at text number
     unfolding spelling_at
-    place-there number = rw (sym asked ∙ z) refl
+    place_there number = rw asked refl
 
     pub count-there : length (distinct (names_of (lines_of text))) ≡ name_count text
     unfolding name_count
-    count-there = rw (sym asked ∙ z) refl
+    count-there = rw asked refl
 
-    pub names-last : length text < 4294967296 → Lasts text (r.words / 12)
-    names-last s = lasts text 18446744073709551615 18446744073709551615 (sym (number_read_lem text 18446744073709551615 18446744073709551615 r e) ∙ z) r e s
+    pub names_last : length text < 4294967296 → Lasts text (r.words / 12)
+    names_last s = lasts text most most t.passes r t.count s
 
-  module _ (z : r.number ≡ 0 → ⊥) where
-    refused : eqb (text_checked text) 0 ≡ false
-    refused = ne_eqb (text_checked text) 0 (λ x. z (asked ∙ x))
+  module _ (n : ℕ) (e : not_given n ≡ reading_of (read_of text most most)) where
+    not-asked : eqb (text_checked text) 0 ≡ false
+    not-asked = ne_eqb (text_checked text) 0 (λ x. (refused_by text most most n e).1 (room-enough text ∙ x))
 
-    pub spelled-not : (number : ℕ) → [] ≡ spelling text number
+    pub spelled_not : (number : ℕ) → [] ≡ spelling text number
     unfolding spelling
-    spelled-not number = rw refused refl
+    spelled_not number = rw not-asked refl
 
-    pub place-not : (number : ℕ) → 0 ≡ spelling_at text number
+    pub place_not : (number : ℕ) → 0 ≡ spelling_at text number
     unfolding spelling_at
-    place-not number = rw refused refl
+    place_not number = rw not-asked refl
 
     pub count-not : 0 ≡ name_count text
     unfolding name_count
-    count-not = rw refused refl
+    count-not = rw not-asked refl
 
     pub cells-not : (starts : List ℕ) (n : ℕ) → starts ≡ replicate n 0 → (number : ℕ) → get_or starts number 0 ≡ spelling_at text number
-    cells-not starts n q number = ap (λ (s : List ℕ). get_or s number 0) q ∙ zeros-behind [] n number ∙ place-not number
+    cells-not starts n q number = ap (λ (s : List ℕ). get_or s number 0) q ∙ zeros-behind [] n number ∙ place_not number

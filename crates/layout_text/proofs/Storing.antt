@@ -9,11 +9,12 @@ use native.Mathlib.Nat.{le_of_eq}
 use lib.Dec.{eqb}
 use lib.ListN.{length, get_or, take, drop, length-append, length-drop, drop_of_length-le, take-append-drop}
 use lib.Seq.{drop-drop, take-append_seam, drop-append-add, length-take-le}
-use borrow.Author.Tests.{eqb-false}
 use Rattle.lists.proofs.Logic.{and_left}
 use Rattle.layout.specs.declared.Entry.{Entry}
 use Rattle.layout.specs.Layout.{absent, all_below}
 use Rattle.layout.proofs.Laws.{all-at}
+use Rattle.std.specs.Prelude.{Option, Some, None, Result, Ok, Err, MatchOption, ⊤}
+use Rattle.codes.specs.declared.Refusal.{Refusal}
 use Rattle.lines.specs.Lines.{line_from}
 use Rattle.lines.specs.Names.{index_in, see, distinct, number_in, names_at, see_at}
 use Rattle.lines.proofs.Sight.{number-sight, distinct_append}
@@ -23,8 +24,8 @@ use Rattle.layout_text.specs.declared.Said.{Said}
 use Rattle.layout_text.specs.declared.Number.{Number}
 use Rattle.layout_text.specs.Form.{lines_of, ended, is_none, is_number, says, count_of, value_start, all, entry_lawful, lawful, page_word, name_word, depending_word}
 use Rattle.layout_text.specs.Reading.{Sight, sights_in, sights_below, sights_of, or_absent, name_said, depending_said, mask_said, names_of, masks_below, masks_of, scale_of, precision_of, mask_word_of, entry_said, twelve, words_below, words_of}
-use Rattle.layout_text.specs.Walk.{Here, PageTold, Told, Tells, entry_with, Lasts}
-use Rattle.layout_text.specs.Firsts.{see_both, see_all_at, firsts_of, Firsts}
+use Rattle.layout_text.specs.Walk.{Here, PageTells, DependsOn, Told, Tells, entry_with, Lasts}
+use Rattle.layout_text.specs.Firsts.{see_both, depending_in, see_all_at, firsts_of, Firsts}
 use Rattle.layout_text.proofs.Starts.{names_from, all_after, all-names, see-inside, firsts_at}
 use Rattle.layout_text.proofs.Words.{words_long, names_below, names_said, names-suc, names-from, masks-before}
 
@@ -63,14 +64,17 @@ lawful-entry text k e h =
     all-at (entry_lawful (lines_of text)) (count_of (lines_of text)) k h
     (fourth (ended text) (eqb (length (lines_of text) % 11) 1) (says page_word is_number (get_or (lines_of text) 0 [])) (all_below (entry_lawful (lines_of text)) (count_of (lines_of text))) e)
 
-pub told-lasts : (text : List ℕ) (count k at : ℕ) (s : Said) → Lasts text count → k < count → Here text (k * 11 + 1) at → Tells text at s → Told text k at s
-told-lasts text count k at s w h r t = t.reads (λ z. false≢true (sym (t.refuses z k r) ∙ both)) k r
+-- in a text that is stored no line is refused
+pub page-there : {text : List ℕ} (r : Result Number Refusal) → PageTells text r → {count : ℕ} → Lasts text count → ((x : Number) → r ≡ Ok x → ⊥) → ⊥
+page-there (Ok n) t w f = f n refl
+page-there (Err e) t w f = false≢true (sym t.1 ∙ w.is_lawful)
+
+pub lines_there : {text : List ℕ} {k at count : ℕ} (r : Result Said Refusal) → Tells text at r → Lasts text count → k < count → Here text (k * 11 + 1) at → ((x : Said) → r ≡ Ok x → ⊥) → ⊥
+lines_there (Ok s) t w h r f = f s refl
+lines_there {text} {k} (Err e) t w h r f = false≢true (sym (t.1 k r) ∙ both)
   where
     both : (ended text && entry_lawful (lines_of text) k) ≡ true
     both = rw (lawful-ended text w.is_lawful, lawful-entry text k w.is_lawful (omega (arith, w.counted))) refl
-
-pub page-lasts : (text : List ℕ) (count : ℕ) (n : Number) → Lasts text count → PageTold text n → Here text 1 n.next
-page-lasts text count n w t = t.here (λ z. false≢true (sym (t.refuses z) ∙ w.is_lawful))
 
 -- ---- what is known before the k-th entry
 
@@ -116,19 +120,18 @@ module _ (text : List ℕ) (k at : ℕ) (s : Said) (t : Told text k at s) (start
         ∙ number-sight (names_below l k ++ (name_said l k ∷ [])) more (depending_said l k)
         ∙ ap (index_in (depending_said l k)) (distinct_append (names_below l k) (name_said l k ∷ []))
 
-    pub depending-number : (d : ℕ) → d ≡ cond (eqb s.depending 0) absent (index_in (line_from text s.depending) (see (names_at text starts seen) (line_from text s.name)))
-        → d ≡ or_absent (depending_said l k) (number_in (names_of l) (depending_said l k))
-    depending-number d q = by (is_none (depending_said l k)) refl (q ∙ rw t.none refl)
+    pub depending-number : (d : ℕ) → d ≡ depending_in text (names_at text starts seen) s.name s.depending → d ≡ or_absent (depending_said l k) (number_in (names_of l) (depending_said l k))
+    depending-number d q = by s.depending t.depending q
       where
-        by : (b : Bool) → is_none (depending_said l k) ≡ b → d ≡ cond b absent (index_in (line_from text s.depending) (see (names_at text starts seen) (line_from text s.name)))
-            → d ≡ cond b absent (number_in (names_of l) (depending_said l k))
-        by true f g = g
-        by false f g =
+        by : (o : Option ℕ) → DependsOn text k o → d ≡ depending_in text (names_at text starts seen) s.name o → d ≡ cond (is_none (depending_said l k)) absent (number_in (names_of l) (depending_said l k))
+        by None f g = rw f g
+        by (Some x) f g =
             let r = names-from l (count_of l) k h in
-            g ∙ rw (t.depending (eqb-false s.depending 0 (t.none ∙ f)), t.name, e, r.1) (sym (second (is_none (depending_said l k)) r.0 f))
+            let n : is_none (depending_said l k) ≡ false = f.named in
+            rw n (g ∙ rw (f.name, t.name, e, r.1) (sym (second (is_none (depending_said l k)) r.0 n)))
 
     pub entry-is : (n d m : ℕ) (x : Entry) → n ≡ index_in (line_from text s.name) (names_at text starts seen)
-        → d ≡ cond (eqb s.depending 0) absent (index_in (line_from text s.depending) (see (names_at text starts seen) (line_from text s.name)))
+        → d ≡ depending_in text (names_at text starts seen) s.name s.depending
         → m ≡ length (masks_below l k) → x ≡ entry_with s n d m → x ≡ entry_said l k
     unfolding entry_with entry_said
     entry-is n d m x a b c q = q ∙ (λ i. record {
@@ -150,14 +153,13 @@ module _ (text : List ℕ) (k at : ℕ) (s : Said) (t : Told text k at s) (start
 
 module _ (text : List ℕ) (k at : ℕ) (s : Said) (t : Told text k at s) where
   sights-said : names_from text (sights_in (lines_of text) k) ≡ names_said (lines_of text) k
-  sights-said = rw (sym t.name-at, t.name) (ap (λ (x : List (List ℕ)). name_said (lines_of text) k ∷ x) (by (is_none (depending_said (lines_of text) k)) refl))
+  sights-said = rw (sym t.name-at, t.name) (ap (λ (x : List (List ℕ)). name_said (lines_of text) k ∷ x) (by s.depending t.depending))
     where
-      by : (b : Bool) → is_none (depending_said (lines_of text) k) ≡ b
-          → names_from text (cond b [] (record { name = depending_said (lines_of text) k; at = value_start depending_word (lines_of text) k 5 } ∷ [])) ≡ cond b [] (depending_said (lines_of text) k ∷ [])
-      by true f = refl
-      by false f =
-          let z : s.depending ≡ 0 → ⊥ = eqb-false s.depending 0 (t.none ∙ f) in
-          ap (λ (n : List ℕ). n ∷ []) (ap (line_from text) (sym (t.depending-at z)) ∙ t.depending z)
+      by : (o : Option ℕ) → DependsOn text k o
+          → names_from text (cond (is_none (depending_said (lines_of text) k)) [] (record { name = depending_said (lines_of text) k; at = value_start depending_word (lines_of text) k 5 } ∷ []))
+          ≡ cond (is_none (depending_said (lines_of text) k)) [] (depending_said (lines_of text) k ∷ [])
+      by None f = rw f refl
+      by (Some x) f = rw f.named (ap (λ (n : List ℕ). n ∷ []) (ap (line_from text) (sym f.place) ∙ f.name))
 
   spelled-next : names_below (lines_of text) k ≡ names_from text (sights_below (lines_of text) k)
       → names_below (lines_of text) (suc k) ≡ names_from text (sights_below (lines_of text) (suc k))
@@ -168,16 +170,16 @@ module _ (text : List ℕ) (k at : ℕ) (s : Said) (t : Told text k at s) where
 
   both-seen : (starts : List ℕ) → see_both text starts s.name s.depending ≡ see_all_at text starts (sights_in (lines_of text) k)
   unfolding see_all_at
-  both-seen starts = rw (t.none, t.name-at) (by (is_none (depending_said (lines_of text) k)) refl)
+  both-seen starts = rw t.name-at (by s.depending t.depending)
     where
       at_name : List ℕ
       at_name = see_at text starts (value_start name_word (lines_of text) k 0)
 
-      by : (b : Bool) → is_none (depending_said (lines_of text) k) ≡ b
-          → cond b at_name (see_at text at_name s.depending)
-          ≡ see_all_at text at_name (cond b [] (record { name = depending_said (lines_of text) k; at = value_start depending_word (lines_of text) k 5 } ∷ []))
-      by true f = refl
-      by false f = ap (see_at text at_name) (t.depending-at (eqb-false s.depending 0 (t.none ∙ f)))
+      by : (o : Option ℕ) → DependsOn text k o
+          → see_both text starts (value_start name_word (lines_of text) k 0) o
+          ≡ see_all_at text at_name (cond (is_none (depending_said (lines_of text) k)) [] (record { name = depending_said (lines_of text) k; at = value_start depending_word (lines_of text) k 5 } ∷ []))
+      by None f = rw f refl
+      by (Some x) f = rw f.named (ap (see_at text at_name) f.place)
 
   firsts-next : (starts : List ℕ) → starts ≡ see_all_at text [] (sights_below (lines_of text) k) → see_both text starts s.name s.depending ≡ see_all_at text [] (sights_below (lines_of text) (suc k))
   unfolding sights_below
@@ -186,14 +188,14 @@ module _ (text : List ℕ) (k at : ℕ) (s : Said) (t : Told text k at s) where
       ∙ sym (all_after text [] (sights_below (lines_of text) k) (sights_in (lines_of text) k))
 
   inside-next : (starts : List ℕ) → ((n : ℕ) → get_or starts n 0 ≤ length text) → (n : ℕ) → get_or (see_both text starts s.name s.depending) n 0 ≤ length text
-  inside-next starts h n = by (eqb s.depending 0)
+  inside-next starts h n = by s.depending t.depending
     where
       one : (n : ℕ) → get_or (see_at text starts s.name) n 0 ≤ length text
       one n = see-inside text starts s.name (length text) h (omega (arith, t.name-inside)) n
 
-      by : (b : Bool) → get_or (cond b (see_at text starts s.name) (see_at text (see_at text starts s.name) s.depending)) n 0 ≤ length text
-      by true = one n
-      by false = see-inside text (see_at text starts s.name) s.depending (length text) one (omega (arith, t.depending-inside)) n
+      by : (o : Option ℕ) → DependsOn text k o → get_or (see_both text starts s.name o) n 0 ≤ length text
+      by None f = one n
+      by (Some x) f = see-inside text (see_at text starts s.name) x (length text) one (omega (arith, f.inside)) n
 
 pub seen_start : (text : List ℕ) (at : ℕ) (starts : List ℕ) → Here text 1 at → length starts ≡ 1024 → Seen-to text at 0 0 starts starts
 unfolding sights_below see_all_at
@@ -207,16 +209,28 @@ seen_start text at starts h e = record {
   long = e;
 }
 
-module _ {text : List ℕ} {at k seen : ℕ} {starts starts₀ : List ℕ} (g : Seen-to text at k seen starts starts₀) {count : ℕ} (w : Lasts text count) (h : k < count) {s : Said} (t : Tells text at s) where
+module _ {text : List ℕ} {at k seen : ℕ} {starts starts₀ : List ℕ} (g : Seen-to text at k seen starts starts₀) {count : ℕ} (w : Lasts text count) (h : k < count) (s : Said) (t : Tells text at (Ok s)) where
   pub seen-told : Told text k at s
-  seen-told = told-lasts text count k at s w h g.here t
+  seen-told = t k g.here
 
   -- place in the table, and places that it can hold
-  pub seen-room : (seen + 2 ≤ length starts) × ((length starts ≡ 1024) × ((s.name < 4294967296) × (s.depending < 4294967296)))
-  seen-room = (
-    omega (arith, g.few, g.long, w.few),
-    (g.long, (omega (arith, seen-told.name-inside, w.small), omega (arith, seen-told.depending-inside, w.small))),
-  )
+  pub record Room : Type 0 where
+    pub count_in_bounds : seen + 2 ≤ length starts
+    pub starts_len : length starts ≡ 1024
+    pub name_bound : s.name < 4294967296
+    pub depending_bound : MatchOption s.depending ⊤ (λ d. d < 4294967296)
+
+  pub seen-room : Room
+  seen-room = record {
+    count_in_bounds = omega (arith, g.few, g.long, w.few);
+    starts_len = g.long;
+    name_bound = omega (arith, seen-told.name-inside, w.small);
+    depending_bound = by s.depending seen-told.depending;
+  }
+    where
+      by : (o : Option ℕ) → DependsOn text k o → MatchOption o ⊤ (λ d. d < 4294967296)
+      by None f = tt
+      by (Some x) f = omega (arith, f.inside, w.small)
 
   pub seen_next : (c : ℕ) (starts' : List ℕ) → take c starts' ≡ see_both text (take seen starts) s.name s.depending → drop c starts' ≡ drop c starts
       → (seen ≤ c) × (c ≤ seen + 2) → length starts' ≡ length starts → Seen-to text s.next (k + 1) c starts' starts₀
@@ -257,9 +271,9 @@ module _ {text : List ℕ} {at k seen m : ℕ} {starts words masks starts₀ wor
       let a : length masks ≡ length (masks_below (lines_of text) k) + length (drop m masks₀) = ap length g.masks-are ∙ length-append (masks_below (lines_of text) k) (drop m masks₀) in
       omega (arith, g.masks-long, length-drop m masks₀)
 
-  module _ {count : ℕ} (w : Lasts text count) (h : k < count) {s : Said} (t : Tells text at s) where
+  module _ {count : ℕ} (w : Lasts text count) (h : k < count) (s : Said) (t : Tells text at (Ok s)) where
     pub told : Told text k at s
-    told = seen-told g.table w h t
+    told = seen-told g.table w h s t
 
     pub inside : k < count_of (lines_of text)
     inside = omega (arith, w.counted)
@@ -276,7 +290,7 @@ module _ {text : List ℕ} {at k seen m : ℕ} {starts words masks starts₀ wor
 
     pub stored_next : {n d c : ℕ} {e : Entry} (starts' words' masks' : List ℕ)
         → n ≡ index_in (line_from text s.name) (names_at text starts seen)
-        → d ≡ cond (eqb s.depending 0) absent (index_in (line_from text s.depending) (see (names_at text starts seen) (line_from text s.name)))
+        → d ≡ depending_in text (names_at text starts seen) s.name s.depending
         → Seen-to text s.next (k + 1) c starts' starts₀ → e ≡ entry_with s n d m
         → words' ≡ take (k * 12) words ++ (twelve e ++ drop (k * 12 + 12) words)
         → masks' ≡ take m masks ++ (take (s.mask + s.length - s.mask) (drop s.mask text) ++ drop (m + length (take (s.mask + s.length - s.mask) (drop s.mask text))) masks)
@@ -313,19 +327,19 @@ module _ {text : List ℕ} {at k seen : ℕ} {starts starts₀ : List ℕ} (g : 
   seen-firsts : take seen starts ≡ firsts_of text
   seen-firsts = g.firsts ∙ ap (λ (j : ℕ). see_all_at text [] (sights_below (lines_of text) j)) (e ∙ w.counted)
 
-  pub seen-count : seen ≡ length (firsts_of text)
-  seen-count = sym (length-take-le seen starts (omega (arith, g.few, g.long, w.few))) ∙ ap length seen-firsts
+  pub seen_count : seen ≡ length (firsts_of text)
+  seen_count = sym (length-take-le seen starts (omega (arith, g.few, g.long, w.few))) ∙ ap length seen-firsts
 
-  pub seen-table : starts ≡ firsts_of text ++ drop (length (firsts_of text)) starts₀
-  seen-table = sym (take-append-drop seen starts) ∙ (λ i. seen-firsts i ++ g.kept i) ∙ ap (λ (n : ℕ). firsts_of text ++ drop n starts₀) seen-count
+  pub seen_table : starts ≡ firsts_of text ++ drop (length (firsts_of text)) starts₀
+  seen_table = sym (take-append-drop seen starts) ∙ (λ i. seen-firsts i ++ g.kept i) ∙ ap (λ (n : ℕ). firsts_of text ++ drop n starts₀) seen_count
 
-  pub seen-known : Firsts text
-  seen-known =
+  pub seen_known : Firsts text
+  seen_known =
       let sp : names_of (lines_of text) ≡ names_from text (sights_of (lines_of text)) =
       subst (λ (j : ℕ). names_below (lines_of text) j ≡ names_from text (sights_below (lines_of text) j)) (e ∙ w.counted) g.spelled in
       record {
         names = all-names text [] (sights_of (lines_of text)) ∙ ap distinct (sym sp);
         places = λ number. firsts_at text (sights_of (lines_of text)) sp number;
         inside = λ number. subst (λ (s : List ℕ). get_or s number 0 ≤ length text) seen-firsts (g.inside number);
-        few = omega (arith, seen-count, g.few, w.few);
+        few = omega (arith, seen_count, g.few, w.few);
       }

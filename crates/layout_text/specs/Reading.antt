@@ -1,11 +1,13 @@
 -- What a lawful text says: its entries' words and its masks; and what a reader of it answers.
-use Rattle.std.specs.Prelude.{◌≡◌, Bool, ◌&&◌, ◌||◌, not, cond, List, [], ◌∷◌, ◌++◌, map, ℕ, zero, suc, ◌/◌, ◌%◌, eqb, leb, length, drop, get_or}
+use Rattle.std.specs.Prelude.{◌≡◌, Bool, ◌&&◌, ◌||◌, not, cond, List, [], ◌∷◌, ◌++◌, map, ℕ, zero, suc, ◌/◌, ◌%◌, eqb, leb, length, drop, get_or, Result, Ok, Err}
 pub use Rattle.zeros.specs.Filled.{filled}
 use Rattle.codes.specs.Codes.{kind_decimal, kind_edited}
+use Rattle.codes.specs.declared.Refusal.{Refusal}
 use Rattle.layout.specs.declared.Entry.{Entry}
 use Rattle.layout.specs.Layout.{absent, all_below, words_ok, entries_ok, spans_ok}
 use Rattle.lines.specs.Lines.{number_of}
 use Rattle.lines.specs.Names.{distinct, number_in, names_at}
+use Rattle.layout_text.specs.declared.LayoutReading.{LayoutReading}
 use Rattle.layout_text.specs.Form.{lines_of, name_word, offset_word, width_word, occurs_word, depending_word, span_word, p_word}
 use Rattle.layout_text.specs.Form.{q_word, r_word, mask_word, page_word, is_none, worth, count_of, line_in, value_start, kind_said, lawful}
 
@@ -182,6 +184,19 @@ words_read (read page ws ms) = ws
 abbrev pub masks_read : Read → List ℕ
 masks_read (refused n) = []
 masks_read (read page ws ms) = ms
+
+-- the page and the lengths that a call answers: 0 after a refusal
+abbrev pub page_in : Result LayoutReading Refusal → ℕ
+page_in (Ok reading) = reading.page
+page_in (Err refusal) = 0
+
+abbrev pub words_in : Result LayoutReading Refusal → ℕ
+words_in (Ok reading) = reading.words
+words_in (Err refusal) = 0
+
+abbrev pub masks_in : Result LayoutReading Refusal → ℕ
+masks_in (Ok reading) = reading.masks
+masks_in (Err refusal) = 0
 
 -- All that a call leaves: its number, the page, how many words and mask bytes there are, and the buffers as they were lent and as they are left.
 -- "A call that refuses returns its number and length 0; all output buffers hold zeros. After success unused output is zero."

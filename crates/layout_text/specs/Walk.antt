@@ -1,21 +1,23 @@
 -- How the passes walk over a text: line by line, by positions. Only inner functions cite this file.
-use Rattle.std.specs.Prelude.{◌≡◌, Bool, true, false, ◌&&◌, ◌||◌, not, cond, List, [], ℕ, suc, ◌+◌, ◌-◌, ◌*◌, ◌≤◌, ◌<◌, eqb, leb, length, take, drop, get_or}
+use Rattle.std.specs.Prelude.{◌≡◌, Bool, true, false, ◌&&◌, ◌||◌, not, cond, List, [], ℕ, suc, ◌+◌, ◌-◌, ◌*◌, ◌≤◌, ◌<◌, eqb, length, take, drop, get_or, Option, Some, None, Result, Ok, Err}
 use Rattle.codes.specs.Codes.{kind_edited, kind_group}
 use Rattle.spans.specs.Tree.{tree, nested}
 use Rattle.layout.specs.declared.Entry.{Entry}
-use Rattle.layout.specs.Layout.{absent, all_below, entry_ok}
+use Rattle.layout.specs.Layout.{all_below, entry_ok}
+use Rattle.codes.specs.declared.Refusal.{Refusal}
+use Rattle.codes.specs.Refusals.{number_of as refusal_number}
 use Rattle.value.specs.Answer.{Answer, refused, given}
-use Rattle.lines.specs.Lines.{Place, place, line_from, value_at, number_of, name_ok, mask_ok}
-use Rattle.layout_text.specs.declared.Part.{Part}
+use Rattle.lines.specs.declared.Found.{Found}
+use Rattle.lines.specs.Lines.{Place, place, line_from, value_at, number_of}
 use Rattle.layout_text.specs.declared.Number.{Number}
 use Rattle.layout_text.specs.declared.Said.{Said}
 use Rattle.layout_text.specs.declared.LayoutReading.{LayoutReading}
 use Rattle.layout_text.specs.declared.Judged.{Judged}
-use Rattle.layout_text.specs.Form.{lines_of, ended, is_none, is_number, says, line_in, value_start, count_of, kind_said, entry_lawful, lawful, page_word}
+use Rattle.layout_text.specs.Form.{lines_of, ended, is_none, worth, is_number, optional, says, line_in, value_start, count_of, kind_said, entry_lawful, lawful, page_word}
 use Rattle.layout_text.specs.Form.{name_word, depending_word, offset_word, occurs_word, span_word, p_word, q_word}
 use Rattle.layout_text.specs.Reading.{number_said, or_absent, name_said, occurs_said, depending_said, width_said, r_said, mask_said}
-use Rattle.layout_text.specs.Reading.{entry_by, scale_of, precision_of, mask_word_of, masks_of, mask_long, page_of, judged, placed}
-use Rattle.layout_text.specs.Reading.{Read, number_read, page_read, words_read, masks_read}
+use Rattle.layout_text.specs.Reading.{entry_by, scale_of, precision_of, mask_word_of, masks_of, mask_long, page_of}
+use Rattle.layout_text.specs.Reading.{Read, read, refused as not_read}
 
 -- position `at` is where the i-th line of a text starts, or its end behind the last
 pub record Here (text : List ℕ) (i at : ℕ) : Type 0 where
@@ -25,53 +27,62 @@ pub record Here (text : List ℕ) (i at : ℕ) : Type 0 where
   pub rest : drop i (lines_of text) ≡ lines_of (drop at text)
   pub same : ended text ≡ ended (drop at text)
 
--- ---- a line; next 0 stands for an unlawful one
+-- ---- a line: the answer for its value, which a test judges
 
-abbrev pub failed : Part
-failed = record { start = 0; end = 0; next = 0 }
+abbrev pub bytes_of : List ℕ → Found → List ℕ
+bytes_of text f = take (f.end - f.start) (drop f.start text)
 
-abbrev pub part_of : Answer Place → Part
-part_of (given (place a e n)) = record { start = a; end = e; next = n }
-part_of (refused question) = failed
+abbrev pub passed_by : (List ℕ → Bool) → List ℕ → Answer Place → Answer Found
+passed_by test text (given (place a e n)) = cond (test (take (e - a) (drop a text))) (given (record { start = a; end = e; next = n })) (refused 17)
+passed_by test text (refused question) = refused question
 
-unfoldable pub line_at : List ℕ → List ℕ → ℕ → Part
-line_at word text at = cond (eqb at 0) failed (part_of (value_at word text at))
+unfoldable pub line_by : (List ℕ → Bool) → List ℕ → List ℕ → ℕ → Answer Found
+line_by test word text at = passed_by test text (value_at word text at)
 
-abbrev pub bytes_of : List ℕ → Part → List ℕ
-bytes_of text p = take (p.end - p.start) (drop p.start text)
+abbrev pub numbered : (Found → ℕ) → Answer Found → Answer Number
+numbered value (given f) = given (record { value = value f; next = f.next })
+numbered value (refused question) = refused question
 
-abbrev pub Within : List ℕ → Part → Type 0
-Within text p = (p.start ≤ p.end) × (p.end ≤ length text)
+abbrev pub number_in : List ℕ → Found → ℕ
+number_in text f = worth (number_of (bytes_of text f))
 
-abbrev pub number_with : Answer ℕ → ℕ → Number
-number_with (given v) next = record { value = v; next = next }
-number_with (refused question) next = record { value = 0; next = 0 }
+abbrev pub option_in : List ℕ → Found → ℕ
+option_in text f = or_absent (bytes_of text f) (number_in text f)
 
-abbrev pub number_in : List ℕ → Part → Number
-number_in text p = number_with (number_of (bytes_of text p)) p.next
+abbrev pub number_line : List ℕ → List ℕ → ℕ → Answer Number
+number_line word text at = numbered (number_in text) (line_by is_number word text at)
 
-abbrev pub option_in : List ℕ → Part → Number
-option_in text p = cond (eqb p.start p.end) (record { value = absent; next = p.next }) (number_in text p)
+abbrev pub option_line : List ℕ → List ℕ → ℕ → Answer Number
+option_line word text at = numbered (option_in text) (line_by (optional is_number) word text at)
 
-abbrev pub name_in : List ℕ → Part → Part
-name_in text p = cond (name_ok (bytes_of text p)) p failed
-
-abbrev pub depending_in : List ℕ → Part → Part
-depending_in text p = cond (eqb p.start p.end) (record { start = 0; end = 0; next = p.next }) (name_in text p)
-
-abbrev pub mask_in : List ℕ → Part → ℕ → Part
-mask_in text p kind = cond (eqb kind kind_edited) (cond (mask_ok (bytes_of text p)) p failed) (cond (eqb p.start p.end) p failed)
+-- where a name starts, if there is one
+abbrev pub start_of : Found → Option ℕ
+start_of f = cond (eqb f.start f.end) None (Some f.start)
 
 -- ---- the page's line
 
 pub record PageTold (text : List ℕ) (n : Number) : Type 0 where
-  pub refuses : n.next ≡ 0 → lawful text ≡ false
-  pub here : (n.next ≡ 0 → ⊥) → Here text 1 n.next
-  pub says-page : (n.next ≡ 0 → ⊥) → says page_word is_number (get_or (lines_of text) 0 []) ≡ true
-  pub value : (n.next ≡ 0 → ⊥) → n.value ≡ page_of (lines_of text)
+  pub here : Here text 1 n.next
+  pub says-page : says page_word is_number (get_or (lines_of text) 0 []) ≡ true
+  pub value : n.value ≡ page_of (lines_of text)
   pub short : n.next ≤ 16
 
+abbrev pub PageTells : List ℕ → Result Number Refusal → Type 0
+PageTells text (Ok n) = PageTold text n
+PageTells text (Err e) = (refusal_number e ≡ 17) × (lawful text ≡ false)
+
 -- ---- the eleven lines of the k-th entry, from `at`
+
+-- the name that the k-th entry depends on, and where it starts
+pub record Depends (text : List ℕ) (k d : ℕ) : Type 0 where
+  pub named : is_none (depending_said (lines_of text) k) ≡ false
+  pub name : line_from text d ≡ depending_said (lines_of text) k
+  pub place : d ≡ value_start depending_word (lines_of text) k 5
+  pub inside : d < length text
+
+abbrev pub DependsOn : List ℕ → ℕ → Option ℕ → Type 0
+DependsOn text k None = is_none (depending_said (lines_of text) k) ≡ true
+DependsOn text k (Some d) = Depends text k d
 
 pub record Told (text : List ℕ) (k at : ℕ) (s : Said) : Type 0 where
   pub fine : entry_lawful (lines_of text) k ≡ true
@@ -83,10 +94,7 @@ pub record Told (text : List ℕ) (k at : ℕ) (s : Said) : Type 0 where
   pub width : s.width ≡ width_said (lines_of text) k
   pub kind : s.kind ≡ kind_said (lines_of text) k
   pub occurs : s.occurs ≡ or_absent (occurs_said (lines_of text) k) (number_said occurs_word (line_in (lines_of text) k 4))
-  pub none : eqb s.depending 0 ≡ is_none (depending_said (lines_of text) k)
-  pub depending : (s.depending ≡ 0 → ⊥) → line_from text s.depending ≡ depending_said (lines_of text) k
-  pub depending-at : (s.depending ≡ 0 → ⊥) → s.depending ≡ value_start depending_word (lines_of text) k 5
-  pub depending-inside : s.depending < length text
+  pub depending : DependsOn text k s.depending
   pub span : s.span ≡ number_said span_word (line_in (lines_of text) k 6)
   pub p : s.p ≡ number_said p_word (line_in (lines_of text) k 7)
   pub q : s.q ≡ number_said q_word (line_in (lines_of text) k 8)
@@ -99,9 +107,9 @@ pub record Told (text : List ℕ) (k at : ℕ) (s : Said) : Type 0 where
   pub room : at + s.length < s.next
   pub short : s.next ≤ at + 207 + s.length
 
-pub record Tells (text : List ℕ) (at : ℕ) (s : Said) : Type 0 where
-  pub refuses : s.next ≡ 0 → (k : ℕ) → Here text (k * 11 + 1) at → (ended text && entry_lawful (lines_of text) k) ≡ false
-  pub reads : (s.next ≡ 0 → ⊥) → (k : ℕ) → Here text (k * 11 + 1) at → Told text k at s
+abbrev pub Tells : List ℕ → ℕ → Result Said Refusal → Type 0
+Tells text at (Ok s) = (k : ℕ) → Here text (k * 11 + 1) at → Told text k at s
+Tells text at (Err e) = (refusal_number e ≡ 17) × ((k : ℕ) → Here text (k * 11 + 1) at → (ended text && entry_lawful (lines_of text) k) ≡ false)
 
 -- ---- question 2 of an entry
 
@@ -134,51 +142,39 @@ bare_said l k = entry_by 0 0 0 l k
 unfoldable pub fine_in : List (List ℕ) → ℕ → Bool
 fine_in l k = entry_ok (bare_said l k) (length (mask_said l k)) && mask_long l k
 
-abbrev pub not_lawful : Judged
-not_lawful = record { lawful = false; page = 0; count = 0; fine = false; masks = 0 }
-
-pub record Finds (text : List ℕ) (j : Judged) (spans groups : List ℕ) : Type 0 where
-  pub lawful-is : j.lawful ≡ lawful text
-  pub page : j.lawful ≡ true → j.page ≡ page_of (lines_of text)
-  pub count : j.lawful ≡ true → j.count ≡ count_of (lines_of text)
-  pub fine : j.lawful ≡ true → j.fine ≡ all_below (fine_in (lines_of text)) (count_of (lines_of text))
-  pub masks : j.lawful ≡ true → j.masks ≡ length (masks_of (lines_of text))
-  pub spans-kept : j.lawful ≡ true → (i : ℕ) → i < count_of (lines_of text) → i < 512 → get_or spans i 0 ≡ number_said span_word (line_in (lines_of text) i 6)
-  pub groups-kept : j.lawful ≡ true → (i : ℕ) → i < count_of (lines_of text) → i < 512 → eqb (get_or groups i 0) 1 ≡ eqb (kind_said (lines_of text) i) kind_group
+pub record Finds (text : List ℕ) (j : Judged) (spans : List ℕ) (groups : List Bool) : Type 0 where
+  pub is_lawful : lawful text ≡ true
+  pub page : j.page ≡ page_of (lines_of text)
+  pub count : j.count ≡ count_of (lines_of text)
+  pub fine : j.fine ≡ all_below (fine_in (lines_of text)) (count_of (lines_of text))
+  pub masks : j.masks ≡ length (masks_of (lines_of text))
+  pub spans-kept : (i : ℕ) → i < count_of (lines_of text) → i < 512 → get_or spans i 0 ≡ number_said span_word (line_in (lines_of text) i 6)
+  pub groups-kept : (i : ℕ) → i < count_of (lines_of text) → i < 512 → get_or groups i false ≡ eqb (kind_said (lines_of text) i) kind_group
   -- a text with few entries that pass is short
-  pub short : j.lawful ≡ true → length text ≤ 16 + j.count * 207 + j.masks
+  pub short : length text ≤ 16 + j.count * 207 + j.masks
   pub small : j.fine ≡ true → j.masks ≤ j.count * 65535
+
+abbrev pub FindsIn : List ℕ → Result Judged Refusal → List ℕ → List Bool → Type 0
+FindsIn text (Ok j) spans groups = Finds text j spans groups
+FindsIn text (Err e) spans groups = (refusal_number e ≡ 17) × (lawful text ≡ false)
 
 -- ---- question 3, over the spans and the groups by themselves
 
 abbrev pub span_in : List ℕ → ℕ → ℕ
 span_in spans i = get_or spans i 0
 
-abbrev pub group_in : List ℕ → ℕ → Bool
-group_in groups i = eqb (get_or groups i 0) 1
+abbrev pub group_in : List Bool → ℕ → Bool
+group_in groups i = get_or groups i false
 
-unfoldable pub nested_in : List ℕ → List ℕ → ℕ → ℕ → ℕ → Bool
+unfoldable pub nested_in : List ℕ → List Bool → ℕ → ℕ → ℕ → Bool
 nested_in spans groups levels lo hi = nested (span_in spans) (group_in groups) levels (tree (λ i. i) (span_in spans) lo hi)
 
 -- ---- the answer
 
-unfoldable pub number_given : Judged → Bool → ℕ → ℕ → ℕ
-number_given j nests words masks =
-    placed (judged j.lawful (leb j.count 512 && leb j.page 1) j.fine nests)
-    (leb (j.count * 12) words && leb j.masks masks)
-
-abbrev pub refused_by : ℕ → LayoutReading
-refused_by n = record { number = n; page = 0; words = 0; masks = 0 }
-
-unfoldable pub answer_given : Judged → Bool → ℕ → ℕ → LayoutReading
-answer_given j nests words masks =
-    cond (eqb (number_given j nests words masks) 0)
-    (record { number = 0; page = j.page; words = j.count * 12; masks = j.masks })
-    (refused_by (number_given j nests words masks))
-
 -- the outcome of the call as the code hands it on
-abbrev pub answer_of : Read → LayoutReading
-answer_of d = record { number = number_read d; page = page_read d; words = length (words_read d); masks = length (masks_read d) }
+abbrev pub reading_of : Read → Answer LayoutReading
+reading_of (not_read n) = refused n
+reading_of (read page ws ms) = given (record { page = page; words = length ws; masks = length ms })
 
 -- ---- a text whose words and masks are stored
 

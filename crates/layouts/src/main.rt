@@ -6,10 +6,10 @@
 //   m# m* m. m:   mask bytes, likewise
 //   -             all of these emptied
 // What is asked, the answer that it should get, and what the case shows:
-//   L PAGE MASKS NUMBER                check_layout of the words, with so many mask bytes
+//   L PAGE MASKS NUMBER                the check of the words as a layout, with so many mask bytes
 //   R LENGTH DEPENDS                   record_length and has_depending_on of the words
 //   V ENTRY BYTES                      reserved_width of an entry
-//   I TEXT OK                          check_items of the words, with a text buffer of so many bytes
+//   I TEXT OK                          the check of the words as a value list, with a text buffer of so many bytes
 //   F NAME FROM TO PLACE               find
 //   G FROM TO END NAME TAG A B         item_end and fetch
 //   A ITEM END PLACE                   after
@@ -22,490 +22,281 @@
 
 ghost use Rattle.std.specs.Prelude.{◌≤◌};
 
+use codes::number_in;
+use items::ValueList;
+use layout::Layout;
+use layout_text::{LayoutReading, name_of, read_layout};
 use reading::read_full;
 use std::io;
-use testing::{
-    at, first_bytes, first_layout, first_words, holds_bytes, holds_layout, line_at, low_word, more,
-    narrow,
-};
+use testing::{Gathered, at, first, holds, low_word, narrow};
 
 const WORDS: usize = 8192;
 
 const BYTES: usize = 66048;
 
-fn least(x: u64, most: usize) -> usize
-    ensures { result ≤ most }
-{
-    if x < most as u64 {
-        return x as usize;
+// ---- a line
+
+// The number that a part of a line spells; 0 where it spells none.
+fn number(part: &[u8]) -> u64 {
+    match std::str::from_utf8(part) {
+        Ok(text) => text.parse().unwrap_or(0),
+        Err(_) => 0,
     }
-    most
 }
 
-fn low_byte(x: u64) -> u8 {
-    (x % 256) as u8
+#[derive(Clone, Copy)]
+struct Line<'a> {
+    bytes: &'a [u8],
 }
 
-// ---- numbers on a line, each behind a space
-
-fn digit(c: u8) -> u64 {
-    if c < 48 {
-        return 0;
+impl<'a> Line<'a> {
+    fn kind(self) -> u8 {
+        at(self.bytes, 0)
     }
-    ((c - 48) % 10) as u64
-}
 
-fn push(v: u64, c: u8) -> u64 {
-    std::num::wrapping_add_u64(v % 1844674407370955162 * 10, digit(c))
-}
-
-// How many spaces there are with this byte.
-fn spaces(n: u64, c: u8) -> u64 {
-    if c == 32 {
-        return more(n);
+    // The bytes behind the first two.
+    fn rest(self) -> &'a [u8] {
+        self.bytes.get(2..).unwrap_or(b"")
     }
-    n
+
+    // The k-th number, from 1, each behind a space.
+    fn arg(self, k: usize) -> u64 {
+        self.bytes.split(|b| *b == b' ').nth(k).map_or(0, number)
+    }
+
+    // The same as a place, at most so far.
+    fn place(self, k: usize, most: usize) -> usize
+        ensures { result ≤ most }
+    {
+        self.arg(k).min(most as u64) as usize
+    }
 }
 
-// The number v and this byte, if it stands behind the k-th space.
-fn taken(v: u64, c: u8, n: u64, k: u64) -> u64 {
-    if n != k {
-        return v;
+// ---- what is gathered
+
+// So many cells more, each the one that stands `back` before it.
+fn repeat<T: Copy>(gathered: &mut Gathered<T>, count: u64, back: usize, none: T) {
+    for _ in 0..count {
+        let from = gathered.len.checked_sub(back);
+        let value = from.and_then(|i| gathered.cells.get(i).copied());
+        gathered.push(value.unwrap_or(none));
     }
-    if c == 32 {
-        return v;
-    }
-    push(v, c)
 }
 
-// The k-th number, from 1.
-fn arg(line: &[u8], k: u64) -> u64 {
-    let mut v: u64 = 0;
-    let mut n: u64 = 0;
-    let mut i = 0;
-    while i < line.len() {
-        n = spaces(n, line[i]);
-        v = taken(v, line[i], n, k);
-        i += 1;
+fn gather_words(words: &mut Gathered<u64>, line: Line) {
+    if at(line.bytes, 1) == b'#' {
+        for part in line.bytes.split(|b| *b == b' ').skip(1) {
+            words.push(number(part));
+        }
+    } else {
+        repeat(words, line.arg(1), line.place(2, WORDS), 0);
     }
-    v
 }
 
-fn args(line: &[u8]) -> u64 {
-    let mut n: u64 = 0;
-    let mut i = 0;
-    while i < line.len() {
-        n = spaces(n, line[i]);
-        i += 1;
-    }
-    n
-}
-
-// ---- gathering words
-
-fn put_word(words: &mut [u64; WORDS], n: usize, w: u64) -> usize {
-    if n < WORDS {
-        words[n] = w;
-        return n + 1;
-    }
-    n
-}
-
-fn put_words(words: &mut [u64; WORDS], from: usize, line: &[u8]) -> usize {
-    let mut n = from;
-    let mut k: u64 = 0;
-    let all = args(line);
-    while k < all {
-        k += 1;
-        n = put_word(words, n, arg(line, k));
-    }
-    n
-}
-
-fn word_back(words: &[u64; WORDS], n: usize, back: usize) -> u64 {
-    if back <= n {
-        if n - back < WORDS {
-            return words[n - back];
+// Bytes of the text or of masks.
+fn gather_bytes(bytes: &mut Gathered<u8>, line: Line) {
+    match at(line.bytes, 1) {
+        b'#' => {
+            for part in line.bytes.split(|b| *b == b' ').skip(1) {
+                bytes.push((number(part) % 256) as u8);
+            }
+        }
+        b'*' => repeat(bytes, line.arg(1), line.place(2, BYTES), 0),
+        how => {
+            for b in line.rest() {
+                bytes.push(*b);
+            }
+            if how == b':' {
+                bytes.push(b'\n');
+            }
         }
     }
-    0
-}
-
-// So many words more, each the one that stands `back` before it.
-fn repeat_words(words: &mut [u64; WORDS], from: usize, count: u64, back: usize) -> usize {
-    let mut n = from;
-    let mut i: u64 = 0;
-    while i < count {
-        let x = word_back(words, n, back);
-        n = put_word(words, n, x);
-        i += 1;
-    }
-    n
-}
-
-fn words_step(words: &mut [u64; WORDS], n: usize, line: &[u8]) -> usize {
-    if at(line, 0) != b'w' {
-        return n;
-    }
-    if at(line, 1) == b'#' {
-        return put_words(words, n, line);
-    }
-    repeat_words(words, n, arg(line, 1), least(arg(line, 2), WORDS))
-}
-
-// ---- gathering bytes, of the text or of masks
-
-fn put_byte(bytes: &mut [u8; BYTES], n: usize, b: u8) -> usize {
-    if n < BYTES {
-        bytes[n] = b;
-        return n + 1;
-    }
-    n
-}
-
-fn put_numbers(bytes: &mut [u8; BYTES], from: usize, line: &[u8]) -> usize {
-    let mut n = from;
-    let mut k: u64 = 0;
-    let all = args(line);
-    while k < all {
-        k += 1;
-        n = put_byte(bytes, n, low_byte(arg(line, k)));
-    }
-    n
-}
-
-// The line's bytes behind its first two.
-fn put_text(bytes: &mut [u8; BYTES], from: usize, line: &[u8]) -> usize {
-    let mut n = from;
-    let mut i = 2;
-    while i < line.len() {
-        n = put_byte(bytes, n, line[i]);
-        i += 1;
-    }
-    n
-}
-
-fn byte_back(bytes: &[u8; BYTES], n: usize, back: usize) -> u8 {
-    if back <= n {
-        if n - back < BYTES {
-            return bytes[n - back];
-        }
-    }
-    0
-}
-
-// So many bytes more, each the one that stands `back` before it.
-fn repeat_bytes(bytes: &mut [u8; BYTES], from: usize, count: u64, back: usize) -> usize {
-    let mut n = from;
-    let mut i: u64 = 0;
-    while i < count {
-        let x = byte_back(bytes, n, back);
-        n = put_byte(bytes, n, x);
-        i += 1;
-    }
-    n
-}
-
-fn bytes_step(kind: u8, bytes: &mut [u8; BYTES], n: usize, line: &[u8]) -> usize {
-    if at(line, 0) != kind {
-        return n;
-    }
-    let how = at(line, 1);
-    if how == b'#' {
-        return put_numbers(bytes, n, line);
-    }
-    if how == b'*' {
-        return repeat_bytes(bytes, n, arg(line, 1), least(arg(line, 2), BYTES));
-    }
-    let end = put_text(bytes, n, line);
-    if how == b':' {
-        return put_byte(bytes, end, 10);
-    }
-    end
 }
 
 // ---- layouts
 
-fn layout_agrees(line: &[u8], layout: &[u32]) -> bool {
-    let space = [0u8; BYTES];
-    let masks = first_bytes(&space, least(arg(line, 2), BYTES));
-    let page = low_word(arg(line, 1));
-    layout::check_layout(layout, masks, page) as u64 == arg(line, 3)
+fn layout_agrees(line: Line, layout: &Layout) -> bool {
+    u64::from(number_in(layout.check())) == line.arg(3)
 }
 
-fn length_agrees(line: &[u8], layout: &[u32]) -> bool {
-    if layout::record_length(layout) != arg(line, 1) {
-        return false;
-    }
-    if layout::has_depending_on(layout) {
-        return arg(line, 2) == 1;
-    }
-    arg(line, 2) == 0
+fn length_agrees(line: Line, layout: &Layout) -> bool {
+    layout.record_length() == line.arg(1) && u64::from(layout.has_depending_on()) == line.arg(2)
 }
 
-fn reserved_agrees(line: &[u8], layout: &[u32]) -> bool {
-    let i = least(arg(line, 1), 512);
-    layout::reserved_width(layout::load(layout, i)) == arg(line, 2)
+fn reserved_agrees(line: Line, layout: &Layout) -> bool {
+    layout.load(line.place(1, 512)).reserved_width() == line.arg(2)
 }
 
-fn words_agree(line: &[u8], words: &[u64]) -> bool {
+fn words_agree(line: Line, words: &[u64]) -> bool {
+    let masks = [0u8; BYTES];
     let mut space = [0u32; WORDS];
     narrow(words, &mut space);
-    let layout = first_layout(&space, words.len());
-    let asked = at(line, 0);
-    if asked == b'L' {
-        return layout_agrees(line, layout);
+    let layout = Layout {
+        words: first(&space, words.len()),
+        masks: &masks[..line.place(2, BYTES)],
+        page: low_word(line.arg(1)),
+    };
+    match line.kind() {
+        b'L' => layout_agrees(line, &layout),
+        b'R' => length_agrees(line, &layout),
+        _ => reserved_agrees(line, &layout),
     }
-    if asked == b'R' {
-        return length_agrees(line, layout);
-    }
-    reserved_agrees(line, layout)
 }
 
 // ---- value lists
 
-fn items_agree(line: &[u8], items: &[u64]) -> bool {
-    let space = [0u8; BYTES];
-    let text = first_bytes(&space, least(arg(line, 1), BYTES));
-    if items::check_items(items, text) {
-        return arg(line, 2) == 1;
-    }
-    arg(line, 2) == 0
-}
-
-fn place(x: u64) -> usize {
-    least(x, WORDS)
-}
-
-fn find_agrees(line: &[u8], items: &[u64]) -> bool {
-    let i = items::find(
+fn items_agree(line: Line, items: &[u64]) -> bool {
+    let text = [0u8; BYTES];
+    let list = ValueList {
         items,
-        arg(line, 1),
-        place(arg(line, 2)),
-        place(arg(line, 3)),
-    );
-    i as u64 == arg(line, 4)
+        text: &text[..line.place(1, BYTES)],
+    };
+    u64::from(list.check().is_ok()) == line.arg(2)
 }
 
-fn after_agrees(line: &[u8]) -> bool {
-    items::after(place(arg(line, 1)), place(arg(line, 2))) as u64 == arg(line, 3)
+fn find_agrees(line: Line, items: &[u64]) -> bool {
+    let list = ValueList { items, text: b"" };
+    let i = list.find(line.arg(1), line.place(2, WORDS), line.place(3, WORDS));
+    i as u64 == line.arg(4)
 }
 
-fn fetch_agrees(line: &[u8], items: &[u64]) -> bool {
-    let from = place(arg(line, 1));
-    let to = place(arg(line, 2));
-    if items::item_end(items, from, to) as u64 != arg(line, 3) {
-        return false;
-    }
-    let it = items::fetch(items, from, to);
-    if it.name != arg(line, 4) {
-        return false;
-    }
-    if it.tag != arg(line, 5) {
-        return false;
-    }
-    if it.a != arg(line, 6) {
-        return false;
-    }
-    it.b == arg(line, 7)
+fn after_agrees(line: Line) -> bool {
+    items::after(line.place(1, WORDS), line.place(2, WORDS)) as u64 == line.arg(3)
+}
+
+fn fetch_agrees(line: Line, items: &[u64]) -> bool {
+    let list = ValueList { items, text: b"" };
+    let from = line.place(1, WORDS);
+    let to = line.place(2, WORDS);
+    let it = list.fetch(from, to);
+    list.item_end(from, to) as u64 == line.arg(3)
+        && it.name == line.arg(4)
+        && it.tag == line.arg(5)
+        && it.a == line.arg(6)
+        && it.b == line.arg(7)
 }
 
 // ---- layout texts
 
 // Reads the text into these buffers, which should then hold the words and masks.
 fn read_into(
-    line: &[u8],
+    line: Line,
     text: &[u8],
     words: &[u64],
     masks: &[u8],
     out: &mut [u32],
     packed: &mut [u8],
 ) -> bool {
-    let r = layout_text::read_layout(text, out, packed);
-    if r.number as u64 != arg(line, 3) {
-        return false;
-    }
-    if r.page as u64 != arg(line, 4) {
-        return false;
-    }
-    if r.words != words.len() {
-        return false;
-    }
-    if r.masks != masks.len() {
-        return false;
-    }
-    if holds_layout(out, words) {
-        return holds_bytes(packed, masks);
-    }
-    false
+    let r = read_layout(text, out, packed);
+    let read = r.unwrap_or(LayoutReading {
+        page: 0,
+        words: 0,
+        masks: 0,
+    });
+    u64::from(number_in(r)) == line.arg(3)
+        && u64::from(read.page) == line.arg(4)
+        && read.words == words.len()
+        && read.masks == masks.len()
+        && holds(out, words)
+        && holds(packed, masks)
 }
 
-fn read_agrees(line: &[u8], text: &[u8], words: &[u64], masks: &[u8]) -> bool {
+fn read_agrees(line: Line, text: &[u8], words: &[u64], masks: &[u8]) -> bool {
     let mut out = [0xA5A5_A5A5u32; WORDS];
     let mut packed = [0xA5u8; BYTES];
-    let w = least(arg(line, 1), WORDS);
-    let m = least(arg(line, 2), BYTES);
-    read_into(line, text, words, masks, &mut out[0..w], &mut packed[0..m])
+    let w = line.place(1, WORDS);
+    let m = line.place(2, BYTES);
+    if line.arg(3) == 0 {
+        read_into(line, text, words, masks, &mut out[..w], &mut packed[..m])
+    } else {
+        read_into(line, text, &[], &[], &mut out[..w], &mut packed[..m])
+    }
 }
 
-fn text_agrees(line: &[u8], text: &[u8], words: &[u64], masks: &[u8]) -> bool {
-    if arg(line, 3) == 0 {
-        return read_agrees(line, text, words, masks);
-    }
-    read_agrees(line, text, &words[0..0], &masks[0..0])
-}
-
-fn name_agrees(line: &[u8], text: &[u8]) -> bool {
-    let name = layout_text::name_of(text, low_word(arg(line, 1)));
-    if line.len() < 7 {
-        return false;
-    }
-    if name.len() != line.len() - 7 {
-        return false;
-    }
-    holds_bytes(name, &line[7..])
+// The spelling stands behind the number's four digits.
+fn name_agrees(line: Line, text: &[u8]) -> bool {
+    let name = name_of(text, low_word(line.arg(1)));
+    line.bytes.get(7..) == Some(name)
 }
 
 // ---- the cases
 
-fn agrees(line: &[u8], words: &[u64], text: &[u8], masks: &[u8]) -> bool {
-    let asked = at(line, 0);
-    if asked == b'I' {
-        return items_agree(line, words);
+fn agrees(line: Line, words: &[u64], text: &[u8], masks: &[u8]) -> bool {
+    match line.kind() {
+        b'I' => items_agree(line, words),
+        b'F' => find_agrees(line, words),
+        b'G' => fetch_agrees(line, words),
+        b'A' => after_agrees(line),
+        b'T' => read_agrees(line, text, words, masks),
+        b'N' => name_agrees(line, text),
+        _ => words_agree(line, words),
     }
-    if asked == b'F' {
-        return find_agrees(line, words);
-    }
-    if asked == b'G' {
-        return fetch_agrees(line, words);
-    }
-    if asked == b'A' {
-        return after_agrees(line);
-    }
-    if asked == b'T' {
-        return text_agrees(line, text, words, masks);
-    }
-    if asked == b'N' {
-        return name_agrees(line, text);
-    }
-    words_agree(line, words)
 }
 
+// How many cases a group has, and how many of them differ.
 #[derive(Drop)]
 struct Tally {
     cases: u64,
     differ: u64,
 }
 
-// A line that asks starts with a capital letter.
-fn judged(
-    rt: &impl Print,
-    t: Tally,
-    line: &[u8],
-    words: &[u64],
-    text: &[u8],
-    masks: &[u8],
-) -> io::Result<Tally> {
-    let asked = at(line, 0);
-    if asked < b'A' {
-        return Ok(t);
+impl Tally {
+    fn count(&mut self, rt: &impl Print, line: Line, agrees: bool) -> io::Result<()> {
+        self.cases = self.cases.wrapping_add(1);
+        if agrees {
+            return Ok(());
+        }
+        self.differ = self.differ.wrapping_add(1);
+        rt.write_all(b"differs: ")?;
+        rt.write_all(line.bytes)?;
+        rt.write_all(b"\n")
     }
-    if asked > b'Z' {
-        return Ok(t);
-    }
-    if agrees(line, words, text, masks) {
-        return Ok(Tally {
-            cases: more(t.cases),
-            differ: t.differ,
-        });
-    }
-    rt.write_all(b"differs: ")?;
-    rt.write_all(line)?;
-    rt.write_all(b"\n")?;
-    Ok(Tally {
-        cases: more(t.cases),
-        differ: more(t.differ),
-    })
-}
 
-fn ended(rt: &impl Print, t: Tally, line: &[u8]) -> io::Result<Tally> {
-    if at(line, 0) != b'.' {
-        return Ok(t);
+    // Prints the counts behind the group's name, and begins anew.
+    fn end(&mut self, rt: &impl Print, line: Line) -> io::Result<()> {
+        rt.write_all(line.rest())?;
+        println!(rt; ": {} cases, {} differ", self.cases, self.differ)?;
+        self.cases = 0;
+        self.differ = 0;
+        Ok(())
     }
-    if line.len() > 2 {
-        rt.write_all(&line[2..])?;
-    }
-    let cases = t.cases;
-    let differ = t.differ;
-    println!(rt; ": {cases} cases, {differ} differ")?;
-    Ok(Tally {
-        cases: 0,
-        differ: 0,
-    })
-}
-
-// How many are gathered still.
-fn kept(line: &[u8], n: usize) -> usize {
-    if at(line, 0) == b'-' {
-        return 0;
-    }
-    n
-}
-
-// How many words, bytes of text and mask bytes are gathered, and the count of the group's cases.
-#[derive(Drop)]
-struct State {
-    w: usize,
-    t: usize,
-    m: usize,
-    tally: Tally,
-}
-
-fn step(
-    rt: &impl Print,
-    line: &[u8],
-    words: &mut [u64; WORDS],
-    text: &mut [u8; BYTES],
-    masks: &mut [u8; BYTES],
-    s: State,
-) -> io::Result<State> {
-    let w = words_step(words, kept(line, s.w), line);
-    let t = bytes_step(b't', text, kept(line, s.t), line);
-    let m = bytes_step(b'm', masks, kept(line, s.m), line);
-    let tally = judged(
-        rt,
-        s.tally,
-        line,
-        first_words(words, w),
-        first_bytes(text, t),
-        first_bytes(masks, m),
-    )?;
-    Ok(State {
-        w: w,
-        t: t,
-        m: m,
-        tally: ended(rt, tally, line)?,
-    })
 }
 
 fn run(rt: &impl Print, all: &[u8]) -> io::Result<()> {
-    let mut words = [0u64; WORDS];
-    let mut text = [0u8; BYTES];
-    let mut masks = [0u8; BYTES];
-    let mut s = State {
-        w: 0,
-        t: 0,
-        m: 0,
-        tally: Tally {
-            cases: 0,
-            differ: 0,
-        },
+    let mut words = Gathered {
+        cells: &mut [0u64; WORDS],
+        len: 0,
     };
-    let mut from = 0;
-    while from < all.len() {
-        let line = line_at(all, from);
-        s = step(rt, line, &mut words, &mut text, &mut masks, s)?;
-        from = from + line.len() + 1;
+    let mut text = Gathered {
+        cells: &mut [0u8; BYTES],
+        len: 0,
+    };
+    let mut masks = Gathered {
+        cells: &mut [0u8; BYTES],
+        len: 0,
+    };
+    let mut tally = Tally {
+        cases: 0,
+        differ: 0,
+    };
+    for bytes in all.split(|b| *b == b'\n') {
+        let line = Line { bytes };
+        match line.kind() {
+            b'w' => gather_words(&mut words, line),
+            b't' => gather_bytes(&mut text, line),
+            b'm' => gather_bytes(&mut masks, line),
+            b'-' => {
+                words.clear();
+                text.clear();
+                masks.clear();
+            }
+            b'.' => tally.end(rt, line)?,
+            b'A'..=b'Z' => {
+                let agrees = agrees(line, words.held(), text.held(), masks.held());
+                tally.count(rt, line, agrees)?;
+            }
+            _ => {}
+        }
     }
     Ok(())
 }

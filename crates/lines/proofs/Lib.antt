@@ -1,3 +1,4 @@
 pub mod Laws
 pub mod Sight
 pub mod Inside
+pub mod Std

@@ -1,36 +1,26 @@
 -- Names that are the same but for letter case, and their numbers: one turn of each loop, its ends, and what a number tells.
 use mathlib.Core.Path.{◌≡◌, refl, sym, ap, ◌∙◌, subst}
-use mathlib.Core.Bool.{Bool, true, false, ◌&&◌, cond, false≢true, and-false}
+use mathlib.Core.Bool.{Bool, true, false, ◌&&◌, cond, false≢true}
 use mathlib.Core.List.{List, [], ◌∷◌, ◌++◌, map, map-append}
 use Prim.Native.Nat.{ℕ, zero, suc, ◌+◌, ◌≤◌, ◌<◌, zero-le, suc-le-suc, min}
-use native.Mathlib.Nat.{not-suc-le-zero, le_of_suc-le-suc, suc-ne-zero, suc-add, add-suc, add-zero, le_of_lt, le_refl, le_trans}
+use native.Mathlib.Nat.{not-suc-le-zero, le_of_suc-le-suc, suc-ne-zero, le_of_lt, le_refl, le_trans}
 use native.Mathlib.Numerals.{add-one}
 use native.Mathlib.Omega.{arith}
 use lib.Dec.{eqb, ltb}
-use lib.ListN.{length, get_or, set, take, drop, drop_of_length-le, length-map, length-take}
-use lib.Seq.{drop-cons, get_or-take, take-suc-set, length-take-le}
+use lib.ListN.{length, get_or, set, take, length-map, length-take}
+use lib.Seq.{take-suc-set, length-take-le}
 use borrow.Author.Tests.{eq-eqb, ne_eqb, lt-ltb, le-ltb, eqb-true, ltb-true, ltb-false}
+use Rattle.std.specs.Prelude.{IsTrue, ◌↔◌, Option}
+use Rattle.std.proofs.lemmas.Grind.{common_steps}
+use mathlib.Core.Bool.{not}
+use native.Mathlib.Numerals.{one-add}
+use Rattle.std.specs.Char.{to_ascii_lowercase}
+use Rattle.std.proofs.lemmas.Bool.Decides.{nat_tests}
+use Rattle.std.specs.List.{position, position_or_len}
+use Rattle.std.specs.Option.{unwrap_or}
+use Rattle.lines.proofs.Std.{place_is}
 use Rattle.lines.specs.Lines.{line_from}
 use Rattle.lines.specs.Names.{fold_of, equal, same_name, index_in, see, see_all, distinct, number_in, names_at, see_at, number_at, count_after, starts_after}
-
-pub same-short : (a b : List ℕ) → (length a ≡ length b → ⊥) → same_name a b ≡ false
-unfolding equal
-same-short [] [] h = absurd (h refl)
-same-short [] (y ∷ b) h = refl
-same-short (x ∷ a) [] h = refl
-same-short (x ∷ a) (y ∷ b) h = rw (same-short a b (λ e. h (ap suc e))) (and-false (eqb (fold_of x) (fold_of y)))
-
-pub same-go : (a b : List ℕ) (i : ℕ) → i < length a → i < length b → fold_of (get_or a i 0) ≡ fold_of (get_or b i 0) → same_name (drop i a) (drop i b) ≡ same_name (drop (i + 1) a) (drop (i + 1) b)
-unfolding equal
-same-go a b i h k e = rw (add-one, drop-cons a i 0, drop-cons b i 0, eq-eqb (fold_of (get_or a i 0)) (fold_of (get_or b i 0)) e)
-
-pub same_stop : (a b : List ℕ) (i : ℕ) → i < length a → i < length b → (fold_of (get_or a i 0) ≡ fold_of (get_or b i 0) → ⊥) → same_name (drop i a) (drop i b) ≡ false
-unfolding equal
-same_stop a b i h k e = rw (drop-cons a i 0, drop-cons b i 0, ne_eqb (fold_of (get_or a i 0)) (fold_of (get_or b i 0)) e)
-
-pub same_end : (a b : List ℕ) (i : ℕ) → length a ≤ i → length b ≤ i → same_name (drop i a) (drop i b) ≡ true
-unfolding equal
-same_end a b i h k = rw (drop_of_length-le a h, drop_of_length-le b k)
 
 -- ---- the test tells equality
 
@@ -49,6 +39,26 @@ equal_is (x ∷ a) (y ∷ b) e = by (eqb x y) refl e (λ q. equal_is a b q)
     by : (t : Bool) → eqb x y ≡ t → (t && equal a b) ≡ true → (equal a b ≡ true → a ≡ b) → x ∷ a ≡ y ∷ b
     by true q r ih = λ i. eqb-true x y q i ∷ ih r i
     by false q r ih = absurd (false≢true r)
+
+-- a test that tells equality is `equal`
+equal_decides : (a b : List ℕ) (r : Bool) → IsTrue r ↔ (a ≡ b) → r ≡ equal a b
+equal_decides a b true e = let q : a ≡ b = e.0 refl in sym (ap (equal a) (sym q) ∙ equal-self a)
+equal_decides a b false e = by (equal a b) refl
+  where
+    by : (t : Bool) → equal a b ≡ t → false ≡ t
+    by true q = absurd (false≢true (e.1 (equal_is a b q)))
+    by false q = refl
+
+-- std's small letters are this crate's
+lower : (x : ℕ) → to_ascii_lowercase x ≡ fold_of x
+lower x = grind (arith, nat_tests)
+
+lowers : (s : List ℕ) → map to_ascii_lowercase s ≡ map fold_of s
+lowers [] = refl
+lowers (x ∷ s) = λ i. lower x i ∷ lowers s i
+
+pub same_decides : (a b : List ℕ) (r : Bool) → IsTrue r ↔ (map to_ascii_lowercase a ≡ map to_ascii_lowercase b) → r ≡ same_name a b
+same_decides a b r e = rw (← lowers a, ← lowers b) (equal_decides (map to_ascii_lowercase a) (map to_ascii_lowercase b) r e)
 
 pub same_self : (a : List ℕ) → same_name a a ≡ true
 same_self a = equal-self (map fold_of a)
@@ -72,29 +82,26 @@ get_or-map-at f (x ∷ s) (suc i) d h = get_or-map-at f s i d (le_of_suc-le-suc 
 pub names-long : (text starts : List ℕ) (count : ℕ) → length (names_at text starts count) ≡ min count (length starts)
 names-long text starts count = length-map (take count starts) (line_from text) ∙ length-take count starts
 
-module _ (text starts : List ℕ) (count k : ℕ) (name : List ℕ) where
-  module _ (h : k < count) (l : k < length starts) where
-    next-name : drop k (names_at text starts count) ≡ line_from text (get_or starts k 0) ∷ drop (suc k) (names_at text starts count)
-    next-name =
-        let t = take count starts in
-        let q : length t ≡ min count (length starts) = length-take count starts in
-        let m : k < length t = omega arith in
-        let n : k < length (names_at text starts count) = subst (λ (n : ℕ). k < n) (sym (length-map t (line_from text))) m in
-        drop-cons (names_at text starts count) k [] n ∙ ap (λ (x : List ℕ). x ∷ drop (suc k) (names_at text starts count)) (get_or-map-at (line_from text) t k 0 m ∙ ap (line_from text) (get_or-take count starts k 0 h))
+index_place : (text held name : List ℕ) → position_or_len (λ x. same_name name (line_from text x)) held ≡ index_in name (map (line_from text) held)
+unfolding index_in
+index_place text [] name = refl
+index_place text (x ∷ held) name = by (same_name name (line_from text x)) (index_place text held name)
+  where
+    by : (t : Bool) → position_or_len (λ y. same_name name (line_from text y)) held ≡ index_in name (map (line_from text) held)
+        → cond (not t) (1 + position_or_len (λ y. same_name name (line_from text y)) held) 0 ≡ cond t 0 (suc (index_in name (map (line_from text) held)))
+    by true e = refl
+    by false e = rw (one-add, e)
 
-    pub index-go : same_name name (line_from text (get_or starts k 0)) ≡ false → k + index_in name (drop k (names_at text starts count)) ≡ k + 1 + index_in name (drop (k + 1) (names_at text starts count))
-    unfolding index_in
-    index-go e =
-        rw (add-one, next-name, e)
-        (add-suc k (index_in name (drop (suc k) (names_at text starts count))) ∙ sym (suc-add k (index_in name (drop (suc k) (names_at text starts count)))))
+take-least : (count : ℕ) (starts : List ℕ) → take (min count (length starts)) starts ≡ take count starts
+take-least count starts = grind (arith, common_steps)
 
-    pub index-stop : same_name name (line_from text (get_or starts k 0)) ≡ true → k + index_in name (drop k (names_at text starts count)) ≡ k
-    unfolding index_in
-    index-stop e = rw (next-name, e) (add-zero k)
-
-  pub index-end : min count (length starts) ≤ k → k + index_in name (drop k (names_at text starts count)) ≡ k
-  unfolding index_in
-  index-end h = rw (drop_of_length-le (names_at text starts count) {i = k} (subst (λ (n : ℕ). n ≤ k) (sym (names-long text starts count)) h)) (add-zero k)
+-- the first of the starts at whose name the test passes, or how many these are
+pub find_is : (text starts name : List ℕ) (count least r : ℕ) (found : Option ℕ) → least ≡ min count (length starts)
+    → found ≡ position (λ x. same_name name (line_from text x)) (take least starts) → r ≡ unwrap_or found (length (take least starts)) → r ≡ index_in name (names_at text starts count)
+find_is text starts name count least r found l e q =
+    let held : take least starts ≡ take count starts = ap (λ n. take n starts) l ∙ take-least count starts in
+    q ∙ ap (λ o. unwrap_or o (length (take least starts))) e ∙ place_is (λ x. same_name name (line_from text x)) (take least starts) ∙ index_place text (take least starts) name
+    ∙ ap (λ s. index_in name (map (line_from text) s)) held
 
 pub number_is : (text starts : List ℕ) (count at k : ℕ) (name : List ℕ) → name ≡ line_from text at → k ≡ index_in name (names_at text starts count) → k ≡ number_at text starts count at
 number_is text starts count at k name e q = q ∙ ap (λ (n : List ℕ). index_in n (names_at text starts count)) e

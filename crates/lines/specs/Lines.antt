@@ -1,13 +1,12 @@
 -- The lines of a layout's text form: "lines `word=value`, each ended by 0x0A". A word is given with its `=`.
-use Rattle.std.specs.Prelude.{ℕ, ◌+◌, Bool, true, false, not, ◌&&◌, ◌||◌, cond, List, [], ◌∷◌, map, length, drop, eqb, leb, ltb}
+use Rattle.std.specs.Prelude.{ℕ, ◌+◌, Bool, true, false, not, ◌&&◌, ◌||◌, cond, List, [], ◌∷◌, map, length, drop, eqb, leb, ltb, Result, Ok, Err}
 use Rattle.lists.specs.Scan.{before_by, every_by}
 use Rattle.codes.specs.Codes.{absent}
 use Rattle.value.specs.Digits.{value_of, is_digit, digit_in}
 use Rattle.value.specs.Answer.{Answer, refused, given}
+use Rattle.codes.specs.declared.Refusal.{Refusal}
+use Rattle.codes.specs.Refusals.{number_of as refusal_number}
 use Rattle.lines.specs.declared.Found.{Found}
-use Rattle.lines.specs.declared.Found.TheVariants.{At, Unlawful}
-use Rattle.lines.specs.declared.Parsed.{Parsed}
-use Rattle.lines.specs.declared.Parsed.TheVariants.{Value, Bad}
 
 abbrev pub is_end : ℕ → Bool
 is_end x = eqb x 0x0A
@@ -40,9 +39,9 @@ value_at word text at =
     (given (place (at + length word) (at + length (line_from text at)) (at + length (line_from text at) + 1)))
     (refused 17)
 
-abbrev pub found_as : Found → Answer Place
-found_as (At start end next) = given (place start end next)
-found_as Unlawful = refused 17
+abbrev pub found_as : Result Found Refusal → Answer Place
+found_as (Ok found) = given (place found.start found.end found.next)
+found_as (Err refusal) = refused (refusal_number refusal)
 
 -- ---- numbers
 
@@ -59,10 +58,6 @@ spelled s = value_of (map digit_in s)
 -- "Numbers are below 4294967295."
 unfoldable pub number_of : List ℕ → Answer ℕ
 number_of s = cond (leads s && (every_by is_digit s && ltb (spelled s) absent)) (given (spelled s)) (refused 17)
-
-abbrev pub parsed_as : Parsed → Answer ℕ
-parsed_as (Value v) = given v
-parsed_as Bad = refused 17
 
 -- ---- names and masks
 

@@ -2,89 +2,64 @@
 
 #![tactic(auto)]
 
-ghost use Rattle.std.specs.Prelude.{◌≡◌, ◌≤◌, ◌<◌, length, take};
+ghost use Rattle.std.specs.Prelude.{◌≡◌, ◌≤◌, ◌<◌, IfOk, length, take};
 ghost use Rattle.lists.specs.Part.{place_in};
 ghost use Rattle.lists.specs.Scan.{before_by};
-ghost use Rattle.lines.specs.Lines.{is_end, line_from, start_in, starts_with, value_at, found_as, leads, number_of, parsed_as, is_letter, in_name, name_ok, mask_ok};
-ghost use Rattle.lines.specs.Names.{fold_of, same_name, index_in, names_at, number_at, count_after, starts_after};
+ghost use Rattle.value.specs.Answer.{answered};
+ghost use Rattle.lines.specs.Lines.{is_end, line_from, start_in, value_at, found_as, leads, number_of, in_name, name_ok, mask_ok};
+ghost use Rattle.lines.specs.Names.{same_name, index_in, names_at, number_at, count_after, starts_after};
 
-use codes::ABSENT;
+use codes::{ABSENT, Refusal};
 
 // Where a value starts and ends in a text, and where the next line starts.
 #[derive(Clone, Copy)]
-pub enum Found {
-    At(usize, usize, usize),
-    Unlawful,
-}
-
-#[derive(Clone, Copy)]
-pub enum Parsed {
-    Value(u32),
-    Bad,
+pub struct Found {
+    pub start: usize,
+    pub end: usize,
+    pub next: usize,
 }
 
 // ---- lines
 
-// How many bytes stand before the first 0x0A, or the length.
+// How many bytes stand before the first newline, or the length.
 fn line_end(s: &[u8]) -> usize
     ensures { (result ≤ length s.now) × (take result s.now ≡ before_by is_end s.now) }
 {
-    let mut i = 0;
-    while i < s.len() {
-        if s[i] == 0x0A {
-            return i;
-        }
-        i += 1;
-    }
-    i
-}
-
-fn starts_with(word: &[u8], s: &[u8]) -> bool
-    ensures { result ≡ starts_with word.now s.now }
-{
-    if s.len() < word.len() {
-        return false;
-    }
-    let mut i = 0;
-    while i < word.len() {
-        if s[i] != word[i] {
-            return false;
-        }
-        i += 1;
-    }
-    true
+    s.iter().position(|x| *x == b'\n').unwrap_or(s.len())
 }
 
 // The value behind a word, its `=` counted, in the line that starts at a position.
-pub fn value_at(text: &[u8], at: usize, word: &[u8]) -> Found
-    ensures { found_as result ≡ value_at word.now text.now at }
+#[tactic(auto, using(crate::proofs::Laws::line_past, crate::proofs::Laws::line_open, crate::proofs::Laws::line_other, crate::proofs::Laws::line_found))]
+pub fn value_at(text: &[u8], at: usize, word: &[u8]) -> Result<Found, Refusal>
+    ensures value { found_as result ≡ value_at word.now text.now at }
+    ensures inside { IfOk result (λ found. (found.start ≤ found.end) × (found.end ≤ length text.now)) }
 {
-    if text.len() < at {
-        return Found::Unlawful;
-    }
-    let rest = &text[at..];
+    let Some(rest) = text.get(at..) else {
+        return Err(Refusal::LayoutText);
+    };
     let n = line_end(rest);
-    if rest.len() <= n {
-        return Found::Unlawful;
+    if n == rest.len() || !rest[..n].starts_with(word) {
+        return Err(Refusal::LayoutText);
     }
-    let line = &rest[0..n];
-    if starts_with(word, line) {
-        return Found::At(at + word.len(), at + n, at + n + 1);
-    }
-    Found::Unlawful
+    Ok(Found {
+        start: at + word.len(),
+        end: at + n,
+        next: at + n + 1,
+    })
 }
 
-// The bytes from a position up to the next 0x0A, or to the text's end, as a part of the text.
+// The bytes from a position up to the next newline, or to the text's end, as a part of the text.
+#[tactic(auto, using(crate::proofs::Laws::none_past))]
 pub fn name_at(text: &[u8], at: usize) -> &[u8]
     ensures result_value { result.now ≡ line_from text.now at }
     ensures ref_ptr_value { result.ref_ptr ≡ place_in text.entry (start_in text.now at) }
 {
-    if text.len() < at {
-        return &text[0..0];
+    if at > text.len() {
+        return &text[..0];
     }
     let rest = &text[at..];
     let n = line_end(rest);
-    &rest[0..n]
+    &rest[..n]
 }
 
 // ---- values
@@ -92,156 +67,71 @@ pub fn name_at(text: &[u8], at: usize) -> &[u8]
 fn has_lead(s: &[u8]) -> bool
     ensures { result ≡ leads s.now }
 {
-    if s.len() == 0 {
-        return false;
+    match s {
+        [] => false,
+        [_] => true,
+        [x, ..] => *x != b'0',
     }
-    if s.len() == 1 {
-        return true;
-    }
-    s[0] != 0x30
 }
 
 // A decimal number without leading zeros, below 4294967295.
-pub fn number_of(part: &[u8]) -> Parsed
-    ensures { parsed_as result ≡ number_of part.now }
+#[tactic(auto, using(crate::proofs::Laws::number_start, crate::proofs::Laws::number_lead, crate::proofs::Laws::number_go, crate::proofs::Laws::number_stop, crate::proofs::Laws::number_over, crate::proofs::Laws::number_end))]
+pub fn number_of(part: &[u8]) -> Result<u32, Refusal>
+    ensures { answered result ≡ number_of part.now }
 {
     if !has_lead(part) {
-        return Parsed::Bad;
+        return Err(Refusal::LayoutText);
     }
     let mut v: u64 = 0;
-    let mut i = 0;
-    while i < part.len() {
-        let x = part[i];
-        if !value::is_digit(x) {
-            return Parsed::Bad;
+    for x in part {
+        if !x.is_ascii_digit() {
+            return Err(Refusal::LayoutText);
         }
-        v = v * 10 + (x as u64 - 0x30);
-        if v >= ABSENT as u64 {
-            return Parsed::Bad;
+        v = v * 10 + u64::from(*x - b'0');
+        if v >= u64::from(ABSENT) {
+            return Err(Refusal::LayoutText);
         }
-        i += 1;
     }
-    Parsed::Value(v as u32)
-}
-
-fn is_letter(x: u8) -> bool
-    ensures { result ≡ is_letter x }
-{
-    if x < 0x41 {
-        return false;
-    }
-    if x <= 0x5A {
-        return true;
-    }
-    if x < 0x61 {
-        return false;
-    }
-    x <= 0x7A
+    Ok(v as u32)
 }
 
 fn in_name(x: u8) -> bool
     ensures { result ≡ in_name x }
 {
-    if is_letter(x) {
-        return true;
-    }
-    if value::is_digit(x) {
-        return true;
-    }
-    x == 0x2D
+    x.is_ascii_alphabetic() || x.is_ascii_digit() || x == b'-'
 }
 
 // 1 to 30 letters, digits, hyphens.
 pub fn name_ok(part: &[u8]) -> bool
     ensures { result ≡ name_ok part.now }
 {
-    if part.len() == 0 {
-        return false;
-    }
-    if 30 < part.len() {
-        return false;
-    }
-    let mut i = 0;
-    while i < part.len() {
-        if !in_name(part[i]) {
-            return false;
-        }
-        i += 1;
-    }
-    true
+    1 <= part.len() && part.len() <= 30 && part.iter().all(|x| in_name(*x))
 }
 
 // Bytes 0x20 to 0x7E.
 pub fn mask_ok(part: &[u8]) -> bool
     ensures { result ≡ mask_ok part.now }
 {
-    let mut i = 0;
-    while i < part.len() {
-        if part[i] < 0x20 {
-            return false;
-        }
-        if 0x7E < part[i] {
-            return false;
-        }
-        i += 1;
-    }
-    true
+    part.iter().all(|x| b' ' <= *x && *x <= b'~')
 }
 
 // ---- names
-
-fn fold(x: u8) -> u8
-    ensures { result ≡ fold_of x }
-{
-    if x < 0x41 {
-        return x;
-    }
-    if 0x5A < x {
-        return x;
-    }
-    x + 0x20
-}
 
 // The same but for letter case.
 fn same_name(a: &[u8], b: &[u8]) -> bool
     ensures { result ≡ same_name a.now b.now }
 {
-    if a.len() != b.len() {
-        return false;
-    }
-    let mut i = 0;
-    while i < a.len() {
-        if fold(a[i]) != fold(b[i]) {
-            return false;
-        }
-        i += 1;
-    }
-    true
-}
-
-// A start that a table holds, as a position.
-pub fn wide(p: u32) -> usize
-    ensures { result ≡ p }
-{
-    p as usize
+    a.eq_ignore_ascii_case(b)
 }
 
 // The index of a name among the first `count` that the table points at, or how many these are.
 fn find_name(text: &[u8], starts: &[u32], count: usize, name: &[u8]) -> usize
     ensures { result ≡ index_in name.now (names_at text.now starts.now count) }
 {
-    let mut k = 0;
-    while k < count {
-        if starts.len() <= k {
-            return k;
-        }
-        let seen = name_at(text, wide(starts[k]));
-        if same_name(name, seen) {
-            return k;
-        }
-        k += 1;
-    }
-    k
+    let held = &starts[..count.min(starts.len())];
+    held.iter()
+        .position(|start| same_name(name, name_at(text, *start as usize)))
+        .unwrap_or(held.len())
 }
 
 // A name's number, and how many different names the table then holds.
@@ -258,29 +148,14 @@ pub fn see_name(text: &[u8], starts: &mut [u32], count: usize, at: usize) -> See
     ensures count_value { result.count ≡ count_after text.now starts.old count at }
     ensures starts_after { starts.new ≡ starts_after text.now starts.old count at }
 {
-    let name = name_at(text, at);
-    let k = find_name(text, starts, count, name);
-    if k != count {
-        return Seen {
-            number: k,
-            count: count,
-        };
-    }
-    if starts.len() <= count {
-        return Seen {
-            number: k,
-            count: count,
-        };
-    }
-    if 4294967296 <= at {
-        return Seen {
-            number: k,
-            count: count,
-        };
+    let number = find_name(text, starts, count, name_at(text, at));
+    let is_new = number == count && count < starts.len() && at <= u32::MAX as usize;
+    if !is_new {
+        return Seen { number, count };
     }
     starts[count] = at as u32;
     Seen {
-        number: k,
+        number,
         count: count + 1,
     }
 }

@@ -15,6 +15,7 @@ pub fn read_full<R: Read>(from: &mut R, buf: &mut [u8]) -> io::Result<usize>
     ensures end { IfOk result (λ n. n < length buf.new → IsAtEnd (R.remaining from.new)) }
 {
     let mut done = 0;
+    // Kept: no plainer. How many bytes a read gives is known only behind it.
     while done < buf.len() {
         let n = from.read(&mut buf[done..])?;
         if n == 0 {

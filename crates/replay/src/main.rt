@@ -7,11 +7,14 @@
 
 #![tactic(auto)]
 
+use codes::number_in;
+use decode::{Reading, decode_record};
+use encode::encode_record;
+use items::ValueList;
+use layout::Layout;
 use reading::read_full;
 use std::io;
-use testing::{
-    at, first_bytes, first_layout, first_words, holds_bytes, holds_words, line_at, more, narrow,
-};
+use testing::{Gathered, at, first, holds, narrow};
 
 const WORDS: usize = 512;
 
@@ -19,128 +22,72 @@ const BYTES: usize = 1024;
 
 // ---- words and bytes of a line
 
-fn digit(c: u8) -> u8 {
-    if c < 58 {
-        return c % 16;
+// The hexadecimal number that a part of a line spells; 0 where it spells none.
+fn hex(part: &[u8]) -> u64 {
+    match std::str::from_utf8(part) {
+        Ok(text) => u64::from_str_radix(text, 16).unwrap_or(0),
+        Err(_) => 0,
     }
-    (c % 16 + 9) % 16
 }
 
-fn push(v: u64, c: u8) -> u64 {
-    std::num::wrapping_add_u64(v % 0x1000_0000_0000_0000 * 16, digit(c) as u64)
+// The words of a line, each behind a blank, in place of those gathered.
+fn words_in(words: &mut Gathered<u64>, line: &[u8]) {
+    words.clear();
+    for part in line.split(|b| *b == b' ').skip(1) {
+        words.push(hex(part));
+    }
 }
 
-// The words so far and this byte: a blank begins a word.
-fn word_step(words: &mut [u64; WORDS], n: usize, c: u8) -> usize {
-    if c == 32 {
-        if n < WORDS {
-            words[n] = 0;
-            return n + 1;
-        }
-        return n;
+// The bytes of a line's pairs of digits, from its third byte on, in place of those gathered.
+fn bytes_in(bytes: &mut Gathered<u8>, line: &[u8]) {
+    bytes.clear();
+    for pair in line.get(2..).unwrap_or(b"").chunks_exact(2) {
+        bytes.push((hex(pair) % 256) as u8);
     }
-    if n == 0 {
-        return n;
-    }
-    if n <= WORDS {
-        words[n - 1] = push(words[n - 1], c);
-    }
-    n
-}
-
-fn words_in(words: &mut [u64; WORDS], line: &[u8]) -> usize {
-    let mut n = 0;
-    let mut i = 0;
-    while i < line.len() {
-        n = word_step(words, n, line[i]);
-        i += 1;
-    }
-    n
-}
-
-// The byte of two digits.
-fn byte_in(line: &[u8], i: usize) -> u8 {
-    if i < 2 * BYTES {
-        let high = digit(at(line, i));
-        let low = digit(at(line, i + 1));
-        return high % 16 * 16 + low % 16;
-    }
-    0
-}
-
-// Each pair of digits, from the third byte on.
-fn bytes_in(bytes: &mut [u8; BYTES], line: &[u8]) -> usize {
-    let all = line.len() / 2;
-    let mut n = 0;
-    while n < BYTES {
-        if all <= n + 1 {
-            return n;
-        }
-        bytes[n] = byte_in(line, 2 * n + 2);
-        n += 1;
-    }
-    n
 }
 
 // ---- answers
 
-fn read_agrees(
-    layout: &[u32],
-    masks: &[u8],
-    page: u32,
-    bytes: &[u8],
-    items: &[u64],
-    text: &[u8],
+// A layout, a record and a value list, which each other's reading and writing should give, and the number that is asked for.
+#[derive(Clone, Copy)]
+struct Case<'a> {
+    layout: Layout<'a>,
+    bytes: &'a [u8],
+    list: ValueList<'a>,
     number: u64,
-) -> bool {
-    let mut out = [0xA5A5u64; WORDS];
-    let mut out_text = [0xA5u8; BYTES];
-    let mut counts = [-3i64; WORDS];
-    let r = decode::decode_record(
-        layout,
-        masks,
-        page,
-        bytes,
-        &mut out,
-        &mut out_text,
-        &mut counts,
-    );
-    if r.number as u64 != number {
-        return false;
-    }
-    if r.items != items.len() {
-        return false;
-    }
-    if r.text != text.len() {
-        return false;
-    }
-    if holds_words(&out, items) {
-        return holds_bytes(&out_text, text);
-    }
-    false
 }
 
-fn write_agrees(
-    layout: &[u32],
-    masks: &[u8],
-    page: u32,
-    bytes: &[u8],
-    items: &[u64],
-    text: &[u8],
-    number: u64,
-) -> bool {
-    let mut out = [0xA5u8; BYTES];
-    let mut counts = [-3i64; WORDS];
-    let w = encode::encode_record(layout, masks, page, items, text, &mut out, &mut counts);
-    if w.number as u64 != number {
-        return false;
+impl<'a> Case<'a> {
+    fn read_agrees(self) -> bool {
+        let mut out = [0xA5A5u64; WORDS];
+        let mut out_text = [0xA5u8; BYTES];
+        let mut counts = [-3i64; WORDS];
+        let r = decode_record(
+            &self.layout,
+            self.bytes,
+            &mut out,
+            &mut out_text,
+            &mut counts,
+        );
+        let used = r.unwrap_or(Reading { items: 0, text: 0 });
+        u64::from(number_in(r)) == self.number
+            && used.items == self.list.items.len()
+            && used.text == self.list.text.len()
+            && holds(&out, self.list.items)
+            && holds(&out_text, self.list.text)
     }
-    if w.length != bytes.len() {
-        return false;
+
+    fn write_agrees(self) -> bool {
+        let mut out = [0xA5u8; BYTES];
+        let mut counts = [-3i64; WORDS];
+        let r = encode_record(&self.layout, &self.list, &mut out, &mut counts);
+        u64::from(number_in(r)) == self.number
+            && r.unwrap_or(0) == self.bytes.len()
+            && holds(&out, self.bytes)
     }
-    holds_bytes(&out, bytes)
 }
 
+// How many cases there were, how many of them refused, and how many differ.
 #[derive(Drop)]
 struct Tally {
     cases: u64,
@@ -148,201 +95,103 @@ struct Tally {
     differ: u64,
 }
 
-fn counted(rt: &impl Print, t: Tally, line: &[u8], number: u64, agree: bool) -> io::Result<Tally> {
-    let refused = if number == 0 {
-        t.refused
-    } else {
-        more(t.refused)
+impl Tally {
+    fn new() -> Tally {
+        Tally {
+            cases: 0,
+            refused: 0,
+            differ: 0,
+        }
+    }
+
+    fn count(&mut self, rt: &impl Print, line: &[u8], number: u64, agrees: bool) -> io::Result<()> {
+        self.cases = self.cases.wrapping_add(1);
+        if number != 0 {
+            self.refused = self.refused.wrapping_add(1);
+        }
+        if agrees {
+            return Ok(());
+        }
+        self.differ = self.differ.wrapping_add(1);
+        print!(rt; "differs: case {} ", self.cases)?;
+        rt.write_all(line)?;
+        rt.write_all(b"\n")
+    }
+
+    fn print(&self, rt: &impl Print, name: &str) -> io::Result<()> {
+        println!(rt;
+            "{name}{} cases, {} refused, {} differ",
+            self.cases, self.refused, self.differ
+        )
+    }
+}
+
+fn run(rt: &impl Print, all: &[u8], read: &mut Tally, written: &mut Tally) -> io::Result<()> {
+    let mut layout = Gathered {
+        cells: &mut [0u64; WORDS],
+        len: 0,
     };
-    let cases = more(t.cases);
-    if agree {
-        return Ok(Tally {
-            cases,
-            refused,
-            differ: t.differ,
-        });
-    }
-    print!(rt; "differs: case {cases} ")?;
-    rt.write_all(line)?;
-    rt.write_all(b"\n")?;
-    Ok(Tally {
-        cases,
-        refused,
-        differ: more(t.differ),
-    })
-}
-
-fn summary(rt: &impl Print, name: &str, t: Tally) -> io::Result<()> {
-    let cases = t.cases;
-    let refused = t.refused;
-    let differ = t.differ;
-    println!(rt; "{name}{cases} cases, {refused} refused, {differ} differ")
-}
-
-fn put_layout(layout: &mut [u32; WORDS], words: &[u64; WORDS]) {
-    narrow(words, layout);
-}
-
-// The words of a layout line.
-fn layout_in(layout: &mut [u32; WORDS], n: usize, line: &[u8]) -> usize {
-    if at(line, 0) != b'L' {
-        return n;
-    }
-    let mut words = [0u64; WORDS];
-    let n = words_in(&mut words, line);
-    put_layout(layout, &words);
-    n
-}
-
-fn bytes_of(letter: u8, bytes: &mut [u8; BYTES], n: usize, line: &[u8]) -> usize {
-    if at(line, 0) != letter {
-        return n;
-    }
-    bytes_in(bytes, line)
-}
-
-fn items_in(items: &mut [u64; WORDS], n: usize, line: &[u8]) -> usize {
-    if at(line, 0) != b'i' {
-        return n;
-    }
-    words_in(items, line)
-}
-
-// The page and the number of a line that asks.
-fn page_of(line: &[u8]) -> u32 {
-    digit(at(line, 2)) as u32
-}
-
-fn number_of(line: &[u8]) -> u64 {
-    let mut words = [0u64; WORDS];
-    words_in(&mut words, line);
-    words[1]
-}
-
-fn read_case(
-    rt: &impl Print,
-    t: Tally,
-    line: &[u8],
-    layout: &[u32],
-    masks: &[u8],
-    bytes: &[u8],
-    items: &[u64],
-    text: &[u8],
-) -> io::Result<Tally> {
-    if at(line, 0) != b'D' {
-        return Ok(t);
-    }
-    let number = number_of(line);
-    let agree = read_agrees(layout, masks, page_of(line), bytes, items, text, number);
-    counted(rt, t, line, number, agree)
-}
-
-fn written_case(
-    rt: &impl Print,
-    t: Tally,
-    line: &[u8],
-    layout: &[u32],
-    masks: &[u8],
-    bytes: &[u8],
-    items: &[u64],
-    text: &[u8],
-) -> io::Result<Tally> {
-    if at(line, 0) != b'E' {
-        return Ok(t);
-    }
-    let number = number_of(line);
-    let agree = write_agrees(layout, masks, page_of(line), bytes, items, text, number);
-    counted(rt, t, line, number, agree)
-}
-
-// How much of each is gathered, and the counts of the cases read and written.
-#[derive(Drop)]
-struct State {
-    layout: usize,
-    masks: usize,
-    bytes: usize,
-    items: usize,
-    text: usize,
-    read: Tally,
-    written: Tally,
-}
-
-fn step(
-    rt: &impl Print,
-    line: &[u8],
-    layout: &mut [u32; WORDS],
-    masks: &mut [u8; BYTES],
-    bytes: &mut [u8; BYTES],
-    items: &mut [u64; WORDS],
-    text: &mut [u8; BYTES],
-    s: State,
-) -> io::Result<State> {
-    let l = layout_in(layout, s.layout, line);
-    let m = bytes_of(b'm', masks, s.masks, line);
-    let b = bytes_of(b'r', bytes, s.bytes, line);
-    let i = items_in(items, s.items, line);
-    let t = bytes_of(b't', text, s.text, line);
-    let words = first_layout(layout, l);
-    let mask = first_bytes(masks, m);
-    let part = first_bytes(bytes, b);
-    let list = first_words(items, i);
-    let list_text = first_bytes(text, t);
-    Ok(State {
-        layout: l,
-        masks: m,
-        bytes: b,
-        items: i,
-        text: t,
-        read: read_case(rt, s.read, line, words, mask, part, list, list_text)?,
-        written: written_case(rt, s.written, line, words, mask, part, list, list_text)?,
-    })
-}
-
-fn none() -> Tally {
-    Tally {
-        cases: 0,
-        refused: 0,
-        differ: 0,
-    }
-}
-
-fn run(rt: &impl Print, all: &[u8]) -> io::Result<State> {
-    let mut layout = [0u32; WORDS];
-    let mut masks = [0u8; BYTES];
-    let mut bytes = [0u8; BYTES];
-    let mut items = [0u64; WORDS];
-    let mut text = [0u8; BYTES];
-    let mut s = State {
-        layout: 0,
-        masks: 0,
-        bytes: 0,
-        items: 0,
-        text: 0,
-        read: none(),
-        written: none(),
+    let mut masks = Gathered {
+        cells: &mut [0u8; BYTES],
+        len: 0,
     };
-    let mut from = 0;
-    while from < all.len() {
-        let line = line_at(all, from);
-        s = step(
-            rt,
-            line,
-            &mut layout,
-            &mut masks,
-            &mut bytes,
-            &mut items,
-            &mut text,
-            s,
-        )?;
-        from = from + line.len() + 1;
+    let mut bytes = Gathered {
+        cells: &mut [0u8; BYTES],
+        len: 0,
+    };
+    let mut items = Gathered {
+        cells: &mut [0u64; WORDS],
+        len: 0,
+    };
+    let mut text = Gathered {
+        cells: &mut [0u8; BYTES],
+        len: 0,
+    };
+    let mut narrowed = [0u32; WORDS];
+    for line in all.split(|b| *b == b'\n') {
+        let asked = at(line, 0);
+        match asked {
+            b'L' => {
+                words_in(&mut layout, line);
+                narrow(layout.held(), &mut narrowed);
+            }
+            b'm' => bytes_in(&mut masks, line),
+            b'r' => bytes_in(&mut bytes, line),
+            b'i' => words_in(&mut items, line),
+            b't' => bytes_in(&mut text, line),
+            b'D' | b'E' => {
+                let mut words = line.split(|b| *b == b' ').skip(1);
+                let case = Case {
+                    layout: Layout {
+                        words: first(&narrowed, layout.len),
+                        masks: masks.held(),
+                        page: (words.next().map_or(0, hex) % 16) as u32,
+                    },
+                    bytes: bytes.held(),
+                    list: ValueList {
+                        items: items.held(),
+                        text: text.held(),
+                    },
+                    number: words.next().map_or(0, hex),
+                };
+                if asked == b'D' {
+                    read.count(rt, line, case.number, case.read_agrees())?;
+                } else {
+                    written.count(rt, line, case.number, case.write_agrees())?;
+                }
+            }
+            _ => {}
+        }
     }
-    Ok(s)
+    Ok(())
 }
 
 fn main(rt: HostRuntime) -> io::Result<()> {
     let mut all = [0u8; 393216];
     let n = read_full(&mut rt.reader(), &mut all)?;
-    let s = run(&rt, &all[..n])?;
-    summary(&rt, "read: ", s.read)?;
-    summary(&rt, "written: ", s.written)
+    let mut read = Tally::new();
+    let mut written = Tally::new();
+    run(&rt, &all[..n], &mut read, &mut written)?;
+    read.print(&rt, "read: ")?;
+    written.print(&rt, "written: ")
 }

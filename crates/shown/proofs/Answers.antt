@@ -2,12 +2,13 @@
 use mathlib.Core.Path.{◌≡◌, refl, sym, ap, ◌∙◌}
 use mathlib.Core.Bool.{Bool, true, false}
 use mathlib.Core.List.{List, []}
-use Prim.Native.Nat.{ℕ, ◌-◌, ◌≤◌}
+use Prim.Native.Nat.{ℕ, ◌≤◌}
 use native.Mathlib.Nat.{sub-zero}
+use Rattle.codes.specs.declared.Refusal.{Refusal}
+use Rattle.codes.specs.Refusals.{number_of as refusal_number}
 use borrow.Author.Tests.{ne_eqb, eq-eqb}
 use lib.IntN.{ℤ}
 use lib.ListN.{length, take, replicate, length-replicate}
-use Rattle.decode.specs.declared.Reading.{Reading}
 use Rattle.layout_text.specs.Form.{lines_of as text_lines}
 use Rattle.layout_text.specs.Reading.{words_of, masks_of, page_of, refusal, layout_into, LayoutRead}
 use Rattle.zeros.proofs.Filled.{in-front}
@@ -41,10 +42,10 @@ zeros-filled : (n : ℕ) (xs : List ℕ) → xs ≡ replicate n 0 → xs ≡ fil
 zeros-filled n xs e = e ∙ ap (λ (m : ℕ). replicate m 0) (sym (length-replicate {A = ℕ} n 0) ∙ ap length (sym e) ∙ sym (sub-zero (length xs)))
 
 -- a refusal leaves the buffers of zeros as they are
-pub refused-reads : (d : Decoded) (n : ℕ) (r : Reading) (items text : List ℕ) → items ≡ replicate item_room 0 → text ≡ replicate most 0
-    → (r.number ≡ n) × ((r.items ≡ 0) × (r.text ≡ 0)) → d ≡ refused n → RecordRead d r.number r.items r.text items items text text [] []
-refused-reads d n r items text a b e q =
-    rw q (record { numbered = e.0; words_read = e.1.0; text_bytes = e.1.1; items_left = zeros-filled item_room items a; text_left = zeros-filled most text b; counts_left = refl })
+pub refused-reads : (d : Decoded) (e : Refusal) (items text : List ℕ) → items ≡ replicate item_room 0 → text ≡ replicate most 0
+    → d ≡ refused (refusal_number e) → RecordRead d (refusal_number e) 0 0 items items text text [] []
+refused-reads d e items text a b q =
+    rw q (record { numbered = refl; words_read = refl; text_bytes = refl; items_left = zeros-filled item_room items a; text_left = zeros-filled most text b; counts_left = refl })
 
 -- the record's outcome is the answer, where the buffers have the sizes that the answer names
 pub decoded-reads : (d : Decoded) (f : ℕ → ℕ → ℕ → Decoded) (number words bytes : ℕ) (items items' text text' : List ℕ) (counts counts' : List ℤ)
@@ -65,12 +66,12 @@ module _ (text w₀ w m₀ m : List ℕ) (number page words bytes : ℕ) (g : La
 
   -- the call that reads the record by it
   pub call-is : number ≡ 0 → (s : List ℕ) → decode_record (words_of (text_lines text)) (masks_of (text_lines text)) (page_of (text_lines text)) s item_room most work_words
-      ≡ decode_record (take (words - 0) w) (take (bytes - 0) m) page s item_room most work_words
+      ≡ decode_record (take words w) (take bytes m) page s item_room most work_words
   call-is z s =
       let p = page-held text w₀ w m₀ m number page words bytes g z in
       let x = words-held text w₀ w m₀ m number page words bytes g z in
       let y = masks-held text w₀ w m₀ m number page words bytes g z in
-      rw (p, sub-zero words, sub-zero bytes, x, y)
+      rw (p, x, y)
 
 -- ---- what is printed
 
@@ -82,24 +83,16 @@ module _ (layout : List ℕ) (lm : Bool) (bytes : List ℕ) (bm : Bool) (number 
   text-there : (take used text' ≡ texts_of (answer layout lm bytes bm)) × (used ≤ length text')
   text-there = in-front (length text) used text' (texts_of (answer layout lm bytes bm)) g.text_bytes g.text_left
 
-  pub items-inside : words ≤ length items'
-  items-inside = items-there.1
-
-  pub text-inside : used ≤ length text'
-  text-inside = text-there.1
-
   pub prints-refusal : (number ≡ 0 → ⊥) → refused_text number ≡ shown layout lm bytes bm
   unfolding shown printed
   prints-refusal n =
       let k : number_of (answer layout lm bytes bm) ≡ 0 → ⊥ = λ z. n (g.numbered ∙ z) in
       ap refused_text g.numbered ∙ rw (ne_eqb (number_of (answer layout lm bytes bm)) 0 k)
 
-  pub prints-list : number ≡ 0 → listed layout (take (words - 0) items') (take (used - 0) text') ≡ shown layout lm bytes bm
+  pub prints-list : number ≡ 0 → listed layout (take words items') (take used text') ≡ shown layout lm bytes bm
   unfolding shown printed
   prints-list z =
       let k : number_of (answer layout lm bytes bm) ≡ 0 = sym g.numbered ∙ z in
-      ap (λ (n : ℕ). listed layout (take n items') (take (used - 0) text')) (sub-zero words)
-      ∙ ap (λ (n : ℕ). listed layout (take words items') (take n text')) (sub-zero used)
-      ∙ ap (λ (l : List ℕ). listed layout l (take used text')) items-there.0
+      ap (λ (l : List ℕ). listed layout l (take used text')) items-there.0
       ∙ ap (listed layout (items_of (answer layout lm bytes bm))) text-there.0
       ∙ rw (eq-eqb (number_of (answer layout lm bytes bm)) 0 k)

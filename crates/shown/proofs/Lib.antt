@@ -1,6 +1,5 @@
 pub mod Sinks
 pub mod Windows
-pub mod Texts
 pub mod Lists
 pub mod Answers
 pub mod Pieces

@@ -2,31 +2,27 @@
 use Rattle.std.specs.Prelude.{ℕ, ◌+◌, ◌-◌, ◌≡◌, cond, List, [], ◌∷◌, eqb, ltb, length, set}
 use Rattle.shown.specs.declared.Sink.{Sink}
 
+-- the buffer, and that it is the one that was lent
 pub record State : Type 0 where
+  pub name : ℕ
   pub out : List ℕ
-  pub sink : Sink
+  pub skip : ℕ
+  pub used : ℕ
 
-abbrev pub state : List ℕ → Sink → State
-state o s = record { out = o; sink = s }
-
--- so many bytes passed over, so many in the buffer
-abbrev pub sink_at : ℕ → ℕ → Sink
-sink_at k u = record { skip = k; used = u }
+abbrev pub state : Sink → State
+state s = record { name = s.out.ghost_name; out = s.out.now; skip = s.skip; used = s.used }
 
 -- one byte more: passed over, stored, or dropped where the buffer is full
 abbrev pub stored : State → ℕ → State
-stored x b =
-    cond (ltb x.sink.used (length x.out))
-    (state (set x.out x.sink.used b) (sink_at 0 (x.sink.used + 1)))
-    x
+stored x b = cond (ltb x.used (length x.out)) (record { name = x.name; out = set x.out x.used b; skip = 0; used = x.used + 1 }) x
 
 unfoldable pub one : State → ℕ → State
-one x b = cond (eqb x.sink.skip 0) (stored x b) (state x.out (sink_at (x.sink.skip - 1) x.sink.used))
+one x b = cond (eqb x.skip 0) (stored x b) (record { name = x.name; out = x.out; skip = x.skip - 1; used = x.used })
 
 unfoldable pub all : State → List ℕ → State
 all x [] = x
 all x (b ∷ bs) = all (one x b) bs
 
 -- what a function that hands over these bytes leaves
-abbrev pub Took : State → List ℕ → List ℕ → Sink → Type 0
-Took x bytes o s = state o s ≡ all x bytes
+abbrev pub Took : State → List ℕ → State → Type 0
+Took x bytes y = y ≡ all x bytes

@@ -2,398 +2,291 @@
 
 #![tactic(auto)]
 
-ghost use Rattle.std.specs.Prelude.{◌≡◌, Bool, [], ◌∷◌, ℕ, ◌≤◌, ◌/◌, length, take, drop, replicate};
+ghost use Rattle.std.specs.Prelude.{◌≡◌, Bool, [], ◌∷◌, ◌++◌, ℕ, ◌≤◌, length, take, drop, replicate};
+ghost use Rattle.codes.specs.Refusals.{number_of, number_in};
 ghost use Rattle.hex_field.specs.Hex.{hex_of};
-ghost use Rattle.layout_text.specs.Reading.{Spells};
-ghost use Rattle.shown.specs.Shown.{is_plain, escape, escaped, number_text, float_text, number_in, kind_name, value_of, name_of, name_line, kind_line, value_line, lines_of, listed};
+ghost use Rattle.shown.specs.Shown.{ended, is_plain, escape, escaped, number_text, float_text, kind_name, value_of, name_of, lines_of, listed};
 ghost use Rattle.shown.specs.Shown.{refused_text, item_room, too_long, answer, shown, piece};
 ghost use Rattle.text.specs.Text.{front};
 ghost use Rattle.walks.specs.Records.{most, RecordRead};
+ghost use Rattle.decode.specs.Answered.{words_used, bytes_used};
 ghost use Rattle.shown.specs.Sink.{state, Took};
 
-use codes::{
-    ELEMENT, MAX_RECORD, TAG_BOOL, TAG_DECIMAL, TAG_FLOAT, TAG_INT, TAG_LIST, TAG_NULL, TAG_STRUCT,
-    TAG_TEXT,
-};
+use codes::{ELEMENT, MAX_RECORD, Refusal, Tag};
 use decode::{Reading, decode_record};
-use items::{ITEM_WORDS, Item, fetch, scalar_in};
-use layout_text::{name_starts, name_with, read_layout};
-use text::{Shown, display_scalar};
+use items::{Item, ValueList};
+use layout::Layout;
+use layout_text::{Names, read_layout};
+use text::display_scalar;
 use value::Scalar;
 
 // ---- a buffer that takes bytes from a place on
 
 // How many bytes are still passed over, and how many the buffer holds.
-#[derive(Clone, Copy)]
-pub struct Sink {
+#[derive(Drop)]
+pub struct Sink<'a> {
+    pub out: &'a mut [u8],
     pub skip: usize,
     pub used: usize,
 }
 
-fn push(out: &mut [u8], s: Sink, b: u8) -> Sink
-    ensures { Took (state out.old s) (b ∷ []) out.new result }
-{
-    if s.skip > 0 {
-        return Sink {
-            skip: s.skip - 1,
-            used: s.used,
-        };
+impl<'a> Sink<'a> {
+    #[tactic(auto, unfolding(crate::specs::Sink::all, crate::specs::Sink::one))]
+    fn push(&mut self, b: u8)
+        ensures { Took (state self.old) (b ∷ []) (state self.new) }
+    {
+        if self.skip > 0 {
+            self.skip -= 1;
+        } else if self.used < self.out.len() {
+            self.out[self.used] = b;
+            self.used += 1;
+        }
     }
-    let n = s.used;
-    if n < out.len() {
-        out[n] = b;
-        return Sink {
-            skip: 0,
-            used: n + 1,
-        };
-    }
-    s
-}
 
-fn push_all(out: &mut [u8], from: Sink, bytes: &[u8]) -> Sink
-    ensures { Took (state out.old from) bytes.now out.new result }
-{
-    let mut s = from;
-    let mut i = 0;
-    while i < bytes.len() {
-        s = push(out, s, bytes[i]);
-        i += 1;
+    #[tactic(auto, using(crate::proofs::Sinks::all_more), unfolding(crate::specs::Sink::all))]
+    fn push_all(&mut self, bytes: &[u8])
+        ensures { Took (state self.old) bytes.now (state self.new) }
+    {
+        for b in bytes {
+            self.push(*b);
+        }
     }
-    s
 }
 
 // ---- values
-
-// The lower-case digits of at most eight bytes.
-fn push_hex(out: &mut [u8], s: Sink, part: &[u8]) -> Sink
-    requires { length part.now ≤ 8 }
-    ensures { Took (state out.old s) (hex_of 0 part.now) out.new result }
-{
-    let mut digits = [0u8; 16];
-    hex_field::to_hex(part, 0, &mut digits);
-    let n = part.len() * 2;
-    push_all(out, s, &digits[0..n])
-}
 
 // Whether a byte of a text stands for itself.
 fn is_plain(b: u8) -> bool
     ensures { result ≡ is_plain b }
 {
-    if b < 0x20 {
-        return false;
-    }
-    if b > 0x7E {
-        return false;
-    }
-    b != 0x5C
+    b' ' <= b && b <= b'~' && b != b'\\'
 }
 
-fn push_escape(out: &mut [u8], s: Sink, b: u8) -> Sink
-    ensures { Took (state out.old s) (escape b) out.new result }
+// ---- kinds and names
+
+#[tactic(auto, unfolding(crate::specs::Shown::kind_name))]
+fn kind_name(tag: u64) -> &'static [u8]
+    ensures { result.now ≡ kind_name tag }
 {
-    if is_plain(b) {
-        return push(out, s, b);
-    }
-    let t = push(out, s, 0x5C);
-    push_hex(out, t, &[b])
-}
-
-fn push_text(out: &mut [u8], from: Sink, text: &[u8]) -> Sink
-    ensures { Took (state out.old from) (escaped text.now) out.new result }
-{
-    let mut s = from;
-    let mut i = 0;
-    while i < text.len() {
-        s = push_escape(out, s, text[i]);
-        i += 1;
-    }
-    s
-}
-
-// A number's text; nothing for a scalar that has none.
-fn push_number(out: &mut [u8], s: Sink, v: Scalar) -> Sink
-    ensures { Took (state out.old s) (number_text v) out.new result }
-{
-    let mut shown = [0u8; 24];
-    match display_scalar(v, &mut shown) {
-        Shown::Length(n) => {
-            let t = &shown[0..n];
-            return push_all(out, s, t);
-        }
-        Shown::Refused => {
-            return s;
-        }
+    match Tag::try_from(tag) {
+        Ok(Tag::Null) => b"null",
+        Ok(Tag::Text) => b"text",
+        Ok(Tag::Int) => b"int",
+        Ok(Tag::Decimal) => b"decimal",
+        Ok(Tag::Float) => b"float",
+        Ok(Tag::Bool) => b"bool",
+        Ok(Tag::List) => b"list",
+        Ok(Tag::Struct) => b"struct",
+        Err(_) => b"",
     }
 }
 
-// A float's word as sixteen digits.
-fn push_word(out: &mut [u8], s: Sink, w: u64) -> Sink
-    ensures { Took (state out.old s) (float_text w) out.new result }
-{
-    let mut bytes = [0u8; 8];
-    binary::put_word(&mut bytes, 0, w);
-    push_hex(out, s, &bytes)
-}
-
-// The bytes of a text buffer that an item's start and length name.
-fn part_of(text: &[u8], start: u64, count: u64) -> &[u8]
-    ensures { result.now ≡ take count (drop start text.now) }
-{
-    if start >= text.len() as u64 {
-        return &text[0..0];
-    }
-    let a = start as usize;
-    let rest = &text[a..];
-    if count >= rest.len() as u64 {
-        return rest;
-    }
-    let n = count as usize;
-    &rest[0..n]
-}
-
-// The scalar whose text an item shows: for a Bool, a List and a Struct the third word, without a sign.
-fn number_in(it: Item) -> Scalar
-    ensures { result ≡ number_in it }
-{
-    if it.tag < TAG_BOOL {
-        return scalar_in(it);
-    }
-    if it.tag > TAG_STRUCT {
-        return scalar_in(it);
-    }
-    Scalar::Int(false, it.a)
-}
-
-fn push_value(out: &mut [u8], s: Sink, it: Item, text: &[u8]) -> Sink
-    ensures { Took (state out.old s) (value_of text.now it) out.new result }
-{
-    if it.tag == TAG_TEXT {
-        return push_text(out, s, part_of(text, it.a, it.b));
-    }
-    if it.tag == TAG_FLOAT {
-        return push_word(out, s, it.a);
-    }
-    push_number(out, s, number_in(it))
-}
-
-// ---- lines
-
-fn push_kind(out: &mut [u8], s: Sink, tag: u64) -> Sink
-    ensures { Took (state out.old s) (kind_name tag) out.new result }
-{
-    match tag {
-        TAG_NULL => push_all(out, s, b"null"),
-        TAG_TEXT => push_all(out, s, b"text"),
-        TAG_INT => push_all(out, s, b"int"),
-        TAG_DECIMAL => push_all(out, s, b"decimal"),
-        TAG_FLOAT => push_all(out, s, b"float"),
-        TAG_BOOL => push_all(out, s, b"bool"),
-        TAG_LIST => push_all(out, s, b"list"),
-        TAG_STRUCT => push_all(out, s, b"struct"),
-        _ => s,
-    }
-}
-
-// A name, by the table of where names start.
-fn push_name(
-    out: &mut [u8],
-    s: Sink,
-    layout: &[u8],
-    starts: &[u32; 1024],
-    count: usize,
-    name: u64,
-) -> Sink
-    requires { Spells layout.now starts.now count }
-    ensures { Took (state out.old s) (name_of layout.now name) out.new result }
+// The first spelling of a name; the elements of a List have none.
+#[tactic(auto, unfolding(crate::specs::Shown::name_of))]
+fn name_of<'a>(names: Names<'a>, name: u64) -> &'a [u8]
+    ensures { result.now ≡ name_of names.entry.text.now name }
 {
     if name < ELEMENT {
-        let n = name_with(layout, starts, count, name as u32);
-        return push_all(out, s, n);
+        names.spelled(name as u32)
+    } else {
+        b""
     }
-    s
 }
 
-fn name_line(
-    out: &mut [u8],
-    s: Sink,
-    layout: &[u8],
-    starts: &[u32; 1024],
-    count: usize,
-    it: Item,
-) -> Sink
-    requires { Spells layout.now starts.now count }
-    ensures { Took (state out.old s) (name_line layout.now it) out.new result }
-{
-    let a = push_all(out, s, b"name=");
-    let b = push_name(out, a, layout, starts, count, it.name);
-    push(out, b, 10)
-}
+// ---- values and lines
 
-fn kind_line(out: &mut [u8], s: Sink, it: Item) -> Sink
-    ensures { Took (state out.old s) (kind_line it) out.new result }
-{
-    let a = push_all(out, s, b"kind=");
-    let b = push_kind(out, a, it.tag);
-    push(out, b, 10)
-}
-
-fn value_line(out: &mut [u8], s: Sink, it: Item, text: &[u8]) -> Sink
-    ensures { Took (state out.old s) (value_line text.now it) out.new result }
-{
-    let a = push_all(out, s, b"value=");
-    let b = push_value(out, a, it, text);
-    push(out, b, 10)
-}
-
-// The three lines of an item.
-fn push_item(
-    out: &mut [u8],
-    s: Sink,
-    layout: &[u8],
-    starts: &[u32; 1024],
-    count: usize,
-    it: Item,
-    text: &[u8],
-) -> Sink
-    requires { Spells layout.now starts.now count }
-    ensures { Took (state out.old s) (lines_of layout.now text.now it) out.new result }
-{
-    let a = name_line(out, s, layout, starts, count, it);
-    let b = kind_line(out, a, it);
-    value_line(out, b, it, text)
-}
-
-// The lines of all items.
-fn push_items(
-    out: &mut [u8],
-    from: Sink,
-    layout: &[u8],
-    starts: &[u32; 1024],
-    count: usize,
-    items: &[u64],
-    text: &[u8],
-) -> Sink
-    requires { Spells layout.now starts.now count }
-    ensures { Took (state out.old from) (listed layout.now items.now text.now) out.new result }
-{
-    let n = items.len() / ITEM_WORDS;
-    let mut s = from;
-    let mut k = 0;
-    while k < n {
-        s = push_item(out, s, layout, starts, count, fetch(items, k, n), text);
-        k += 1;
+impl<'a> Sink<'a> {
+    // The lower-case digits of at most eight bytes.
+    fn push_hex(&mut self, part: &[u8])
+        requires { length part.now ≤ 8 }
+        ensures { Took (state self.old) (hex_of 0 part.now) (state self.new) }
+    {
+        let mut digits = [0u8; 16];
+        if let Ok(n) = hex_field::to_hex(part, 0, &mut digits) {
+            self.push_all(&digits[..n]);
+        }
     }
-    s
-}
 
-// The same, with a table of names of its own.
-fn push_list(out: &mut [u8], s: Sink, layout: &[u8], items: &[u64], text: &[u8]) -> Sink
-    ensures { Took (state out.old s) (listed layout.now items.now text.now) out.new result }
-{
-    let mut starts = [0u32; 1024];
-    let count = name_starts(layout, &mut starts);
-    push_items(out, s, layout, &starts, count, items, text)
-}
+    #[tactic(auto, unfolding(crate::specs::Sink::all))]
+    fn push_escape(&mut self, b: u8)
+        ensures { Took (state self.old) (escape b) (state self.new) }
+    {
+        if is_plain(b) {
+            self.push(b);
+        } else {
+            self.push(b'\\');
+            self.push_hex(&[b]);
+        }
+    }
 
-fn push_refused(out: &mut [u8], s: Sink, number: u32) -> Sink
-    ensures { Took (state out.old s) (refused_text number) out.new result }
-{
-    let a = push_all(out, s, b"refused=");
-    let b = push_number(out, a, Scalar::Int(false, number as u64));
-    push(out, b, 10)
+    #[tactic(auto, using(crate::proofs::Sinks::escaped_more), unfolding(crate::specs::Shown::escaped, crate::specs::Sink::all))]
+    fn push_text(&mut self, text: &[u8])
+        ensures { Took (state self.old) (escaped text.now) (state self.new) }
+    {
+        for b in text {
+            self.push_escape(*b);
+        }
+    }
+
+    // A number's text; nothing for a scalar that has none.
+    #[tactic(auto, unfolding(crate::specs::Sink::all, crate::specs::Shown::number_text))]
+    fn push_number(&mut self, v: Scalar)
+        ensures { Took (state self.old) (number_text v) (state self.new) }
+    {
+        let mut digits = [0u8; 24];
+        if let Ok(n) = display_scalar(v, &mut digits) {
+            self.push_all(&digits[..n]);
+        }
+    }
+
+    // A float's word as sixteen digits.
+    #[tactic(auto, unfolding(crate::specs::Shown::float_text))]
+    fn push_word(&mut self, w: u64)
+        ensures { Took (state self.old) (float_text w) (state self.new) }
+    {
+        let mut bytes = [0u8; 8];
+        binary::put_word(&mut bytes, 0, w);
+        self.push_hex(&bytes);
+    }
+
+    // A Bool, a List and a Struct show their third word, which has no sign.
+    #[tactic(auto, unfolding(crate::specs::Shown::value_of))]
+    fn push_value(&mut self, it: Item, text: &[u8])
+        ensures { Took (state self.old) (value_of text.now it) (state self.new) }
+    {
+        match Tag::try_from(it.tag) {
+            Ok(Tag::Text) => self.push_text(it.text_in(text)),
+            Ok(Tag::Float) => self.push_word(it.a),
+            Ok(Tag::Bool | Tag::List | Tag::Struct) => {
+                self.push_number(Scalar::Int(false, it.a));
+            }
+            _ => self.push_number(it.scalar()),
+        }
+    }
+
+    #[tactic(auto, using(crate::proofs::Sinks::all_append))]
+    fn push_line(&mut self, word: &[u8], value: &[u8])
+        ensures { Took (state self.old) (word.now ++ (value.now ++ ended)) (state self.new) }
+    {
+        self.push_all(word);
+        self.push_all(value);
+        self.push(b'\n');
+    }
+
+    // The three lines of an item.
+    #[tactic(auto, using(crate::proofs::Sinks::all_append), unfolding(crate::specs::Shown::lines_of, crate::specs::Sink::all))]
+    fn push_item(&mut self, names: Names, it: Item, text: &[u8])
+        ensures { Took (state self.old) (lines_of names.entry.text.now text.now it) (state self.new) }
+    {
+        self.push_line(b"name=", name_of(names, it.name));
+        self.push_line(b"kind=", kind_name(it.tag));
+        self.push_all(b"value=");
+        self.push_value(it, text);
+        self.push(b'\n');
+    }
+
+    // The lines of all items.
+    #[tactic(auto, using(crate::proofs::Lists::items_more), unfolding(crate::specs::Shown::listed_from, crate::specs::Sink::all))]
+    fn push_items(&mut self, names: Names, list: &ValueList)
+        ensures { Took (state self.old) (listed names.entry.text.now list.now.items.now list.now.text.now) (state self.new) }
+    {
+        let n = list.item_count();
+        for k in 0..n {
+            self.push_item(names, list.fetch(k, n), list.text);
+        }
+    }
+
+    // The same, with a table of names of its own.
+    fn push_list(&mut self, layout: &[u8], list: &ValueList)
+        ensures { Took (state self.old) (listed layout.now list.now.items.now list.now.text.now) (state self.new) }
+    {
+        let mut table = [0u32; 1024];
+        self.push_items(Names::of(layout, &mut table), list);
+    }
+
+    #[tactic(auto, using(crate::proofs::Sinks::all_append), unfolding(crate::specs::Shown::refused_text, crate::specs::Sink::all))]
+    fn push_refused(&mut self, refusal: Refusal)
+        ensures { Took (state self.old) (refused_text (number_of refusal)) (state self.new) }
+    {
+        self.push_all(b"refused=");
+        self.push_number(Scalar::Int(false, u64::from(u32::from(refusal))));
+        self.push(b'\n');
+    }
 }
 
 // ---- the whole
 
-// Whether a file, which may have more bytes than these, is above what a buffer holds.
-fn too_long(bytes: &[u8], more: bool) -> bool
-    ensures { result ≡ too_long bytes.now more }
-{
-    if more {
-        return true;
-    }
-    MAX_RECORD < bytes.len()
+// The bytes of a file, and whether it has more.
+#[derive(Clone, Copy)]
+pub struct File<'a> {
+    pub bytes: &'a [u8],
+    pub more: bool,
 }
 
-fn refusal(number: u32) -> Reading
-    ensures { (result.number ≡ number) × ((result.items ≡ 0) × (result.text ≡ 0)) }
-{
-    Reading {
-        number,
-        items: 0,
-        text: 0,
+impl<'a> File<'a> {
+    // Whether the file is above what a buffer holds.
+    fn too_long(self) -> bool
+        ensures { result ≡ too_long self.entry.bytes.now self.entry.more }
+    {
+        self.more || MAX_RECORD < self.bytes.len()
     }
 }
 
 // The value list of a layout's text and a record, into buffers of zeros.
 fn read_both(
-    layout: &[u8],
-    layout_more: bool,
-    bytes: &[u8],
-    more: bool,
+    layout: File,
+    record: File,
     items: &mut [u64],
     text: &mut [u8],
-) -> Reading
+) -> Result<Reading, Refusal>
     requires { (items.old ≡ replicate item_room 0) × (text.old ≡ replicate most 0) }
-    ensures { RecordRead (answer layout.now layout_more bytes.now more)
-        result.number result.items result.text items.old items.new text.old text.new [] [] }
+    ensures { RecordRead (answer layout.entry.bytes.now layout.entry.more «record».entry.bytes.now «record».entry.more)
+        (number_in result) (words_used result) (bytes_used result) items.old items.new text.old text.new [] [] }
 {
-    if too_long(layout, layout_more) {
-        return refusal(16);
+    if layout.too_long() {
+        return Err(Refusal::NoRoom);
     }
     let mut words = [0u32; 6144];
     let mut masks = [0u8; 65536];
-    let l = read_layout(layout, &mut words, &mut masks);
-    if l.number != 0 {
-        return refusal(l.number);
+    let read = read_layout(layout.bytes, &mut words, &mut masks)?;
+    if record.too_long() {
+        return Err(Refusal::RecordLength);
     }
-    if too_long(bytes, more) {
-        return refusal(4);
-    }
+    let layout = Layout {
+        words: &words[..read.words],
+        masks: &masks[..read.masks],
+        page: read.page,
+    };
     let mut counts = [0i64; 1024];
-    let n = l.words;
-    let m = l.masks;
-    decode_record(
-        &words[0..n],
-        &masks[0..m],
-        l.page,
-        bytes,
-        items,
-        text,
-        &mut counts,
-    )
+    decode_record(&layout, record.bytes, items, text, &mut counts)
 }
 
 // The bytes that `show` prints, from a place on, to the front of a buffer; how many.
-pub fn show_at(
-    layout: &[u8],
-    layout_more: bool,
-    record: &[u8],
-    record_more: bool,
-    at: usize,
-    out: &mut [u8],
-) -> usize
-    ensures value { result ≡ length (piece at (length out.old) (shown layout.now layout_more «record».now record_more)) }
+pub fn show_at(layout: File, record: File, at: usize, out: &mut [u8]) -> usize
+    ensures value { result ≡ length (piece at (length out.old) (shown layout.entry.bytes.now layout.entry.more «record».entry.bytes.now «record».entry.more)) }
     ensures out_after { out.new ≡
-        front (piece at (length out.old) (shown layout.now layout_more «record».now record_more)) out.old }
+        front (piece at (length out.old) (shown layout.entry.bytes.now layout.entry.more «record».entry.bytes.now «record».entry.more)) out.old }
 {
     let mut items = [0u64; 8192];
     let mut text = [0u8; 65536];
-    let r = read_both(
-        layout,
-        layout_more,
-        record,
-        record_more,
-        &mut items,
-        &mut text,
-    );
-    let s = Sink { skip: at, used: 0 };
-    if r.number != 0 {
-        let t = push_refused(out, s, r.number);
-        return t.used;
+    let answer = read_both(layout, record, &mut items, &mut text);
+    let mut sink = Sink {
+        out,
+        skip: at,
+        used: 0,
+    };
+    match answer {
+        Ok(reading) => {
+            let list = ValueList {
+                items: &items[..reading.items],
+                text: &text[..reading.text],
+            };
+            sink.push_list(layout.bytes, &list);
+            sink.used
+        }
+        Err(refusal) => {
+            sink.push_refused(refusal);
+            sink.used
+        }
     }
-    let n = r.items;
-    let m = r.text;
-    let t = push_list(out, s, layout, &items[0..n], &text[0..m]);
-    t.used
 }

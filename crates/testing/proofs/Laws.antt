@@ -1,9 +1,7 @@
--- A buffer compared cell by cell, and how long a line is.
-use Rattle.std.proofs.Common.{◌≡◌, ℕ, zero, suc, ◌+◌, ◌-◌, ◌<◌, ◌≤◌, Bool, true, false, cond, ◌&&◌, eqb, List, [], ◌∷◌, length, get_or, drop, sym, refl, ap, ◌∙◌, not-suc-le-zero, le_antisymm, add-one, arith, length-drop, eq-eqb, ne_eqb, eqb-true}
+-- A buffer compared cell by cell.
+use Rattle.std.proofs.Common.{◌≡◌, ℕ, zero, suc, ◌+◌, ◌<◌, ◌≤◌, Bool, true, false, ◌&&◌, eqb, List, length, get_or, sym, refl, ap, ◌∙◌, not-suc-le-zero, le_antisymm, add-one, arith, eq-eqb, ne_eqb, eqb-true}
 use mathlib.Core.Bool.{and-false}
 use borrow.Author.Tests.{eqb-false}
-use Rattle.lists.specs.Scan.{before_by}
-use Rattle.lines.specs.Lines.{is_end, line_from}
 use Rattle.testing.specs.Holds.{holds_below, holds}
 
 pub holds-start : (buffer given : List ℕ) → holds_below buffer given 0 ≡ true
@@ -33,17 +31,3 @@ holds_not buffer given i y e q h = sym (differs buffer given i (length buffer) (
 
 pub holds-all : (buffer given : List ℕ) (i : ℕ) → i ≤ length buffer → length buffer ≤ i → holds_below buffer given i ≡ true → true ≡ holds buffer given
 holds-all buffer given i a b h = sym h ∙ ap (holds_below buffer given) (le_antisymm a b)
-
-before-short : (f : ℕ → Bool) (s : List ℕ) → length (before_by f s) ≤ length s
-unfolding before_by
-before-short f [] = omega arith
-before-short f (x ∷ s) = by (f x) (before-short f s)
-  where
-    by : (t : Bool) → length (before_by f s) ≤ length s → length (cond t [] (x ∷ before_by f s)) ≤ length (x ∷ s)
-    by true h = omega arith
-    by false h = omega (arith, h)
-
-pub line-short : (all : List ℕ) (from : ℕ) (line : List ℕ) → line ≡ line_from all from → length line ≤ length all - from
-line-short all from line e =
-    let k : length line ≡ length (line_from all from) = ap length e in
-    omega (arith, k, before-short is_end (drop from all), length-drop from all)

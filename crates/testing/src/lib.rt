@@ -1,80 +1,89 @@
-// What the programs that compare answers share: a cell, the front and the lines of what is given, and whether a buffer holds what it should.
+// What the programs that compare answers share: a cell, the front of what is given, and whether a buffer holds what it should.
 
 #![tactic(auto)]
 
-ghost use Rattle.std.specs.Prelude.{◌≡◌, ◌+◌, ◌-◌, ◌%◌, ◌≤◌, ◌++◌, map, length, take, drop, slice_index};
-ghost use Rattle.lists.specs.Part.{place_in};
-ghost use Rattle.lines.specs.Lines.{line_from, start_in};
+ghost use Rattle.std.specs.Prelude.{◌≡◌, ◌++◌, ℕ, map, length, take, drop, set, slice_index, min, max, ◌+◌};
 ghost use Rattle.testing.specs.Holds.{low_word, holds};
 
-// A count and one more.
-pub fn more(n: u64) -> u64
-    ensures { result ≡ (n + 1) % 18446744073709551616 }
-{
-    std::num::wrapping_add_u64(n, 1)
+// A cell of a buffer that is compared by its number.
+pub trait Cell: Copy {
+    ghost number: { Self → ℕ };
+
+    fn number(self) -> u64
+        ensures { result ≡ number self };
 }
 
-// ---- one cell; 0 where there is none
+impl Cell for u8 {
+    ghost number = { λ x. x };
 
+    fn number(self) -> u64 {
+        u64::from(self)
+    }
+}
+
+impl Cell for u32 {
+    ghost number = { λ x. x };
+
+    fn number(self) -> u64 {
+        u64::from(self)
+    }
+}
+
+impl Cell for u64 {
+    ghost number = { λ x. x };
+
+    fn number(self) -> u64 {
+        self
+    }
+}
+
+// The byte at a place; 0 where there is none.
 pub fn at(bytes: &[u8], i: usize) -> u8
     ensures { result ≡ slice_index bytes.now i }
 {
-    if i < bytes.len() {
-        return bytes[i];
-    }
-    0
+    bytes.get(i).copied().unwrap_or(0)
 }
 
-pub fn word_at(words: &[u64], i: usize) -> u64
-    ensures { result ≡ slice_index words.now i }
+// The first n cells, or all.
+pub fn first<T>(cells: &[T], n: usize) -> &[T]
+    ensures result_value { result.now ≡ take n cells.now }
+    ensures ref_ptr_value { result.ref_ptr ≡ cells.entry.ref_ptr }
 {
-    if i < words.len() {
-        return words[i];
-    }
-    0
+    if n < cells.len() { &cells[..n] } else { cells }
 }
 
-// ---- the first n cells, or all
+// ---- what is gathered, at the front of a buffer
 
-pub fn first_bytes(bytes: &[u8], n: usize) -> &[u8]
-    ensures result_value { result.now ≡ take n bytes.now }
-    ensures ref_ptr_value { result.ref_ptr ≡ bytes.entry.ref_ptr }
-{
-    if n < bytes.len() {
-        return &bytes[0..n];
-    }
-    bytes
+#[derive(Drop)]
+pub struct Gathered<'a, T> {
+    pub cells: &'a mut [T],
+    pub len: usize,
 }
 
-pub fn first_words(words: &[u64], n: usize) -> &[u64]
-    ensures result_value { result.now ≡ take n words.now }
-    ensures ref_ptr_value { result.ref_ptr ≡ words.entry.ref_ptr }
-{
-    if n < words.len() {
-        return &words[0..n];
+impl<'a, T: Copy> Gathered<'a, T> {
+    pub fn held(&self) -> &[T]
+        ensures { result.now ≡ take self.now.len self.now.cells.now }
+    {
+        first(self.cells, self.len)
     }
-    words
-}
 
-pub fn first_layout(layout: &[u32], n: usize) -> &[u32]
-    ensures result_value { result.now ≡ take n layout.now }
-    ensures ref_ptr_value { result.ref_ptr ≡ layout.entry.ref_ptr }
-{
-    if n < layout.len() {
-        return &layout[0..n];
+    pub fn clear(&mut self)
+        ensures len { self.new.len ≡ 0 }
+        ensures cells { self.new.cells.now ≡ self.old.cells.now }
+    {
+        self.len = 0;
     }
-    layout
-}
 
-// ---- lines
-
-// The line from a position on, without its 0x0A.
-pub fn line_at(all: &[u8], from: usize) -> &[u8]
-    ensures result_value { result.now ≡ line_from all.now from }
-    ensures ref_ptr_value { result.ref_ptr ≡ place_in all.entry (start_in all.now from) }
-    ensures result_in_bounds { length result.now ≤ length all.now - from }
-{
-    lines::name_at(all, from)
+    // One cell more, where the buffer has place.
+    pub fn push(&mut self, value: T)
+        ensures len { self.new.len ≡ min (self.old.len + 1) (max self.old.len (length self.old.cells.now)) }
+        ensures cells { self.new.cells.now ≡ set self.old.cells.now self.old.len value }
+    {
+        if self.len < self.cells.len() {
+            self.cells[self.len] = value;
+            self.len += 1;
+        }
+    }
 }
 
 // ---- a layout's words, given as those of a list
@@ -89,57 +98,27 @@ pub fn low_word(x: u64) -> u32
 pub fn narrow(words: &[u64], layout: &mut [u32])
     ensures { layout.new ≡ take (length layout.old) (map low_word words.now) ++ drop (length words.now) layout.old }
 {
-    let n = lists::least(words.len(), layout.len());
-    let mut i = 0;
-    while i < n {
+    for i in 0..words.len().min(layout.len()) {
         layout[i] = low_word(words[i]);
-        i += 1;
     }
 }
 
-// ---- whether a buffer holds these values, then zeros
-
-pub fn holds_bytes(buffer: &[u8], bytes: &[u8]) -> bool
-    ensures { result ≡ holds buffer.now bytes.now }
+// The number of the cell at a place; 0 where there is none.
+fn number_at<T: Cell>(cells: &[T], i: usize) -> u64
+    ensures { result ≡ slice_index (map T.number cells.now) i }
 {
-    let mut i = 0;
-    while i < buffer.len() {
-        if buffer[i] != at(bytes, i) {
-            return false;
-        }
-        i += 1;
-    }
-    true
+    cells.get(i).map_or(0, |cell| cell.number())
 }
 
-pub fn holds_words(buffer: &[u64], words: &[u64]) -> bool
-    ensures { result ≡ holds buffer.now words.now }
+// Whether a buffer holds these values, then zeros.
+pub fn holds<T: Cell, V: Cell>(buffer: &[T], values: &[V]) -> bool
+    ensures { result ≡ holds (map T.number buffer.now) (map V.number values.now) }
 {
-    let mut i = 0;
-    while i < buffer.len() {
-        if buffer[i] != word_at(words, i) {
+    // Kept: the proof of `all` over places did not close.
+    for (i, cell) in buffer.iter().enumerate() {
+        if cell.number() != number_at(values, i) {
             return false;
         }
-        i += 1;
-    }
-    true
-}
-
-fn wide(x: u32) -> u64
-    ensures { result ≡ x }
-{
-    x as u64
-}
-
-pub fn holds_layout(buffer: &[u32], words: &[u64]) -> bool
-    ensures { result ≡ holds buffer.now words.now }
-{
-    let mut i = 0;
-    while i < buffer.len() {
-        if wide(buffer[i]) != word_at(words, i) {
-            return false;
-        }
-        i += 1;
     }
     true
 }

@@ -6,15 +6,14 @@
 
 #![tactic(auto)]
 
-ghost use Rattle.std.specs.Prelude.{◌<◌, ◌≤◌, length};
+ghost use Rattle.std.specs.Prelude.{◌<◌, ◌≤◌};
 
-use codes::{KIND_INT, TAG_INT};
-use decode_scalar::Decoded;
-use float::Parsed;
+use codes::{Kind, Refusal, Tag};
+use decode_scalar::Field;
 use reading::read_full;
 use std::io;
-use testing::{at, more};
-use value::{Amount, Number, Scalar};
+use testing::{at, first};
+use value::{Scalar, Whole, Words};
 
 const PAGE_037: [u8; 256] = [
     0, 1, 2, 3, 156, 9, 134, 127, 151, 141, 142, 11, 12, 13, 14, 15, 16, 17, 18, 19, 157, 133, 8,
@@ -32,247 +31,184 @@ const PAGE_037: [u8; 256] = [
     56, 57, 179, 219, 220, 217, 218, 159,
 ];
 
-fn line(rt: &impl Print, name: &str, agree: u64, all: u64) -> io::Result<()> {
-    println!(rt; "{name}: {agree} of {all} agree")
+// How many of the cases that were tried agree.
+#[derive(Drop)]
+struct Tally {
+    agree: u64,
+    cases: u64,
+}
+
+impl Tally {
+    fn new() -> Tally {
+        Tally { agree: 0, cases: 0 }
+    }
+
+    fn count(&mut self, agrees: bool) {
+        self.cases = self.cases.wrapping_add(1);
+        self.agree = self.agree.wrapping_add(u64::from(agrees));
+    }
+
+    fn print(&self, rt: &impl Print, name: &str) -> io::Result<()> {
+        println!(rt; "{name}: {} of {} agree", self.agree, self.cases)
+    }
 }
 
 // ---- page 037
 
-fn page_agrees(b: u8) -> bool {
-    let x = PAGE_037[b as usize];
-    if ebcdic::to_ascii(b) == x {
-        return ebcdic::to_ebcdic(x) == b;
-    }
-    false
-}
-
 fn page_037(rt: &impl Print) -> io::Result<()> {
-    let mut agree: u64 = 0;
-    let mut b: u8 = 0;
-    while b < 255 {
-        if page_agrees(b) {
-            agree = more(agree);
-        }
-        b += 1;
+    let mut tally = Tally::new();
+    for (b, x) in PAGE_037.iter().enumerate() {
+        let byte = (b % 256) as u8;
+        tally.count(ebcdic::to_ascii(byte) == *x && ebcdic::to_ebcdic(*x) == byte);
     }
-    if page_agrees(255) {
-        agree = more(agree);
-    }
-    line(rt, "page 037", agree, 256)
+    tally.print(rt, "page 037")
 }
 
 // ---- COBOL: rows of 83 bytes, "ed + 000000000000123456 ZZ,ZZ9.99-         10 hex of the bytes"
 
-fn row(all: &[u8], k: usize) -> &[u8] {
-    if k < 4096 {
-        let a = k * 83;
-        let e = a + 83;
-        if e <= all.len() {
-            return &all[a..e];
+const ROW: usize = 83;
+
+// The most bytes of a field.
+const WIDTH: usize = 18;
+
+#[derive(Clone, Copy)]
+struct Row<'a> {
+    bytes: &'a [u8],
+}
+
+impl<'a> Row<'a> {
+    fn field(self, from: usize, to: usize) -> &'a str {
+        match self.bytes.get(from..to) {
+            Some(part) => std::str::from_utf8(part).unwrap_or(""),
+            None => "",
         }
     }
-    &all[0..0]
-}
 
-fn hex_value(c: u8) -> u8
-    ensures { result < 16 }
-{
-    if c >= 97 {
-        return (c - 87) % 16;
+    fn kind(self) -> u8 {
+        at(self.bytes, 0)
     }
-    if c >= 48 {
-        return (c - 48) % 16;
+
+    fn signed(self) -> bool {
+        at(self.bytes, 1) == b's'
     }
-    0
-}
 
-// The 18 digits from column 5 on.
-fn size_in(r: &[u8]) -> u64 {
-    let mut v: u64 = 0;
-    let mut i = 5;
-    while i < 23 {
-        v = v % 100000000000000000 * 10 + binary::wide(hex_value(at(r, i)) % 10);
-        i += 1;
+    fn number(self) -> Whole {
+        let size = self.field(5, 23).parse().unwrap_or(0);
+        value::signed_size(at(self.bytes, 3) == b'-', size)
     }
-    v
-}
 
-// The width, at most 18.
-fn width_in(r: &[u8]) -> usize
-    ensures { result ≤ 18 }
-{
-    let w = hex_value(at(r, 43)) % 10 * 10 + hex_value(at(r, 44)) % 10;
-    if w <= 18 {
-        return w as usize;
+    fn width(self) -> usize
+        ensures { result ≤ 18 }
+    {
+        self.field(43, 45).parse().unwrap_or(0).min(WIDTH)
     }
-    0
-}
 
-// Whether a part holds the bytes that the row has from column 46 on.
-fn same_bytes(r: &[u8], part: &[u8]) -> bool {
-    let mut i = 0;
-    while i < part.len() {
-        let k = i % 18 * 2;
-        let b = hex_value(at(r, 46 + k)) * 16 + hex_value(at(r, 47 + k));
-        if part[i] != b {
-            return false;
-        }
-        i += 1;
+    fn mask(self) -> &'a [u8] {
+        self.bytes.get(24..42).unwrap_or(b"")
     }
-    true
+
+    fn has(self, c: u8) -> bool {
+        self.mask().contains(&c)
+    }
+
+    // Whether a part holds the bytes of the row.
+    fn holds(self, part: &[u8]) -> bool {
+        part.iter().enumerate().all(|(i, b)| {
+            let k = i % WIDTH * 2;
+            u8::from_str_radix(self.field(46 + k, 48 + k), 16) == Ok(*b)
+        })
+    }
 }
 
-// A signed Embedded Int; it has no mask and no text.
-fn encode_int(part: &mut [u8], none: &[u8], size: u64, negative: bool) -> bool {
-    let word = value::word_of(negative, size);
-    encode_scalar::encode_scalar(part, KIND_INT, 1, 1, 0, 0, none, 0, TAG_INT, word, 0, none) == 0
+// A signed Embedded Int.
+fn embedded() -> Field {
+    Field {
+        kind: Kind::Int.into(),
+        p: 1,
+        q: 1,
+        r: 0,
+        s: 0,
+    }
 }
 
-fn decode_int(part: &[u8]) -> Number {
+// It has no mask and no text.
+fn encode_int(part: &mut [u8], n: Whole) -> Result<(), Refusal> {
+    let item = Words {
+        tag: Tag::Int.into(),
+        a: value::word_of(n.negative, n.size),
+        b: 0,
+    };
+    encode_scalar::encode_scalar(part, embedded(), b"", 0, item, b"")
+}
+
+fn decode_int(part: &[u8]) -> Option<Whole> {
     let mut text = [0u8; 1];
-    match decode_scalar::decode_scalar(KIND_INT, 1, 1, 0, 0, part, &mut text) {
-        Decoded::Value(v) => whole_in(v),
-        Decoded::Refused(_) => Number::Bad,
+    match decode_scalar::decode_scalar(embedded(), 0, part, &mut text) {
+        Ok(Scalar::Int(negative, size)) => Some(Whole { negative, size }),
+        _ => None,
     }
 }
 
-fn whole_in(v: Scalar) -> Number {
-    match v {
-        Scalar::Int(negative, size) => Number::Of(negative, size),
-        Scalar::Null => Number::Bad,
-        Scalar::Text(_, _) => Number::Bad,
-        Scalar::Decimal(_, _, _) => Number::Bad,
-        Scalar::Float(_) => Number::Bad,
-        Scalar::FloatBits(_) => Number::Bad,
-        Scalar::Bool(_) => Number::Bad,
-    }
-}
-
-fn encode_row(r: &[u8], part: &mut [u8], size: u64, negative: bool) -> bool {
-    let kind = at(r, 0);
-    let signed = at(r, 1) == 115;
-    if kind == 112 {
-        return packed::encode(part, negative, size, signed);
-    }
-    if kind == 122 {
-        return zoned::encode(part, 0, negative, size, signed);
-    }
-    if kind == 105 {
-        return encode_int(part, &r[0..0], size, negative);
-    }
-    let w = part.len();
-    if 24 + 18 <= r.len() {
-        if w <= 18 {
-            let e = 24 + w;
-            return edited::encode(part, 0, &r[24..e], Amount::Of(negative, size)) == 0;
+fn encode_row(r: Row, part: &mut [u8]) -> Result<(), Refusal> {
+    let n = r.number();
+    match r.kind() {
+        b'p' => packed::encode(part, n, r.signed()),
+        b'z' => zoned::encode(part, 0, n, r.signed()),
+        b'i' => encode_int(part, n),
+        _ => {
+            let mask = first(r.mask(), part.len());
+            edited::encode(part, 0, mask, Ok(n))
         }
     }
-    false
 }
 
-fn decode_row(r: &[u8], part: &[u8]) -> Number {
-    let kind = at(r, 0);
-    if kind == 112 {
-        return packed::decode(part);
+fn decode_row(r: Row, part: &[u8]) -> Option<Whole> {
+    match r.kind() {
+        b'p' => packed::decode(part).ok(),
+        b'z' => zoned::decode(part, 0).ok(),
+        b'i' => decode_int(part),
+        _ => edited::decode(part, 0, true).ok(),
     }
-    if kind == 122 {
-        return zoned::decode(part, 0);
-    }
-    if kind == 105 {
-        return decode_int(part);
-    }
-    edited::decode(part, 0, true)
-}
-
-fn is_number(n: Number, negative: bool, size: u64) -> bool {
-    match n {
-        Number::Of(m, v) => {
-            if v == size {
-                return m == negative;
-            }
-            false
-        }
-        Number::Bad => false,
-        Number::Big => false,
-    }
-}
-
-// 0 has no sign.
-fn minus_in(r: &[u8], size: u64) -> bool {
-    if size == 0 {
-        return false;
-    }
-    at(r, 3) == 45
 }
 
 // Whether COBOL's bytes read as the number; a 0 that the mask inserts reads as a digit more, so such a mask is only written.
-fn reads_back(r: &[u8], part: &[u8], negative: bool, size: u64) -> bool {
-    if has(r, 48) {
-        return true;
-    }
-    is_number(decode_row(r, part), negative, size)
+fn reads_back(r: Row, part: &[u8]) -> bool {
+    r.has(b'0') || decode_row(r, part) == Some(r.number())
 }
 
 // A row that writes and reads as COBOL does.
-fn part_agrees(r: &[u8], part: &mut [u8], size: u64, negative: bool) -> bool {
-    if encode_row(r, part, size, negative) {
-        if same_bytes(r, part) {
-            return reads_back(r, part, negative, size);
-        }
-    }
-    false
+fn part_agrees(r: Row, part: &mut [u8]) -> bool {
+    encode_row(r, part).is_ok() && r.holds(part) && reads_back(r, part)
 }
 
-fn row_agrees(r: &[u8]) -> bool {
-    let size = size_in(r);
-    let negative = minus_in(r, size);
-    let w = width_in(r);
-    let mut buf = [0u8; 18];
-    part_agrees(r, &mut buf[0..w], size, negative)
-}
-
-fn has(r: &[u8], c: u8) -> bool {
-    let mut i = 24;
-    while i < 42 {
-        if at(r, i) == c {
-            return true;
-        }
-        i += 1;
-    }
-    false
+fn row_agrees(r: Row) -> bool {
+    let mut buf = [0u8; WIDTH];
+    part_agrees(r, &mut buf[..r.width()])
 }
 
 // Where the Rust departs from COBOL and the port with it: 0 where every digit is suppressed, and a B among suppressed stars.
-fn departs(r: &[u8]) -> bool {
-    if has(r, 57) {
-        if has(r, 66) {
-            return has(r, 42);
-        }
-        return false;
+fn departs(r: Row) -> bool {
+    if r.has(b'9') {
+        r.has(b'B') && r.has(b'*')
+    } else {
+        r.number().size == 0
     }
-    size_in(r) == 0
 }
 
 fn cobol(rt: &impl Print, all: &[u8], kind: u8, name: &str) -> io::Result<()> {
-    let mut agree: u64 = 0;
-    let mut rows: u64 = 0;
+    let mut tally = Tally::new();
     let mut other: u64 = 0;
-    let mut k = 0;
-    while k < 789 {
-        let r = row(all, k);
-        if at(r, 0) == kind {
-            rows = more(rows);
-            if row_agrees(r) {
-                agree = more(agree);
-            } else {
-                if departs(r) {
-                    other = more(other);
-                }
+    for bytes in all.chunks_exact(ROW) {
+        let r = Row { bytes };
+        if r.kind() == kind {
+            let agrees = row_agrees(r);
+            tally.count(agrees);
+            if !agrees && departs(r) {
+                other = other.wrapping_add(1);
             }
         }
-        k += 1;
     }
-    line(rt, name, agree, rows)?;
+    tally.print(rt, name)?;
     if other > 0 {
         println!(rt; "{other} depart as docs/DIFFERENCES.md says")?;
     }
@@ -281,27 +217,21 @@ fn cobol(rt: &impl Print, all: &[u8], kind: u8, name: &str) -> io::Result<()> {
 
 // ---- IEEE 754
 
-fn word_in(f: Parsed) -> u64 {
-    match f {
-        Parsed::Value(v) => value::words_of(v).a,
-        Parsed::Bad => 0,
-    }
-}
-
 fn mixed(sum: u64, w: u64) -> u64 {
     sum % 0x1_0000_0000 * 31 + w % 0x1_0000_0000 + w / 0x1_0000_0000
 }
 
 fn read_in(part: &mut [u8], v: u64, bits: u32) -> u64 {
     binary::put_word(part, 1, v);
-    word_in(float::parse_float(part, bits, 1))
+    float::parse_float(part, bits, 1).map_or(0, |v| value::words_of(v).a)
 }
 
 fn write_in(part: &mut [u8], w: u64, bits: u32) -> u64 {
-    if float::encode_float(part, w, bits, 0) {
-        return binary::read_word(part, 0);
+    if float::encode_float(part, w, bits, 0).is_ok() {
+        binary::read_word(part, 0)
+    } else {
+        0
     }
-    0
 }
 
 fn read_half(h: u64) -> u64 {
@@ -336,12 +266,10 @@ fn verdict(rt: &impl Print, name: &str, sum: u64, right: u64) -> io::Result<()> 
 fn halves(rt: &impl Print) -> io::Result<()> {
     let mut sum: u64 = 0;
     let mut back: u64 = 0;
-    let mut h: u64 = 0;
-    while h < 65536 {
+    for h in 0..65536u64 {
         let w = read_half(h);
         sum = mixed(sum, w);
         back = mixed(back, write_half(w));
-        h += 1;
     }
     verdict(rt, "binary16 read, all 65536", sum, 115316097024)?;
     verdict(
@@ -358,25 +286,30 @@ fn next(x: u64) -> u64 {
     b ^ (b << 17)
 }
 
+// A word with a sign and digits of x, and an exponent of so many from the least on.
+fn near(x: u64, least: u64, powers: u64) -> u64
+    requires { 0 < powers }
+{
+    let sign = x & 0x8000_0000_0000_0000;
+    let digits = x & 0xF_FFFF_FFFF_FFFF;
+    let power = least.wrapping_add(x / 0x10_0000_0000_0000 % powers);
+    sign | power << 52 | digits
+}
+
 // A word whose exponent lies round that of a binary32's range.
 fn near_single(x: u64) -> u64 {
-    let sign = x / 0x8000_0000_0000_0000;
-    let digits = x % 0x10_0000_0000_0000;
-    let power = 850 + x / 0x10_0000_0000_0000 % 320;
-    sign * 0x8000_0000_0000_0000 + power * 0x10_0000_0000_0000 + digits
+    near(x, 850, 320)
 }
 
 fn random_floats(rt: &impl Print) -> io::Result<()> {
     let mut x: u64 = 88172645463325252;
     let mut single: u64 = 0;
     let mut wider: u64 = 0;
-    let mut i: u64 = 0;
-    while i < 100000 {
+    for _ in 0..100000 {
         x = next(x);
         let w = near_single(x);
         single = mixed(single, write_single(w));
         wider = mixed(wider, read_single(x % 0x1_0000_0000));
-        i += 1;
     }
     verdict(rt, "binary32 written, 100000", single, 88363357800)?;
     verdict(rt, "binary32 read, 100000", wider, 23726069014)
@@ -384,10 +317,7 @@ fn random_floats(rt: &impl Print) -> io::Result<()> {
 
 // A word whose exponent lies round that of a binary16's range.
 fn near_half(x: u64) -> u64 {
-    let sign = x / 0x8000_0000_0000_0000;
-    let digits = x % 0x10_0000_0000_0000;
-    let power = 995 + x / 0x10_0000_0000_0000 % 48;
-    sign * 0x8000_0000_0000_0000 + power * 0x10_0000_0000_0000 + digits
+    near(x, 995, 48)
 }
 
 // The same with no more than eleven digits after the leading one, so that many lie half way between two halves.
@@ -399,12 +329,10 @@ fn random_halves(rt: &impl Print) -> io::Result<()> {
     let mut x: u64 = 88172645463325252;
     let mut any: u64 = 0;
     let mut tied: u64 = 0;
-    let mut i: u64 = 0;
-    while i < 100000 {
+    for _ in 0..100000 {
         x = next(x);
         any = mixed(any, write_half(near_half(x)));
         tied = mixed(tied, write_half(near_tie(x)));
-        i += 1;
     }
     verdict(rt, "binary16 written, 100000", any, 106349413868)?;
     verdict(
@@ -417,52 +345,43 @@ fn random_halves(rt: &impl Print) -> io::Result<()> {
 
 // Numbers whose binary16 patterns are published: 0 and -0, the smallest and the largest subnormal number, the smallest normal one, 1/3, the
 // numbers round 1, -2, the largest number; and the request's 65520, and an infinity.
-const NUMBERS: [u64; 13] = [
-    0x0000_0000_0000_0000,
-    0x8000_0000_0000_0000,
-    0x3E70_0000_0000_0000,
-    0x3F0F_F800_0000_0000,
-    0x3F10_0000_0000_0000,
-    0x3FD5_5555_5555_5555,
-    0x3FEF_FC00_0000_0000,
-    0x3FF0_0000_0000_0000,
-    0x3FF0_0400_0000_0000,
-    0xC000_0000_0000_0000,
-    0x40EF_FC00_0000_0000,
-    0x40EF_FE00_0000_0000,
-    0xFFF0_0000_0000_0000,
-];
-
-const HALVES: [u64; 13] = [
-    0x0000, 0x8000, 0x0001, 0x03FF, 0x0400, 0x3555, 0x3BFF, 0x3C00, 0x3C01, 0xC000, 0x7BFF, 0x7C00,
-    0xFC00,
+const PUBLISHED: [(u64, u64); 13] = [
+    (0x0000_0000_0000_0000, 0x0000),
+    (0x8000_0000_0000_0000, 0x8000),
+    (0x3E70_0000_0000_0000, 0x0001),
+    (0x3F0F_F800_0000_0000, 0x03FF),
+    (0x3F10_0000_0000_0000, 0x0400),
+    (0x3FD5_5555_5555_5555, 0x3555),
+    (0x3FEF_FC00_0000_0000, 0x3BFF),
+    (0x3FF0_0000_0000_0000, 0x3C00),
+    (0x3FF0_0400_0000_0000, 0x3C01),
+    (0xC000_0000_0000_0000, 0xC000),
+    (0x40EF_FC00_0000_0000, 0x7BFF),
+    (0x40EF_FE00_0000_0000, 0x7C00),
+    (0xFFF0_0000_0000_0000, 0xFC00),
 ];
 
 fn published(rt: &impl Print) -> io::Result<()> {
-    let mut right: u64 = 0;
-    let mut i: usize = 0;
-    while i < 13 {
-        if write_half(NUMBERS[i]) == HALVES[i] {
-            right = more(right);
-        }
-        i += 1;
+    let mut tally = Tally::new();
+    for (number, half) in &PUBLISHED {
+        tally.count(write_half(*number) == *half);
     }
-    line(rt, "binary16 as published, written", right, 13)
+    tally.print(rt, "binary16 as published, written")
 }
 
 fn main(rt: HostRuntime) -> io::Result<()> {
     let mut all = [0u8; 65536];
     let n = read_full(&mut rt.reader(), &mut all)?;
     page_037(&rt)?;
-    cobol(&rt, &all[..n], 112, "COBOL packed, written and read")?;
-    cobol(&rt, &all[..n], 122, "COBOL zoned, written and read")?;
+    cobol(&rt, &all[..n], b'p', "COBOL packed, written and read")?;
+    cobol(&rt, &all[..n], b'z', "COBOL zoned, written and read")?;
     cobol(
         &rt,
         &all[..n],
-        105,
+        b'i',
         "COBOL whole numbers with an embedded sign, written and read",
     )?;
-    cobol(&rt, &all[..n], 101, "COBOL edited, written and read")?;
+    cobol(&rt, &all[..n], b'e', "COBOL edited, written and read")?;
     published(&rt)?;
     halves(&rt)?;
     random_halves(&rt)?;

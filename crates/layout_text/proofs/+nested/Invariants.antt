@@ -1,3 +1,4 @@
+-- The entries passed are well nested, so those left decide; a call looks one level deeper.
 use mathlib.Core.Path.{◌≡◌}
 use Prim.Native.Nat.{◌-◌, ◌≤◌}
 use Rattle.layout_text.specs.Walk.{nested_in}

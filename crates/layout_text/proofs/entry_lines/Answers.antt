@@ -1,115 +1,121 @@
-use Rattle.layout_text.specs.Form.{name_word, offset_word, width_word, kind_word, occurs_word, depending_word, span_word, p_word, q_word, r_word, mask_word}
-use Rattle.layout_text.proofs.Values.{line-within, mask-order}
-use Rattle.layout_text.proofs.Eleven.{tells}
+-- Each line that is read leaves the lines behind it to ask (`Eleven`); one that is refused, by 17, ends the entry.
+use Rattle.std.proofs.lemmas.Result.{err_from_is_err_and}
+use Rattle.lines.specs.Lines.{name_ok}
+use Rattle.layout_text.specs.Form.{is_number, optional, mask_for, name_word, offset_word, width_word, kind_word, occurs_word, depending_word, span_word, p_word, q_word, r_word, mask_word}
+use Rattle.layout_text.specs.Walk.{number_in, option_in}
+use Rattle.layout_text.proofs.Step.{line_17, number_17}
+use Rattle.layout_text.proofs.Eleven.{stop0, stop1, stop2, stop3, stop4, stop5, stop6, stop7, stop8, stop9, stop10, told}
 use Rattle.layout_text.proofs.entry_lines.Goals as goal
 
-pub name_in-name-requires : goal.name_in-name-requires
-name_in-name-requires c =
-    let at-args = c.args in
-    line-within name_word at-args.text.now at-args.at c.line_at.result c.line_at.ensures
+pub returns-in_err-name : goal.returns-in_err-name
+returns-in_err-name c =
+    let a = c.args in
+    let t = a.text.now in
+    let p = err_from_is_err_and c.from_residual.result c.from_residual.ensures.1 in
+    rw (p.1, p.2) (
+      line_17 name_ok name_word t a.at _ c.in_err-name.ensures,
+      λ k h. stop0 t a.at k h _ c.in_err-name.ensures,
+    )
 
-pub number_in-offset-requires : goal.number_in-offset-requires
-number_in-offset-requires c =
-    let at-args = c.args in
-    let at-name-in = c.name_in-name in
-    line-within offset_word at-args.text.now at-name-in.result.next c.line_at-2.result c.line_at-2.ensures
+pub returns-in_err-offset : goal.returns-in_err-offset
+returns-in_err-offset c =
+    let a = c.args in
+    let t = a.text.now in
+    let p = err_from_is_err_and c.from_residual-in_err-offset.result c.from_residual-in_err-offset.ensures.1 in
+    rw (p.1, p.2) (
+      number_17 (number_in t) is_number offset_word t c.in_ok-name.name.next _ c.in_err-offset.ensures,
+      λ k h. stop1 t a.at k h c.in_ok-name.name c.in_ok-name.ensures _ c.in_err-offset.ensures,
+    )
 
-pub number_in-width-requires : goal.number_in-width-requires
-number_in-width-requires c =
-    let at-args = c.args in
-    let at-number-in = c.number_in-offset in
-    line-within width_word at-args.text.now at-number-in.result.next c.line_at-3.result c.line_at-3.ensures
+pub returns-in_err-width : goal.returns-in_err-width
+returns-in_err-width c =
+    let a = c.args in
+    let t = a.text.now in
+    let p = err_from_is_err_and c.from_residual-in_err-width.result c.from_residual-in_err-width.ensures.1 in
+    rw (p.1, p.2) (
+      number_17 (number_in t) is_number width_word t c.in_ok-offset.offset.next _ c.in_err-width.ensures,
+      λ k h. stop2 t a.at k h c.in_ok-name.name c.in_ok-name.ensures c.in_ok-offset.offset c.in_ok-offset.ensures _ c.in_err-width.ensures,
+    )
 
-pub number_in-kind-requires : goal.number_in-kind-requires
-number_in-kind-requires c =
-    let at-args = c.args in
-    let at-number-in2 = c.number_in-width in
-    line-within kind_word at-args.text.now at-number-in2.result.next c.line_at-4.result c.line_at-4.ensures
+pub returns-in_err-kind : goal.returns-in_err-kind
+returns-in_err-kind c =
+    let a = c.args in
+    let t = a.text.now in
+    let p = err_from_is_err_and c.from_residual-in_err-kind.result c.from_residual-in_err-kind.ensures.1 in
+    rw (p.1, p.2) (
+      number_17 (number_in t) is_number kind_word t c.in_ok-width.width.next _ c.in_err-kind.ensures,
+      λ k h. stop3 t a.at k h c.in_ok-name.name c.in_ok-name.ensures c.in_ok-offset.offset c.in_ok-offset.ensures c.in_ok-width.width c.in_ok-width.ensures _ c.in_err-kind.ensures,
+    )
 
-pub option_in-occurs-requires : goal.option_in-occurs-requires
-option_in-occurs-requires c =
-    let at-args = c.args in
-    let at-number-in3 = c.number_in-kind in
-    line-within occurs_word at-args.text.now at-number-in3.result.next c.line_at-5.result c.line_at-5.ensures
+pub returns-in_err-occurs : goal.returns-in_err-occurs
+returns-in_err-occurs c =
+    let a = c.args in
+    let t = a.text.now in
+    let p = err_from_is_err_and c.from_residual-in_err-occurs.result c.from_residual-in_err-occurs.ensures.1 in
+    rw (p.1, p.2) (
+      number_17 (option_in t) (optional is_number) occurs_word t c.in_ok-kind.kind.next _ c.in_err-occurs.ensures,
+      λ k h. stop4 t a.at k h c.in_ok-name.name c.in_ok-name.ensures c.in_ok-offset.offset c.in_ok-offset.ensures c.in_ok-width.width c.in_ok-width.ensures c.in_ok-kind.kind c.in_ok-kind.ensures _ c.in_err-occurs.ensures,
+    )
 
-pub depending_in-depending-requires : goal.depending_in-depending-requires
-depending_in-depending-requires c =
-    let at-args = c.args in
-    let at-option-in = c.option_in-occurs in
-    line-within depending_word at-args.text.now at-option-in.result.next c.line_at-6.result c.line_at-6.ensures
+pub returns-in_err-depending : goal.returns-in_err-depending
+returns-in_err-depending c =
+    let a = c.args in
+    let t = a.text.now in
+    let p = err_from_is_err_and c.from_residual-in_err-depending.result c.from_residual-in_err-depending.ensures.1 in
+    rw (p.1, p.2) (
+      line_17 (optional name_ok) depending_word t c.in_ok-occurs.occurs.next _ c.in_err-depending.ensures,
+      λ k h. stop5 t a.at k h c.in_ok-name.name c.in_ok-name.ensures c.in_ok-offset.offset c.in_ok-offset.ensures c.in_ok-width.width c.in_ok-width.ensures c.in_ok-kind.kind c.in_ok-kind.ensures c.in_ok-occurs.occurs c.in_ok-occurs.ensures _ c.in_err-depending.ensures,
+    )
 
-pub number_in-span-requires : goal.number_in-span-requires
-number_in-span-requires c =
-    let at-args = c.args in
-    let at-depending-in = c.depending_in-depending in
-    line-within span_word at-args.text.now at-depending-in.result.next c.line_at-7.result c.line_at-7.ensures
+pub returns-in_err-span : goal.returns-in_err-span
+returns-in_err-span c =
+    let a = c.args in
+    let t = a.text.now in
+    let p = err_from_is_err_and c.from_residual-in_err-span.result c.from_residual-in_err-span.ensures.1 in
+    rw (p.1, p.2) (
+      number_17 (number_in t) is_number span_word t c.in_ok-depending.depending.next _ c.in_err-span.ensures,
+      λ k h. stop6 t a.at k h c.in_ok-name.name c.in_ok-name.ensures c.in_ok-offset.offset c.in_ok-offset.ensures c.in_ok-width.width c.in_ok-width.ensures c.in_ok-kind.kind c.in_ok-kind.ensures c.in_ok-occurs.occurs c.in_ok-occurs.ensures c.in_ok-depending.depending c.in_ok-depending.ensures _ c.in_err-span.ensures,
+    )
 
-pub number_in-p-requires : goal.number_in-p-requires
-number_in-p-requires c =
-    let at-args = c.args in
-    let at-number-in4 = c.number_in-span in
-    line-within p_word at-args.text.now at-number-in4.result.next c.line_at-8.result c.line_at-8.ensures
+pub returns-in_err-p : goal.returns-in_err-p
+returns-in_err-p c =
+    let a = c.args in
+    let t = a.text.now in
+    let p = err_from_is_err_and c.from_residual-in_err-p.result c.from_residual-in_err-p.ensures.1 in
+    rw (p.1, p.2) (
+      number_17 (number_in t) is_number p_word t c.in_ok-span.span.next _ c.in_err-p.ensures,
+      λ k h. stop7 t a.at k h c.in_ok-name.name c.in_ok-name.ensures c.in_ok-offset.offset c.in_ok-offset.ensures c.in_ok-width.width c.in_ok-width.ensures c.in_ok-kind.kind c.in_ok-kind.ensures c.in_ok-occurs.occurs c.in_ok-occurs.ensures c.in_ok-depending.depending c.in_ok-depending.ensures c.in_ok-span.span c.in_ok-span.ensures _ c.in_err-p.ensures,
+    )
 
-pub number_in-q-requires : goal.number_in-q-requires
-number_in-q-requires c =
-    let at-args = c.args in
-    let at-number-in5 = c.number_in-p in
-    line-within q_word at-args.text.now at-number-in5.result.next c.line_at-9.result c.line_at-9.ensures
+pub returns-in_err-q : goal.returns-in_err-q
+returns-in_err-q c =
+    let a = c.args in
+    let t = a.text.now in
+    let p = err_from_is_err_and c.from_residual-in_err-q.result c.from_residual-in_err-q.ensures.1 in
+    rw (p.1, p.2) (
+      number_17 (number_in t) is_number q_word t c.in_ok-p.p.next _ c.in_err-q.ensures,
+      λ k h. stop8 t a.at k h c.in_ok-name.name c.in_ok-name.ensures c.in_ok-offset.offset c.in_ok-offset.ensures c.in_ok-width.width c.in_ok-width.ensures c.in_ok-kind.kind c.in_ok-kind.ensures c.in_ok-occurs.occurs c.in_ok-occurs.ensures c.in_ok-depending.depending c.in_ok-depending.ensures c.in_ok-span.span c.in_ok-span.ensures c.in_ok-p.p c.in_ok-p.ensures _ c.in_err-q.ensures,
+    )
 
-pub number_in-r-requires : goal.number_in-r-requires
-number_in-r-requires c =
-    let at-args = c.args in
-    let at-number-in6 = c.number_in-q in
-    line-within r_word at-args.text.now at-number-in6.result.next c.line_at-10.result c.line_at-10.ensures
+pub returns-in_err-r : goal.returns-in_err-r
+returns-in_err-r c =
+    let a = c.args in
+    let t = a.text.now in
+    let p = err_from_is_err_and c.from_residual-in_err-r.result c.from_residual-in_err-r.ensures.1 in
+    rw (p.1, p.2) (
+      number_17 (number_in t) is_number r_word t c.in_ok-q.q.next _ c.in_err-r.ensures,
+      λ k h. stop9 t a.at k h c.in_ok-name.name c.in_ok-name.ensures c.in_ok-offset.offset c.in_ok-offset.ensures c.in_ok-width.width c.in_ok-width.ensures c.in_ok-kind.kind c.in_ok-kind.ensures c.in_ok-occurs.occurs c.in_ok-occurs.ensures c.in_ok-depending.depending c.in_ok-depending.ensures c.in_ok-span.span c.in_ok-span.ensures c.in_ok-p.p c.in_ok-p.ensures c.in_ok-q.q c.in_ok-q.ensures _ c.in_err-r.ensures,
+    )
 
-pub mask_in-mask-requires : goal.mask_in-mask-requires
-mask_in-mask-requires c =
-    let at-args = c.args in
-    let at-number-in7 = c.number_in-r in
-    line-within mask_word at-args.text.now at-number-in7.result.next c.line_at-11.result c.line_at-11.ensures
-
-pub overflow_sub-result : goal.overflow_sub-result
-overflow_sub-result c =
-    let at-args = c.args in
-    let at-number-in3 = c.number_in-kind in
-    let at-number-in7 = c.number_in-r in
-    let at-line-at11 = c.line_at-11 in
-    mask-order at-args.text.now at-line-at11.result (line-within mask_word at-args.text.now at-number-in7.result.next at-line-at11.result at-line-at11.ensures) at-number-in3.result.value c.mask_in-mask.result c.mask_in-mask.ensures
+pub returns-in_err-mask : goal.returns-in_err-mask
+returns-in_err-mask c =
+    let a = c.args in
+    let t = a.text.now in
+    let p = err_from_is_err_and c.from_residual-in_err-mask.result c.from_residual-in_err-mask.ensures.1 in
+    rw (p.1, p.2) (
+      line_17 (mask_for c.in_ok-kind.kind.value) mask_word t c.in_ok-r.r.next _ c.in_err-mask.ensures.value,
+      λ k h. stop10 t a.at k h c.in_ok-name.name c.in_ok-name.ensures c.in_ok-offset.offset c.in_ok-offset.ensures c.in_ok-width.width c.in_ok-width.ensures c.in_ok-kind.kind c.in_ok-kind.ensures c.in_ok-occurs.occurs c.in_ok-occurs.ensures c.in_ok-depending.depending c.in_ok-depending.ensures c.in_ok-span.span c.in_ok-span.ensures c.in_ok-p.p c.in_ok-p.ensures c.in_ok-q.q c.in_ok-q.ensures c.in_ok-r.r c.in_ok-r.ensures _ c.in_err-mask.ensures.value,
+    )
 
 pub returns : goal.returns
-returns c =
-    let at-args = c.args in
-    let at-line-at = c.line_at in
-    let at-name-in = c.name_in-name in
-    let at-line-at2 = c.line_at-2 in
-    let at-number-in = c.number_in-offset in
-    let at-line-at3 = c.line_at-3 in
-    let at-number-in2 = c.number_in-width in
-    let at-line-at4 = c.line_at-4 in
-    let at-number-in3 = c.number_in-kind in
-    let at-line-at5 = c.line_at-5 in
-    let at-option-in = c.option_in-occurs in
-    let at-line-at6 = c.line_at-6 in
-    let at-depending-in = c.depending_in-depending in
-    let at-line-at7 = c.line_at-7 in
-    let at-number-in4 = c.number_in-span in
-    let at-line-at8 = c.line_at-8 in
-    let at-number-in5 = c.number_in-p in
-    let at-line-at9 = c.line_at-9 in
-    let at-number-in6 = c.number_in-q in
-    let at-line-at10 = c.line_at-10 in
-    let at-number-in7 = c.number_in-r in
-    let at-line-at11 = c.line_at-11 in
-    tells at-args.text.now at-args.at at-line-at.result at-line-at2.result at-line-at3.result at-line-at4.result at-line-at5.result at-line-at6.result at-line-at7.result at-line-at8.result at-line-at9.result at-line-at10.result at-line-at11.result
-    at-name-in.result at-depending-in.result c.mask_in-mask.result at-number-in.result at-number-in2.result at-number-in3.result at-option-in.result at-number-in4.result at-number-in5.result at-number-in6.result at-number-in7.result
-    at-line-at.ensures at-name-in.ensures
-    at-line-at2.ensures at-number-in.ensures
-    at-line-at3.ensures at-number-in2.ensures
-    at-line-at4.ensures at-number-in3.ensures
-    at-line-at5.ensures at-option-in.ensures
-    at-line-at6.ensures at-depending-in.ensures
-    at-line-at7.ensures at-number-in4.ensures
-    at-line-at8.ensures at-number-in5.ensures
-    at-line-at9.ensures at-number-in6.ensures
-    at-line-at10.ensures at-number-in7.ensures
-    at-line-at11.ensures c.mask_in-mask.ensures
+returns c = λ k h. rw c.start_of.ensures (told c.args.text.now c.args.at k h c.in_ok-name.name c.in_ok-name.ensures c.in_ok-offset.offset c.in_ok-offset.ensures c.in_ok-width.width c.in_ok-width.ensures c.in_ok-kind.kind c.in_ok-kind.ensures c.in_ok-occurs.occurs c.in_ok-occurs.ensures c.in_ok-depending.depending c.in_ok-depending.ensures c.in_ok-span.span c.in_ok-span.ensures c.in_ok-p.p c.in_ok-p.ensures c.in_ok-q.q c.in_ok-q.ensures c.in_ok-r.r c.in_ok-r.ensures c.in_ok-mask.mask c.in_ok-mask.ensures.value)

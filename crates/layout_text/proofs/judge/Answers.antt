@@ -1,54 +1,55 @@
-use mathlib.Core.Path.{sym, ◌∙◌}
+-- A line that is refused makes the text unlawful (`going-stop`); one entry more is `going_next`, and at the end the text is lawful (`going_end`).
+use Rattle.std.proofs.Common.{◌≡◌, ◌&&◌, ◌∙◌}
+use Rattle.std.proofs.lemmas.Result.{err_from_is_err_and}
 use borrow.Author.Rules.{rules}
-use Rattle.layout_text.proofs.Judging.{going_start, going-room, going-inside, going_on, going_next, going-stop, going_end, none_found}
+use Rattle.layout_text.proofs.Judging.{going_start, going-room, going-inside, going_on, going_next, going-stop, going_end}
 use Rattle.layout_text.proofs.judge.Goals as goal
+use Rattle.layout_text.proofs.judge.Goals.{then-entry_fine, else-entry_fine}
 
-pub returns-then-at-eq0 : goal.returns-then-at-eq0
-returns-then-at-eq0 c =
-    none_found c.args.text.now c.unlawful.result c.args.spans.now c.args.groups.now (c.page_line-page.ensures.refuses c.if-at-eq0.true) c.unlawful.ensures
+pub returns-in_err-page : goal.returns-in_err-page
+returns-in_err-page c = let p = err_from_is_err_and c.from_residual.result c.from_residual.ensures.1 in rw (p.1, p.2) c.in_err-page.ensures
 
 pub loop-at-init : goal.loop-at-init
-loop-at-init c =
-    going_start c.args.text.now c.page_line-page.result c.args.spans.now c.args.groups.now c.page_line-page.ensures c.if-at-eq0.false c.requires.spans_len c.requires.groups_len
+loop-at-init c = going_start c.args.text.now c.in_ok-page.page c.args.spans.now c.args.groups.now c.in_ok-page.ensures c.requires.spans_len c.requires.groups_len
 
-pub shape_of-spans-then-said-eq0 : goal.shape_of-spans-then-said-eq0
-shape_of-spans-then-said-eq0 c = c.loop-at.invariant.spans-long ∙ sym c.requires.spans_len
-
-pub shape_of-groups-then-said-eq0 : goal.shape_of-groups-then-said-eq0
-shape_of-groups-then-said-eq0 c = c.loop-at.invariant.groups-long ∙ sym c.requires.groups_len
-
-pub returns-then-said-eq0 : goal.returns-then-said-eq0
-returns-then-said-eq0 c =
-    none_found c.args.text.now c.unlawful-then-said-eq0.result c.loop-at.spans c.loop-at.groups (going-stop c.args.text.now c.loop-at.at c.loop-at.count c.loop-at.fine c.loop-at.masks c.loop-at.spans c.loop-at.groups c.loop-at.invariant c.entry_lines-said.result c.entry_lines-said.ensures c.loop-at-test.true c.if-said-eq0.true) c.unlawful-then-said-eq0.ensures
+pub returns-in_err-said : goal.returns-in_err-said
+returns-in_err-said c =
+    let l = c.loop-at in
+    let p = err_from_is_err_and c.from_residual-in_err-said.result c.from_residual-in_err-said.ensures.1 in
+    let e = c.in_err-said.ensures in
+    rw (p.1, p.2) (e.0, going-stop c.args.text.now l.at l.count l.fine l.masks l.spans l.groups l.invariant c.loop-at-test.true e.1)
 
 pub overflow_add-masks : goal.overflow_add-masks
 overflow_add-masks c =
-    let r = going-room c.args.text.now c.loop-at.at c.loop-at.count c.loop-at.fine c.loop-at.masks c.loop-at.spans c.loop-at.groups c.loop-at.invariant c.entry_lines-said.result c.entry_lines-said.ensures c.if-said-eq0.false in
-    let i = going-inside c.args.text.now c.loop-at.at c.loop-at.count c.loop-at.fine c.loop-at.masks c.loop-at.spans c.loop-at.groups c.loop-at.invariant c.entry_lines-said.result c.entry_lines-said.ensures c.if-said-eq0.false in
+    let l = c.loop-at in
+    let r = going-room c.args.text.now l.at l.count l.fine l.masks l.spans l.groups l.invariant c.in_ok-said.said c.in_ok-said.ensures in
+    let i = going-inside c.args.text.now l.at l.count l.fine l.masks l.spans l.groups l.invariant c.in_ok-said.said c.in_ok-said.ensures in
     search rules
 
 pub overflow_add-count : goal.overflow_add-count
 overflow_add-count c =
-    let i = c.loop-at.invariant.here.ahead in
-    let r = going_on c.args.text.now c.loop-at.at c.loop-at.count c.loop-at.fine c.loop-at.masks c.loop-at.spans c.loop-at.groups c.loop-at.invariant c.entry_lines-said.result c.entry_lines-said.ensures c.if-said-eq0.false in
+    let l = c.loop-at in
+    let i = l.invariant.here.ahead in
+    let r = going_on c.args.text.now l.at l.count l.fine l.masks l.spans l.groups l.invariant c.in_ok-said.said c.in_ok-said.ensures in
     search rules
 
 pub loop-at-smaller : goal.loop-at-smaller
 loop-at-smaller c =
-    let r = going_on c.args.text.now c.loop-at.at c.loop-at.count c.loop-at.fine c.loop-at.masks c.loop-at.spans c.loop-at.groups c.loop-at.invariant c.entry_lines-said.result c.entry_lines-said.ensures c.if-said-eq0.false in
+    let l = c.loop-at in
+    let r = going_on c.args.text.now l.at l.count l.fine l.masks l.spans l.groups l.invariant c.in_ok-said.said c.in_ok-said.ensures in
     let i = c.loop-at-test.true in
     search rules
 
 pub loop-at-preserved : goal.loop-at-preserved
 loop-at-preserved c =
-    going_next c.args.text.now c.loop-at.at c.loop-at.count c.loop-at.fine c.loop-at.masks c.loop-at.spans c.loop-at.groups c.loop-at.invariant c.entry_lines-said.result c.entry_lines-said.ensures c.if-said-eq0.false c.entry_fine.result c.both-fine.result _ _ c.entry_fine.ensures c.both-fine.ensures c.note.ensures c.note_group.ensures
-
-pub shape_of-spans : goal.shape_of-spans
-shape_of-spans c = c.loop-at.invariant.spans-long ∙ sym c.requires.spans_len
-
-pub shape_of-groups : goal.shape_of-groups
-shape_of-groups c = c.loop-at.invariant.groups-long ∙ sym c.requires.groups_len
+    let l = c.loop-at in
+    let fine : c.if-entry_fine.fine ≡ (c.entry_fine.result && l.fine) = elim c.if-entry_fine.branch [
+      | then-entry_fine w ↦ rw w.if-entry_fine.true w.fine-is
+      | else-entry_fine w ↦ rw w.if-entry_fine.false (w.fine-is ∙ w.if-entry_fine.false)
+    ] in
+    going_next c.args.text.now l.at l.count l.fine l.masks l.spans l.groups l.invariant c.in_ok-said.said c.in_ok-said.ensures c.entry_fine.result c.if-entry_fine.fine _ _ c.is.result c.entry_fine.ensures fine c.note.ensures c.note-in-loop-at.ensures c.is.ensures
 
 pub returns : goal.returns
 returns c =
-    going_end c.args.text.now c.loop-at.at c.loop-at.count c.loop-at.fine c.loop-at.masks c.loop-at.spans c.loop-at.groups c.loop-at.invariant c.loop-at-test.false c.page_line-page.result c.page_line-page.ensures c.if-at-eq0.false
+    let l = c.loop-at in
+    going_end c.args.text.now l.at l.count l.fine l.masks l.spans l.groups l.invariant c.loop-at-test.false c.in_ok-page.page c.in_ok-page.ensures

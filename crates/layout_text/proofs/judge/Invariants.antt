@@ -1,5 +1,5 @@
-use Prim.Native.Nat.{◌-◌}
-use lib.ListN.{length}
+-- What is known before an entry (`Going`); each entry takes bytes.
+use Rattle.std.proofs.Common.{◌-◌, length}
 use Rattle.layout_text.proofs.Judging.{Going}
 use Rattle.layout_text.proofs.judge.Given as goal
 

@@ -1,44 +1,28 @@
--- `layout_text::name_starts` meets its contract: the table is zeros where the text is refused, and else what `see_all` leaves with zeros behind (`table-cells`).
-use mathlib.Core.Path.{ap, ◌∙◌}
-use mathlib.Core.List.{List, []}
-use Prim.Native.Nat.{ℕ}
-use lib.ListN.{length, get_or}
-use Rattle.layout_text.proofs.Spellings.{table-names, table-count, table-cells, place-there, count-there, spelled-there, names-last, count-not, spelled-not, cells-not}
-use borrow.Author.Rules.{rules}
+-- The table is zeros where the text is refused, and else what `see_all` leaves with zeros behind (`table-cells`).
+use Rattle.std.proofs.Common.{arith, ap, ◌∙◌, ℕ, List, [], length, get_or}
+use Rattle.layout_text.proofs.Spellings.{table-names, table-count, table-cells, place_there, count-there, spelled_there, names_last, count-not, spelled_not, cells-not}
 use Rattle.layout_text.proofs.name_starts.Goals as goal
 
-pub returns-then-r-ne0 : goal.returns-then-r-ne0
-returns-then-r-ne0 c =
-    let at-args = c.args in
-    let at-clear-words = c.clear_words in
-    let q = c.questions-r in
-    let h = c.if-r-ne0.true in
-    let t = at-args.text.now in
-    record {
-      value = count-not t q.result q.ensures.value h;
-      by_index = cells-not t q.result q.ensures.value h _ (length at-args.starts.now) at-clear-words.ensures;
-      spells = λ number. spelled-not t q.result q.ensures.value h number;
-    }
+pub see_all-requires-clause-lasts : goal.see_all-requires-clause-lasts
+see_all-requires-clause-lasts c = names_last c.args.text.now c.in-Ok.reading c.in-Ok.ensures.value c.in-Ok.ensures.short
 
-pub see_all-requires : goal.see_all-requires
-see_all-requires c =
-    let at-args = c.args in
-    let q = c.questions-r in
-    let h = c.if-r-ne0.false in
-    record {
-      lasts = names-last at-args.text.now q.result q.ensures.value h (q.ensures.text_len_bound h);
-      starts_len = search rules;
-    }
-
-pub returns : goal.returns
-returns c =
-    let at-args = c.args in
-    let at-clear-words = c.clear_words in
-    let q = c.questions-r in
-    let h = c.if-r-ne0.false in
-    let t = at-args.text.now in
+pub returns-in-Ok : goal.returns-in-Ok
+returns-in-Ok c =
+    let t = c.args.text.now in
+    let q = c.in-Ok in
     let s = c.see_all.ensures in record {
-      value = table-count _ s.value s.starts_after s.firsts ∙ count-there t q.result q.ensures.value h;
-      by_index = λ number. table-cells _ s.value s.starts_after s.firsts (length at-args.starts.now) at-clear-words.ensures number ∙ place-there t q.result q.ensures.value h number;
-      spells = λ number. ap (λ (l : List (List ℕ)). get_or l number []) (table-names _ s.value s.starts_after s.firsts) ∙ spelled-there t q.result q.ensures.value h number;
+      value = table-count _ s.value s.starts_after s.firsts ∙ count-there t q.reading q.ensures.value;
+      by_index = λ number. table-cells _ s.value s.starts_after s.firsts (length c.args.starts.now) (c.fill.ensures.after (λ y q. q)) number ∙ place_there t q.reading q.ensures.value number;
+      spells = λ number. ap (λ (l : List (List ℕ)). get_or l number []) (table-names _ s.value s.starts_after s.firsts) ∙ spelled_there t q.reading q.ensures.value number;
+      few = omega (arith, s.value, s.firsts.few);
+    }
+
+pub returns-in-Err : goal.returns-in-Err
+returns-in-Err c =
+    let t = c.args.text.now in
+    record {
+      value = count-not t _ c.in-Err.ensures.value;
+      by_index = cells-not t _ c.in-Err.ensures.value _ (length c.args.starts.now) (c.fill.ensures.after (λ y q. q));
+      spells = λ number. spelled_not t _ c.in-Err.ensures.value number;
+      few = omega arith;
     }

@@ -1,23 +1,19 @@
--- `layout_text::read_layout` meets its contract: a refusal leaves the zeros that were put first, and else `store_all` puts the words and masks over their front.
-use Rattle.layout_text.proofs.Answers.{refused_all, can_store, stored-all}
+-- A refusal leaves the zeros that were put first, and else `store_all` puts the words and masks over their front.
+use Rattle.std.proofs.lemmas.Result.{err_from_is_err_and}
+use Rattle.layout_text.proofs.Answers.{refused_all, can_store, stored_all}
 use Rattle.layout_text.proofs.read_layout.Goals as goal
 
-pub returns-then-r-ne0 : goal.returns-then-r-ne0
-returns-then-r-ne0 c =
-    let at-args = c.args in
-    let at-clear-words = c.clear_words in
-    let at_fill_lem = c.fill in
-    let at-questions = c.questions-r in
-    refused_all at-args.text.now at-args.words.now at-args.masks.now _ _ at-clear-words.ensures at_fill_lem.ensures at-questions.result at-questions.ensures.value c.if-r-ne0.true
+pub returns-in_err-reading : goal.returns-in_err-reading
+returns-in_err-reading c =
+    let a = c.args in
+    let p = err_from_is_err_and c.from_residual.result c.from_residual.ensures.1 in
+    rw (p.1, p.2) (refused_all a.text.now a.words.now a.masks.now _ _ (c.fill.ensures.after (λ y q. q)) (c.fill-2.ensures.after (λ y q. q)) _ c.in_err-reading.ensures.value)
 
 pub store_all-requires : goal.store_all-requires
 store_all-requires c =
-    let at-args = c.args in
-    let at-clear-words = c.clear_words in
-    let at_fill_lem = c.fill in
-    let at-questions = c.questions-r in
-    let at-if1 = c.if-r-ne0 in
-    let all = can_store at-args.text.now at-args.words.now at-args.masks.now _ _ at-clear-words.ensures at_fill_lem.ensures at-questions.result at-questions.ensures.value at-if1.false (at-questions.ensures.text_len_bound at-if1.false) in
+    let a = c.args in
+    let q = c.in_ok-reading in
+    let all = can_store a.text.now a.words.now a.masks.now _ _ (c.fill.ensures.after (λ y q. q)) (c.fill-2.ensures.after (λ y q. q)) q.reading q.ensures.value q.ensures.short in
     record {
       lasts = all.0;
       text_in_bounds = all.1.0;
@@ -26,10 +22,7 @@ store_all-requires c =
 
 pub returns : goal.returns
 returns c =
-    let at-args = c.args in
-    let at-clear-words = c.clear_words in
-    let at_fill_lem = c.fill in
-    let at-questions = c.questions-r in
-    let at-if1 = c.if-r-ne0 in
-    let at-store-all = c.store_all in
-    stored-all at-args.text.now at-args.words.now at-args.masks.now _ _ at-clear-words.ensures at_fill_lem.ensures at-questions.result at-questions.ensures.value at-if1.false _ _ at-store-all.ensures.words_after at-store-all.ensures.masks_after
+    let a = c.args in
+    let q = c.in_ok-reading in
+    let s = c.store_all.ensures in
+    stored_all a.text.now a.words.now a.masks.now _ _ (c.fill.ensures.after (λ y q. q)) (c.fill-2.ensures.after (λ y q. q)) q.reading q.ensures.value _ _ s.words_after s.masks_after

@@ -1,45 +1,18 @@
-use mathlib.Core.Path.{sym, ap, ◌∙◌}
-use native.Mathlib.Omega.{arith}
-use native.Mathlib.Nat.{zero-add}
+-- What `position` finds among the starts that are held, or how many these are, is the name's index among the names there (`find_is`).
+use Rattle.std.proofs.Common.{rules, ◌≡◌, take}
+use borrow.Author.Tests.{tests}
+use Prim.Native.Nat.{ℕ}
+use Rattle.std.proofs.lemmas.Iterator.{YieldsList-from_slice}
+use Rattle.std.proofs.lemmas.Iterator.Search.{position_from_yields_List}
+use Rattle.std.specs.List.{position}
 use Rattle.lines.specs.Lines.{line_from}
 use Rattle.lines.specs.Names.{same_name}
-use Rattle.lines.proofs.Sight.{index-go, index-stop, index-end}
+use Rattle.lines.proofs.Sight.{find_is}
 use Rattle.lines.proofs.find_name.Goals as goal
-
-pub loop-k-init : goal.loop-k-init
-loop-k-init c = ((omega arith, omega arith), sym (zero-add _))
-
-pub returns-then-starts-k : goal.returns-then-starts-k
-returns-then-starts-k c =
-    let at-args = c.args in
-    let at-loop = c.loop-k in
-    let a = at-args in
-    sym (at-loop.invariant.1 ∙ index-end a.text.now a.starts.now a.count at-loop.k a.name.now (omega arith))
-
-pub returns-then-same_name : goal.returns-then-same_name
-returns-then-same_name c =
-    let at-args = c.args in
-    let at-loop = c.loop-k in
-    let at-loop-test = c.loop-k-test in
-    let at-if1 = c.if-starts-k in
-    let at_wide = c.wide in
-    let at-name-at = c.name_at-seen in
-    let a = at-args in
-    sym (at-loop.invariant.1 ∙ index-stop a.text.now a.starts.now a.count at-loop.k a.name.now at-loop-test.true at-if1.false (ap (same_name a.name.now) (sym (at-name-at.ensures.result_value ∙ ap (line_from a.text.now) at_wide.ensures)) ∙ sym c.same_name.ensures ∙ c.if-same_name.true))
-
-pub loop-k-preserved : goal.loop-k-preserved
-loop-k-preserved c =
-    let at-args = c.args in
-    let at-loop = c.loop-k in
-    let at-loop-test = c.loop-k-test in
-    let at-if1 = c.if-starts-k in
-    let at_wide = c.wide in
-    let at-name-at = c.name_at-seen in
-    let a = at-args in
-    ((omega arith, omega arith), at-loop.invariant.1 ∙ index-go a.text.now a.starts.now a.count at-loop.k a.name.now at-loop-test.true at-if1.false (ap (same_name a.name.now) (sym (at-name-at.ensures.result_value ∙ ap (line_from a.text.now) at_wide.ensures)) ∙ sym c.same_name.ensures ∙ c.if-same_name.false))
 
 pub returns : goal.returns
 returns c =
-    let at-args = c.args in
-    let a = at-args in
-    sym (c.loop-k.invariant.1 ∙ index-end a.text.now a.starts.now a.count c.loop-k.k a.name.now (omega arith))
+    let a = c.args in
+    let e : c.position.result ≡ position (λ (x : ℕ). same_name a.name.now (line_from a.text.now x)) (take c.min.result a.starts.now) =
+    position_from_yields_List (λ (x : ℕ). same_name a.name.now (line_from a.text.now x)) _ _ c.position.result c.position.ensures.ran (YieldsList-from_slice (take c.min.result a.starts.now) cc) (λ x b q k. search (rules, tests)) in
+    find_is a.text.now a.starts.now a.name.now a.count c.min.result c.unwrap_or.result c.position.result c.min.ensures e c.unwrap_or.ensures

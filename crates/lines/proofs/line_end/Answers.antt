@@ -1,19 +1,15 @@
-use mathlib.Core.Path.{refl, sym, ◌∙◌}
-use native.Mathlib.Omega.{arith}
-use borrow.Author.Tests.{eq-eqb, ne_eqb}
-use Rattle.lists.proofs.Scan.{before-go, before-stop, before-end}
+-- What `position` finds, or the length, is the place before which no byte is a newline (`before_place`).
+use Rattle.std.proofs.Common.{rules, ◌≡◌}
+use borrow.Author.Tests.{tests}
+use Rattle.std.proofs.lemmas.Iterator.{YieldsList-from_slice}
+use Rattle.std.proofs.lemmas.Iterator.Search.{position_from_yields_List}
+use Rattle.std.specs.List.{position}
+use Rattle.lines.proofs.Std.{before_place}
 use Rattle.lines.specs.Lines.{is_end}
 use Rattle.lines.proofs.line_end.Goals as goal
 
-pub loop-i-init : goal.loop-i-init
-loop-i-init c = (omega arith, refl)
-
-pub returns-then-s-i-eq10 : goal.returns-then-s-i-eq10
-returns-then-s-i-eq10 c =
-    (omega arith, sym (c.loop-i.invariant.1 ∙ before-stop is_end _ _ c.loop-i-test.true (eq-eqb _ _ c.if-s-i-eq10.true)))
-
-pub loop-i-preserved : goal.loop-i-preserved
-loop-i-preserved c = (omega arith, c.loop-i.invariant.1 ∙ before-go is_end _ _ c.loop-i-test.true (ne_eqb _ _ c.if-s-i-eq10.false))
-
 pub returns : goal.returns
-returns c = (omega arith, sym (c.loop-i.invariant.1 ∙ before-end is_end _ _ c.loop-i-test.false))
+returns c =
+    let s = c.args.s.now in
+    let e : c.position.result ≡ position is_end s = position_from_yields_List is_end _ _ c.position.result c.position.ensures.ran (YieldsList-from_slice s cc) (λ x b q k. search (rules, tests)) in
+    rw (c.unwrap_or.ensures, e) (before_place is_end s)

@@ -1,73 +1,47 @@
--- `shown::read_both` meets its contract: a file that is too long and a layout that is refused leave the buffers as they are, and of the rest `decode_record` says what the answer names.
+-- A file that is too long and a layout that is refused leave the buffers as they are, and of the rest `decode_record` says what the answer names.
 use mathlib.Core.Path.{refl, sym, ap, ◌∙◌}
-use Prim.Native.Nat.{ℕ, ◌-◌}
+use Prim.Native.Nat.{ℕ}
 use lib.ListN.{take, length-replicate}
+use Rattle.codes.specs.declared.Refusal.TheVariants.{RecordLength, NoRoom}
+use Rattle.std.proofs.lemmas.Result.{err_from_is_err_and}
+use Rattle.codes.proofs.Refusals.{some_number}
 use Rattle.walks.specs.Records.{refused, decode_record}
-use Rattle.layout_text.proofs.Answers.{words_inside, masks-inside}
 use Rattle.shown.proofs.Answers.{layout-long, layout-refused, bytes-long, decoded-is, refused-reads, decoded-reads, number_at, call-is}
 use Rattle.shown.proofs.read_both.Goals as goal
 
 pub returns-then-too_long : goal.returns-then-too_long
 returns-then-too_long c =
-    let at-args = c.args in
-    let at_pre = c.requires in
-    let at-too-long = c.too_long in
-    refused-reads _ 16 c.refusal.result _ _ at_pre.0 at_pre.1 c.refusal.ensures
-    (layout-long at-args.layout.now at-args.layout_more at-args.bytes.now at-args.more (sym at-too-long.ensures ∙ c.if-too_long.true))
+    let l = c.args.layout in
+    let r = c.args.record in
+    refused-reads _ NoRoom _ _ c.requires.0 c.requires.1 (layout-long l.bytes.now l.more r.bytes.now r.more (sym c.too_long.ensures ∙ c.if-too_long.true))
 
-pub returns-then-l-ne0 : goal.returns-then-l-ne0
-returns-then-l-ne0 c =
-    let at-args = c.args in
-    let at_pre = c.requires in
-    let at-too-long = c.too_long in
-    let at-if1 = c.if-too_long in
-    let at-read-layout = c.read_layout-l in
-    let n = number_at at-args.layout.now _ _ _ _ _ _ _ _ at-read-layout.ensures (length-replicate {A = ℕ} 6144 0) (length-replicate {A = ℕ} 65536 0) in
-    refused-reads _ at-read-layout.result.number c.refusal-then-l-ne0.result _ _ at_pre.0 at_pre.1 c.refusal-then-l-ne0.ensures
-    (layout-refused at-args.layout.now at-args.layout_more at-args.bytes.now at-args.more (sym at-too-long.ensures ∙ at-if1.false) (λ z. c.if-l-ne0.true (n ∙ z)) ∙ ap refused (sym n))
+pub returns-in_err-read : goal.returns-in_err-read
+returns-in_err-read c =
+    let l = c.args.layout in
+    let r = c.args.record in
+    let n = number_at l.bytes.now _ _ _ _ _ _ _ _ c.in_err-read.ensures (length-replicate {A = ℕ} 6144 0) (length-replicate {A = ℕ} 65536 0) in
+    let p = err_from_is_err_and c.from_residual.result c.from_residual.ensures.1 in
+    rw (p.1, p.2)
+    (refused-reads _ c.in_err-read.field-0.0 _ _ c.requires.0 c.requires.1
+    (layout-refused l.bytes.now l.more r.bytes.now r.more (sym c.too_long.ensures ∙ c.if-too_long.false) (λ z. some_number c.in_err-read.field-0.0 (n ∙ z)) ∙ ap refused (sym n)))
 
 pub returns-then-too_long-2 : goal.returns-then-too_long-2
 returns-then-too_long-2 c =
-    let at-args = c.args in
-    let at_pre = c.requires in
-    let at-too-long = c.too_long in
-    let at-if1 = c.if-too_long in
-    let at-read-layout = c.read_layout-l in
-    let at-if2 = c.if-l-ne0 in
-    let at-too-long2 = c.too_long-2 in
-    let n = number_at at-args.layout.now _ _ _ _ _ _ _ _ at-read-layout.ensures (length-replicate {A = ℕ} 6144 0) (length-replicate {A = ℕ} 65536 0) in
-    refused-reads _ 4 c.refusal-then-too_long-2.result _ _ at_pre.0 at_pre.1 c.refusal-then-too_long-2.ensures
-    (bytes-long at-args.layout.now at-args.layout_more at-args.bytes.now at-args.more (sym at-too-long.ensures ∙ at-if1.false) (sym n ∙ at-if2.false) (sym at-too-long2.ensures ∙ c.if-too_long-2.true))
-
-pub slice_bounds-decode_record-end : goal.slice_bounds-decode_record-end
-slice_bounds-decode_record-end c =
-    let at-args = c.args in
-    let at-read-layout = c.read_layout-l in
-    let at-if2 = c.if-l-ne0 in
-    words_inside at-args.layout.now _ _ _ _ _ _ _ _ at-read-layout.ensures at-if2.false
-
-pub slice_bounds-decode_record-end-2 : goal.slice_bounds-decode_record-end-2
-slice_bounds-decode_record-end-2 c =
-    let at-args = c.args in
-    let at-read-layout = c.read_layout-l in
-    let at-if2 = c.if-l-ne0 in
-    masks-inside at-args.layout.now _ _ _ _ _ _ _ _ at-read-layout.ensures at-if2.false
+    let l = c.args.layout in
+    let r = c.args.record in
+    let n = number_at l.bytes.now _ _ _ _ _ _ _ _ c.in_ok-read.ensures (length-replicate {A = ℕ} 6144 0) (length-replicate {A = ℕ} 65536 0) in
+    refused-reads _ RecordLength _ _ c.requires.0 c.requires.1
+    (bytes-long l.bytes.now l.more r.bytes.now r.more (sym c.too_long.ensures ∙ c.if-too_long.false) (sym n) (sym c.too_long-2.ensures ∙ c.if-too_long-2.true))
 
 pub returns : goal.returns
 returns c =
-    let at-args = c.args in
-    let at_pre = c.requires in
-    let at-too-long = c.too_long in
-    let at-if1 = c.if-too_long in
-    let at-read-layout = c.read_layout-l in
-    let at-if2 = c.if-l-ne0 in
-    let at-too-long2 = c.too_long-2 in
-    let at-if3 = c.if-too_long-2 in
-    let at-decode-record = c.decode_record in
-    let n = number_at at-args.layout.now _ _ _ _ _ _ _ _ at-read-layout.ensures (length-replicate {A = ℕ} 6144 0) (length-replicate {A = ℕ} 65536 0) in
-    let l = at-read-layout.result in
-    let w = at-read-layout.new.words in
-    let m = at-read-layout.new.masks in
-    decoded-reads _ (λ i t k. decode_record (take (l.words - 0) w) (take (l.masks - 0) m) l.page at-args.bytes.now i t k) _ _ _ _ _ _ _ _ _ at_pre.0 at_pre.1 refl
-    (decoded-is at-args.layout.now at-args.layout_more at-args.bytes.now at-args.more (sym at-too-long.ensures ∙ at-if1.false) (sym n ∙ at-if2.false) (sym at-too-long2.ensures ∙ at-if3.false)
-    ∙ call-is at-args.layout.now _ _ _ _ _ _ _ _ at-read-layout.ensures at-if2.false at-args.bytes.now) at-decode-record.ensures
+    let l = c.args.layout in
+    let r = c.args.record in
+    let g = c.in_ok-read.ensures in
+    let q = c.in_ok-read.read in
+    let n = number_at l.bytes.now _ _ _ _ _ _ _ _ g (length-replicate {A = ℕ} 6144 0) (length-replicate {A = ℕ} 65536 0) in
+    let w = c.read_layout.new.words in
+    let m = c.read_layout.new.masks in
+    decoded-reads _ (λ i t k. decode_record (take q.words w) (take q.masks m) q.page r.bytes.now i t k) _ _ _ _ _ _ _ _ _ c.requires.0 c.requires.1 refl
+    (decoded-is l.bytes.now l.more r.bytes.now r.more (sym c.too_long.ensures ∙ c.if-too_long.false) (sym n) (sym c.too_long-2.ensures ∙ c.if-too_long-2.false)
+    ∙ call-is l.bytes.now _ _ _ _ _ _ _ _ g refl r.bytes.now) c.decode_record.ensures

@@ -1,6 +1,0 @@
--- each turn of the loop leaves fewer
-use Rattle.std.proofs.Common.{◌-◌}
-use Rattle.vectors.proofs.size_in.Given as goal
-
-abbrev pub decreases-loop-i : goal.decreases-loop-i
-decreases-loop-i l = 23 - l.i

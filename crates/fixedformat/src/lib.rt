@@ -12,6 +12,14 @@ ghost use Rattle.window.specs.Pair.{scale_at};
 ghost use Rattle.window.specs.Calls.{window_asks, before_asks, WindowWritten, added_to, WindowAdded};
 ghost use Rattle.convert.specs.Calls.{converted_into, RecordConverted};
 
+use codes::number_in;
+use decode::Reading;
+use items::ValueList;
+use layout::Layout;
+use layout_text::LayoutReading;
+use text_field::TextPlace;
+use window::{Setting, Sums};
+
 // Reads a layout's text form.
 #[unsafe(no_mangle)]
 pub extern "C" fn ff_read_layout(
@@ -25,11 +33,16 @@ pub extern "C" fn ff_read_layout(
     ensures { LayoutRead (layout_into text.now words.old masks.old)
         result page.new words_used.new masks_used.new words.old words.new masks.old masks.new }
 {
-    let r = layout_text::read_layout(text, words, masks);
-    *page = r.page;
-    *words_used = r.words as u64;
-    *masks_used = r.masks as u64;
-    r.number
+    let answer = layout_text::read_layout(text, words, masks);
+    let reading = answer.unwrap_or(LayoutReading {
+        page: 0,
+        words: 0,
+        masks: 0,
+    });
+    *page = reading.page;
+    *words_used = reading.words as u64;
+    *masks_used = reading.masks as u64;
+    number_in(answer)
 }
 
 // Judges a layout's words.
@@ -37,7 +50,12 @@ pub extern "C" fn ff_read_layout(
 pub extern "C" fn ff_check_layout(layout: &[u32], masks: &[u8], page: u32) -> u32
     ensures { result ≡ checked_of layout.now masks.now page }
 {
-    layout::check_layout(layout, masks, page)
+    let layout = Layout {
+        words: layout,
+        masks,
+        page,
+    };
+    number_in(layout.check())
 }
 
 // Reads a record by a layout.
@@ -56,10 +74,16 @@ pub extern "C" fn ff_decode_record(
     ensures { RecordRead (read_into layout.now masks.now page «record».now items.old text.old counts.old)
         result item_words_used.new text_used.new items.old items.new text.old text.new counts.old counts.new }
 {
-    let r = decode::decode_record(layout, masks, page, record, items, text, counts);
-    *item_words_used = r.items as u64;
-    *text_used = r.text as u64;
-    r.number
+    let layout = Layout {
+        words: layout,
+        masks,
+        page,
+    };
+    let answer = decode::decode_record(&layout, record, items, text, counts);
+    let used = answer.unwrap_or(Reading { items: 0, text: 0 });
+    *item_words_used = used.items as u64;
+    *text_used = used.text as u64;
+    number_in(answer)
 }
 
 // Writes a record by a layout.
@@ -77,9 +101,15 @@ pub extern "C" fn ff_encode_record(
     ensures { RecordWritten (written_into layout.now masks.now page items.now text.now «record».old counts.old)
         result record_length.new «record».old «record».new counts.old counts.new }
 {
-    let r = encode::encode_record(layout, masks, page, items, text, record, counts);
-    *record_length = r.length as u64;
-    r.number
+    let layout = Layout {
+        words: layout,
+        masks,
+        page,
+    };
+    let list = ValueList { items, text };
+    let answer = encode::encode_record(&layout, &list, record, counts);
+    *record_length = answer.unwrap_or(0) as u64;
+    number_in(answer)
 }
 
 // Puts the translated bytes of one Text entry at the front of scratch.
@@ -93,9 +123,14 @@ pub extern "C" fn ff_translate_text(
 ) -> u32
     ensures { FieldTranslated layout.now page «record».now result scratch_used.new scratch.old scratch.new }
 {
-    let r = text_field::translate_text(layout, page, record, scratch);
-    *scratch_used = r.length as u64;
-    r.number
+    let layout = Layout {
+        words: layout,
+        masks: &[],
+        page,
+    };
+    let answer = text_field::translate_text(&layout, record, scratch);
+    *scratch_used = answer.unwrap_or(0) as u64;
+    number_in(answer)
 }
 
 // Where the text of one Text entry stands, in the record on page 0 and in scratch on page 1.
@@ -110,10 +145,19 @@ pub extern "C" fn ff_text_field(
 ) -> u32
     ensures { TextPlaced layout.now page «record».now scratch.now result text_start.new text_length.new }
 {
-    let r = text_field::text_place(layout, page, record, scratch);
-    *text_start = r.start as u64;
-    *text_length = r.length as u64;
-    r.number
+    let layout = Layout {
+        words: layout,
+        masks: &[],
+        page,
+    };
+    let answer = text_field::text_place(&layout, record, scratch);
+    let place = answer.unwrap_or(TextPlace {
+        start: 0,
+        length: 0,
+    });
+    *text_start = place.start as u64;
+    *text_length = place.length as u64;
+    number_in(answer)
 }
 
 // Starts a window of the last W pairs, with a display word: 0, or a display scale plus 1.
@@ -132,9 +176,17 @@ pub extern "C" fn ff_window_start(
     ensures { WindowWritten (window_asks layout.now masks.now page w first second display (length window.old) (length counts.old))
         result (started w display window.old) window.old window.new counts.old counts.new }
 {
-    window::window_start(
-        layout, masks, page, w, first, second, display, window, counts,
-    )
+    let setting = Setting {
+        layout: Layout {
+            words: layout,
+            masks,
+            page,
+        },
+        w,
+        first,
+        second,
+    };
+    number_in(window::window_start(&setting, display, window, counts))
 }
 
 // Passes a window from cutting to half-even rounding.
@@ -152,7 +204,17 @@ pub extern "C" fn ff_window_change(
     ensures { WindowWritten (before_asks layout.now masks.now page w first second window.old (length counts.old))
         result (changed window.old) window.old window.new counts.old counts.new }
 {
-    window::window_change(layout, masks, page, w, first, second, window, counts)
+    let setting = Setting {
+        layout: Layout {
+            words: layout,
+            masks,
+            page,
+        },
+        w,
+        first,
+        second,
+    };
+    number_in(window::window_change(&setting, window, counts))
 }
 
 // Reads a record and takes its pair into a window.
@@ -177,14 +239,24 @@ pub extern "C" fn ff_window_add(
         (scale_at layout.now first) w result first_sum.new second_sum.new window.old window.new
         items.old items.new text.old text.new counts.old counts.new }
 {
-    let r = window::window_add(
-        layout, masks, page, record, w, first, second, window, items, text, counts,
-    );
-    let one = r.first;
-    let two = r.second;
-    *first_sum = one;
-    *second_sum = two;
-    r.number
+    let setting = Setting {
+        layout: Layout {
+            words: layout,
+            masks,
+            page,
+        },
+        w,
+        first,
+        second,
+    };
+    let answer = window::window_add(&setting, record, window, items, text, counts);
+    let sums = answer.unwrap_or(Sums {
+        first: 0,
+        second: 0,
+    });
+    *first_sum = sums.first;
+    *second_sum = sums.second;
+    number_in(answer)
 }
 
 // Converts a record under one layout into a record under another.
@@ -211,10 +283,19 @@ pub extern "C" fn ff_convert_record(
         result record_length.new new_record.old new_record.new items.old items.new text.old text.new
         back_items.old back_items.new back_text.old back_text.new counts.old counts.new }
 {
-    let r = convert::convert_record(
-        old_layout, old_masks, old_page, old_record, new_layout, new_masks, new_page, new_record,
-        items, text, back_items, back_text, counts,
+    let old = Layout {
+        words: old_layout,
+        masks: old_masks,
+        page: old_page,
+    };
+    let new = Layout {
+        words: new_layout,
+        masks: new_masks,
+        page: new_page,
+    };
+    let answer = convert::convert_record(
+        &old, old_record, &new, new_record, items, text, back_items, back_text, counts,
     );
-    *record_length = r.length as u64;
-    r.number
+    *record_length = answer.unwrap_or(0) as u64;
+    number_in(answer)
 }

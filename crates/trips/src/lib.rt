@@ -8,15 +8,23 @@ ghost use Rattle.walks.specs.Plain.{plain};
 ghost use Rattle.walks.specs.Decide.{fitting};
 ghost use Rattle.roundtrip.specs.Same.{RoundTrip};
 
+use codes::number_in;
+use decode::Reading;
+use items::ValueList;
+use layout::Layout;
+use roundtrip::Trip;
+
 // 1 for a plain layout, else 0.
 #[unsafe(no_mangle)]
 pub extern "C" fn trip_is_plain(layout: &[u32], masks: &[u8], page: u32) -> u32
     ensures { result ≡ cond (plain layout.now masks.now page) 1 0 }
 {
-    if plain::is_plain(layout, masks, page) {
-        return 1;
-    }
-    0
+    let layout = Layout {
+        words: layout,
+        masks,
+        page,
+    };
+    u32::from(plain::is_plain(&layout))
 }
 
 // 1 for a fitting list and place for the counts, else 0.
@@ -32,10 +40,13 @@ pub extern "C" fn trip_is_fitting(
         (leb (work_for layout.now) (length counts.old) && fitting layout.now masks.now items.now text.now) 1 0 }
     ensures counts_after { counts.new ≡ replicate (length counts.old) (pos 0) }
 {
-    if fitting::is_fitting(layout, masks, items, text, counts) {
-        return 1;
-    }
-    0
+    let layout = Layout {
+        words: layout,
+        masks,
+        page: 0,
+    };
+    let list = ValueList { items, text };
+    u32::from(fitting::is_fitting(&layout, &list, counts))
 }
 
 // Writes a list, puts bytes behind the record, and reads it back.
@@ -60,12 +71,25 @@ pub extern "C" fn trip_round(
         result size.new read.new used.new told.new
         «record».old «record».new back.old back.new said.old said.new counts.old counts.new }
 {
-    let r = roundtrip::round_trip(
-        layout, masks, page, items, text, behind, record, counts, back, said,
-    );
-    *size = r.length as u64;
-    *read = r.read;
-    *used = r.items as u64;
-    *told = r.text as u64;
-    r.written
+    let layout = Layout {
+        words: layout,
+        masks,
+        page,
+    };
+    let list = ValueList { items, text };
+    let answer = roundtrip::round_trip(&layout, &list, behind, record, counts, back, said);
+    let nothing = Reading { items: 0, text: 0 };
+    let trip = match answer {
+        Ok(trip) => trip,
+        Err(_) => Trip {
+            length: 0,
+            read: Ok(nothing),
+        },
+    };
+    let reading = trip.read.unwrap_or(nothing);
+    *size = trip.length as u64;
+    *read = number_in(trip.read);
+    *used = reading.items as u64;
+    *told = reading.text as u64;
+    number_in(answer)
 }

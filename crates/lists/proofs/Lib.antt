@@ -4,3 +4,4 @@ pub mod Lists
 pub mod Scan
 pub mod Part
 pub mod Keys
+pub mod Ends

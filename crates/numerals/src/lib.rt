@@ -31,23 +31,20 @@ fn blank_on(page: u32, b: u8) -> bool
 fn blanks_left(part: &[u8], page: u32) -> usize
     ensures { (result ≤ length part.now) × (drop result part.now ≡ left_by (λ b. is_blank (from_page page b)) part.now) }
 {
-    for (i, b) in part.iter().enumerate() {
-        if !blank_on(page, *b) {
-            return i;
-        }
-    }
-    part.len()
+    part.iter()
+        .position(|b| !blank_on(page, *b))
+        .unwrap_or(part.len())
 }
 
 fn blanks_right(part: &[u8], page: u32) -> usize
     ensures { (result ≤ length part.now) × (take result part.now ≡ right_by (λ b. is_blank (from_page page b)) part.now) }
 {
-    for i in (0..part.len()).rev() {
-        if !blank_on(page, part[i]) {
-            return i + 1;
-        }
-    }
-    0
+    part.len()
+        - part
+            .iter()
+            .rev()
+            .position(|b| !blank_on(page, *b))
+            .unwrap_or(part.len())
 }
 
 // The text without the blanks at its ends, as a part of it.

@@ -5,5 +5,4 @@ pub mod Places
 pub mod Showing
 pub mod Back
 pub mod Changed
-pub mod Ends
 pub mod Answers

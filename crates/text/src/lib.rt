@@ -139,6 +139,7 @@ fn spell(part: &mut [u8], v: u64)
 }
 
 // A minus to the front, if the number has one; where the next byte goes.
+// Kept: a sign and a size as a Scalar holds them.
 fn put_minus(out: &mut [u8], negative: bool, size: u64) -> usize
     requires { 0 < length out.old }
     ensures value { result ≡ length (minus_text negative size) }
@@ -178,6 +179,7 @@ fn put_fraction(out: &mut [u8], at: usize, size: u64, scale: usize) -> usize
 }
 
 // An integer to the front; its length.
+// Kept: a sign and a size as a Scalar holds them.
 fn show_int(out: &mut [u8], negative: bool, size: u64) -> usize
     requires { 24 ≤ length out.old }
     ensures value { (result ≡ length (int_text negative size)) × (result ≤ 24) }
@@ -188,6 +190,7 @@ fn show_int(out: &mut [u8], negative: bool, size: u64) -> usize
 }
 
 // A decimal to the front; its length.
+// Kept: a sign and a size as a Scalar holds them.
 fn show_decimal(out: &mut [u8], negative: bool, size: u64, scale: u64) -> usize
     requires { (24 ≤ length out.old) × (scale ≤ 18) }
     ensures value { (result ≡ length (decimal_text negative size scale)) × (result ≤ 24) }

@@ -5,7 +5,7 @@ use Rattle.std.specs.Option.{unwrap_or}
 use Rattle.std.proofs.lemmas.Iterator.Adapters.{YieldsList-from_rev_slice}
 use Rattle.std.proofs.lemmas.Iterator.Search.{position_from_yields_List}
 use Rattle.text.specs.Text.{is_byte}
-use Rattle.text.proofs.Ends.{other-right, suffix-right}
+use Rattle.lists.proofs.Ends.{other-right, suffix-right}
 use Rattle.text.proofs.pad_end.Goals as goal
 
 pub returns : goal.returns

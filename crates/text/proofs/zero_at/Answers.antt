@@ -5,7 +5,7 @@ use Rattle.std.specs.Option.{unwrap_or}
 use Rattle.std.proofs.lemmas.Iterator.{YieldsList-from_slice}
 use Rattle.std.proofs.lemmas.Iterator.Search.{position_from_yields_List}
 use Rattle.text.specs.Text.{is_byte}
-use Rattle.text.proofs.Ends.{found-or-end, prefix-le, prefix-before}
+use Rattle.lists.proofs.Ends.{found-or-end, prefix-le, prefix-before}
 use Rattle.text.proofs.zero_at.Goals as goal
 
 pub returns : goal.returns

@@ -8,7 +8,6 @@ use Rattle.value.specs.declared.Scalar.{Scalar}
 use Rattle.value.specs.declared.Scalar.TheVariants.{Null, Text, Int, Decimal, Float as FloatV, FloatBits, Bool as BoolV}
 use Rattle.value.specs.Scalar.{decimal}
 use Rattle.items.specs.Items.{item_words, words_of, header}
-use Rattle.decode_scalar.specs.declared.Field.{Field}
 use Rattle.decode_scalar.specs.Decode.{Says, refused, value, text, says, text_after}
 use Rattle.walks.specs.Walk.{Many, never, times, unfit, Leaf, bad, leaf, Codec}
 use Rattle.layout.specs.Layout.{unrepeated, is_pad}
@@ -55,10 +54,6 @@ bare e = unrepeated e || eqb e.kind kind_pad
 -- the words of a table's own item
 abbrev pub head_of : Entry → ℕ
 head_of e = cond (bare e) 0 item_words
-
--- the words of an entry that tell what its bytes say
-abbrev pub field_of : Entry → Field
-field_of e = record { kind = e.kind; p = e.p; q = e.q; r = e.r; s = e.s }
 
 -- ---- a scalar as its item holds it: a text starts behind the texts so far
 

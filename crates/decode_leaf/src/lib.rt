@@ -11,7 +11,7 @@ ghost use Rattle.layout.specs.Layout.{unrepeated, is_pad};
 ghost use Rattle.walks.specs.Reading.{placed, scalar};
 ghost use Rattle.decode_scalar.specs.Decode.{says, answer_of, text_after};
 ghost use Rattle.decode_leaf.specs.Counts.{nat_of, first, status_of, held_in, note_in, set_in};
-ghost use Rattle.decode_leaf.specs.Machine.{out, many_in, kept, state, leaf_at, field_of, Lone, Element, text_in, text_behind, Placed, Listed, head_of, moved_in, told_in};
+ghost use Rattle.decode_leaf.specs.Machine.{out, many_in, kept, state, leaf_at, Lone, Element, text_in, text_behind, Placed, Listed, head_of, moved_in, told_in};
 
 use codes::{ABSENT, ELEMENT, Kind, Refusal, Tag};
 use decode_scalar::Field;
@@ -19,6 +19,7 @@ use items::{ITEM_WORDS, Item, item_count};
 use layout::{Entry, Layout};
 use positions::inside;
 use value::Scalar;
+use walks::field_of;
 
 // What a part of the walk came to: the item words written, how many items these are at their own level, the bytes taken, and
 // the text bytes so far.
@@ -94,6 +95,7 @@ fn put_word(counts: &mut [i64], at: usize, x: u64)
     }
 }
 
+// Kept: a sign and a size as a Scalar holds them.
 fn status(negative: bool, size: u64) -> u64
     ensures { result ≡ status_of negative size }
 {
@@ -107,6 +109,7 @@ fn stored(size: u64) -> u64
 }
 
 // The count that a number sets for its name.
+// Kept: a sign and a size as a Scalar holds them.
 #[tactic(auto, unfolding(crate::specs::Counts::set_in))]
 fn set_count(layout: &Layout, counts: &mut [i64], name: u32, negative: bool, size: u64)
     ensures { counts.new ≡ set_in layout.now.words.now name negative size counts.old }
@@ -272,19 +275,6 @@ fn place_element(items: &mut [u64], e: Entry, told: usize, v: Scalar) -> Result<
     place(items, ELEMENT, e.width, told, v)
 }
 
-// The words of an entry that tell what its bytes say.
-fn field_of(e: Entry) -> Field
-    ensures { result ≡ field_of e }
-{
-    Field {
-        kind: e.kind,
-        p: e.p,
-        q: e.q,
-        r: e.r,
-        s: e.s,
-    }
-}
-
 // What the bytes of a field say; a text goes behind the texts so far. A field is told by its words, so that no caller keeps an entry in memory.
 fn read_part(
     record: &[u8],
@@ -318,6 +308,7 @@ fn passed(width: u32, told: usize) -> Out
 }
 
 // A single scalar that is inside the record.
+// Kept: places one by one, as each call moves some of them.
 fn lone_value(
     layout: &Layout,
     record: &[u8],
@@ -341,6 +332,7 @@ fn lone_value(
 }
 
 // One scalar or Pad that is no element of a table.
+// Kept: places one by one, as each call moves some of them.
 pub fn decode_lone(
     layout: &Layout,
     record: &[u8],

@@ -18,6 +18,7 @@ use items::{Item, ValueList, after};
 use layout::{Entry, Layout};
 use positions::{inside, sat_add, sat_mul};
 use value::Words;
+use walks::field_of;
 
 // What a part of the walk came to: one more than the furthest end of what was put, 0 where nothing was, and the bytes taken.
 #[derive(Clone, Copy)]
@@ -121,27 +122,7 @@ fn mask_of(masks: &[u8], e: Entry) -> &[u8]
     if !Kind::Edited.is(e.kind) {
         return &masks[..0];
     }
-    let start = (e.mask as usize).min(masks.len());
-    let rest = &masks[start..];
-    let count = (e.width as usize).min(rest.len());
-    &rest[..count]
-}
-
-// The words of an entry that tell how a value is written in its field.
-pub fn field_of(e: Entry) -> Field
-    ensures kind { result.kind ≡ e.kind }
-    ensures p { result.p ≡ e.p }
-    ensures q { result.q ≡ e.q }
-    ensures r { result.r ≡ e.r }
-    ensures s { result.s ≡ e.s }
-{
-    Field {
-        kind: e.kind,
-        p: e.p,
-        q: e.q,
-        r: e.r,
-        s: e.s,
-    }
+    walks::mask_of(masks, e)
 }
 
 // The words of an item that tell its value.

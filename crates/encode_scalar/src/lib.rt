@@ -3,7 +3,8 @@
 
 #![tactic(auto)]
 
-ghost use Rattle.std.specs.Prelude.{◌≡◌, [], ◌∷◌, map, cond, true, false, ℕ, ◌<◌, length, eqb, Result, Ok, Err};
+ghost use Rattle.std.specs.Prelude.{◌≡◌, [], ◌∷◌, map, cond, true, false, ℕ, ◌<◌, length, eqb, leb, Result, Ok, Err};
+ghost use Rattle.codes.specs.Codes.{tag_list};
 ghost use Rattle.codes.specs.Refusals.{number_in};
 ghost use Rattle.value.specs.Answer.{answered};
 ghost use Rattle.value.specs.Scalar.{scalar_of};
@@ -20,6 +21,13 @@ ghost use Rattle.decode_scalar.specs.Decode as Decode;
 use codes::{Kind, Refusal, Tag};
 use decode_scalar::{Field, flag, low_byte};
 use value::{Scalar, Whole, Words};
+
+// Whether an item is a List or Struct, or of no tag at all: what has no number.
+fn has_members(item: Words) -> bool
+    ensures { result ≡ leb tag_list item.tag }
+{
+    item.tag >= u64::from(Tag::List)
+}
 
 fn fitting(fits: bool) -> Result<(), Refusal>
     ensures { number_in result ≡ cond fits 0 14 }
@@ -144,7 +152,7 @@ pub fn judge_scalar(
         Ok(Kind::Text) => text::fits_text(width, v, text),
         Ok(Kind::Bool | Kind::Pad) => Ok(()),
         _ => {
-            if item.tag >= u64::from(Tag::List) {
+            if has_members(item) {
                 return Err(Refusal::WrongKind);
             }
             judge_number(field, mask, width, v, text)
@@ -299,7 +307,7 @@ fn decimal_item(item: Words, scale: u64) -> Result<Whole, Refusal>
     if Tag::Decimal.is(item.tag) && item.b == scale {
         return value::amount_of(value::is_minus(item.a), value::size_of(item.a));
     }
-    if item.tag >= u64::from(Tag::List) {
+    if has_members(item) {
         return Err(Refusal::WrongKind);
     }
     float::as_decimal(value::item_scalar(item.tag, item.a, item.b), scale)
@@ -380,7 +388,7 @@ pub fn encode_scalar(
             Ok(())
         }
         _ => {
-            if item.tag >= u64::from(Tag::List) {
+            if has_members(item) {
                 return Err(Refusal::WrongKind);
             }
             write_number(part, field, mask, page, v, text)

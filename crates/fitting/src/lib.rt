@@ -16,11 +16,12 @@ ghost use Rattle.fitting.specs.Machine.{fit_in};
 
 use codes::{Kind, Tag};
 use decode_leaf::{element_name, how_many, note};
-use encode_leaf::{field_of, values_after};
+use encode_leaf::values_after;
 use fits::fits_scalar;
 use items::{Item, ValueList, after};
 use layout::{Entry, Layout};
 use spans::end_of;
+use walks::{field_of, mask_of};
 
 // ---- one item
 
@@ -36,16 +37,6 @@ fn is_holder(list: &ValueList, name: u64, tag: Tag, j: usize, to: usize) -> bool
         && tag.is(it.tag)
         && it.a == list.members(j + 1, end)
         && it.b == (end - j) as u64
-}
-
-// The mask of an entry, as far as the masks go.
-fn mask_of(masks: &[u8], e: Entry) -> &[u8]
-    ensures { result.now ≡ mask_of masks.now e }
-{
-    let start = (e.mask as usize).min(masks.len());
-    let rest = &masks[start..];
-    let count = (e.width as usize).min(rest.len());
-    &rest[..count]
 }
 
 // Whether an item's value fits an entry.
@@ -145,6 +136,7 @@ fn is_table(
 // ---- the walk
 
 // The entries lo up to hi and the items from..to, one after the other. The step is a span, so no `for`.
+// Kept: places one by one, as each call moves some of them.
 #[cycle(fit_field_fit_one_fit_seq)]
 fn fit_seq(
     layout: &Layout,
@@ -175,6 +167,7 @@ fn fit_seq(
 
 // An entry whose members are the entries lo up to hi, by the first of the items j..to: one element, or the elements of a table. The step is a
 // span, so no `for`.
+// Kept: places one by one, as each call moves some of them.
 #[cycle(fit_field_fit_one_fit_seq)]
 fn fit_field(
     layout: &Layout,
@@ -212,6 +205,7 @@ fn fit_field(
 }
 
 // One element, the first of the items j..to: a group of the entries lo up to hi, or a scalar.
+// Kept: places one by one, as each call moves some of them.
 #[cycle(fit_field_fit_one_fit_seq)]
 fn fit_one(
     layout: &Layout,

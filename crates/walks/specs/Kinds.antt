@@ -6,6 +6,7 @@ use Rattle.items.specs.declared.Item.{Item}
 use Rattle.items.specs.Items.{scalar_in, text_of}
 use Rattle.value.specs.declared.Scalar.{Scalar}
 use Rattle.value.specs.declared.Scalar.TheVariants.{Null, Text, Int, Decimal, Float as FloatV, FloatBits, Bool as BoolV}
+use Rattle.decode_scalar.specs.declared.Field.{Field}
 use Rattle.decode_scalar.specs.Decode.{Says, refused, value, text, says}
 use Rattle.encode_scalar.specs.Encode.{judged_of, bytes_of}
 use Rattle.walks.specs.Walk.{Many, never, times, Coded, unfit, bytes, Leaf, bad, leaf, Codec}
@@ -51,6 +52,10 @@ look (c ∷ cs) name = cond (eqb c.name name) (cond (c.negative && ltb 0 c.size)
 
 abbrev pub held : ℕ → State → Many
 held name s = look s.counts name
+
+-- the words of an entry that tell what its bytes say
+abbrev pub field_of : Entry → Field
+field_of e = record { kind = e.kind; p = e.p; q = e.q; r = e.r; s = e.s }
 
 -- an Edited's mask: "mask as long as width, inside its slice"
 abbrev pub mask_of : List ℕ → Entry → List ℕ

@@ -286,6 +286,7 @@ fn rewrite(
 }
 
 // Converts a record under one layout into a record under another: the new record's length, or zeros after a refusal.
+// Kept: the buffers one by one, as C lends them.
 pub fn convert_record(
     old: &Layout,
     old_record: &[u8],

@@ -32,6 +32,7 @@ pub struct Reading {
 }
 
 // The entries lo up to hi, one after the other, from a base on. The step is a span, so no `for`.
+// Kept: places one by one, as each call moves some of them.
 #[cycle(decode_field_decode_one_decode_seq)]
 fn decode_seq(
     layout: &Layout,
@@ -93,6 +94,7 @@ fn decode_seq(
 }
 
 // A table of scalars or Pads: outside the cycle, so that its elements are read without a call of it.
+// Kept: places one by one, as each call moves some of them.
 fn decode_table(
     layout: &Layout,
     record: &[u8],
@@ -136,6 +138,7 @@ fn decode_table(
 }
 
 // An entry that is a table, or a group of the entries lo up to hi: the elements of a group, or the one.
+// Kept: places one by one, as each call moves some of them.
 #[cycle(decode_field_decode_one_decode_seq)]
 fn decode_field(
     layout: &Layout,
@@ -190,6 +193,7 @@ fn decode_field(
 }
 
 // One group of the entries lo up to hi, under a name.
+// Kept: places one by one, as each call moves some of them.
 #[tactic(auto, using(crate::proofs::Steps::inside_small))]
 #[cycle(decode_field_decode_one_decode_seq)]
 fn decode_one(

@@ -84,6 +84,7 @@ fn is_lone_leaf(e: Entry) -> bool
 
 // The entries lo up to hi, one after the other, from a base on, by the items from..to. A scalar or Pad that is no table is written at once. The
 // step is a span, so no `for`.
+// Kept: places one by one, as each call moves some of them.
 #[cycle(encode_field_encode_one_encode_seq)]
 fn encode_seq(
     layout: &Layout,
@@ -132,6 +133,7 @@ fn encode_seq(
 
 // An entry whose members are the entries lo up to hi, by the first of the items i..to: its elements, one or those of a table. The two calls for
 // scalars and Pads, with values and without, compile to a smaller frame than one.
+// Kept: places one by one, as each call moves some of them.
 #[cycle(encode_field_encode_one_encode_seq)]
 fn encode_field(
     layout: &Layout,
@@ -178,6 +180,7 @@ fn encode_field(
 }
 
 // One group of the entries lo up to hi, by the first of the items i..to.
+// Kept: places one by one, as each call moves some of them.
 #[cycle(encode_field_encode_one_encode_seq)]
 fn encode_one(
     layout: &Layout,

@@ -278,6 +278,7 @@ fn to_decimal(x: f64, scale: u64) -> Result<Whole, Refusal>
 }
 
 // The f64 nearest to a sign and a size; 0 has no sign.
+// Kept: a sign and a size as a Scalar holds them.
 fn nearest_float(negative: bool, size: u64) -> f64
     ensures { result ≡ Ieee.of_int binary64 (signed_of negative size) }
 {
@@ -289,6 +290,7 @@ fn nearest_float(negative: bool, size: u64) -> f64
 }
 
 // The decimal's integer over 10^scale.
+// Kept: a sign and a size as a Scalar holds them.
 fn of_decimal(negative: bool, size: u64, scale: u64) -> f64
     requires { scale < 19 }
     ensures { result ≡ of_decimal negative size scale }
@@ -312,6 +314,7 @@ pub fn as_f64(v: Scalar) -> Result<u64, Refusal>
     }
 }
 
+// Kept: a sign and a size as a Scalar holds them.
 fn decimal_word(negative: bool, size: u64, scale: u64) -> Result<u64, Refusal>
     ensures { answered result ≡ (if nat_lt 18 scale then refused 13 else given (Ieee.to_bits binary64 (of_decimal negative size scale))) }
 {

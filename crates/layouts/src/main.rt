@@ -233,7 +233,7 @@ fn agrees(line: Line, words: &[u64], text: &[u8], masks: &[u8]) -> bool {
     }
 }
 
-// How many cases a group has, and how many of them differ.
+// How many cases a group has, and how many of them differ. Kept in each program: what it counts and prints is its own.
 #[derive(Drop)]
 struct Tally {
     cases: u64,

@@ -87,7 +87,7 @@ impl<'a> Case<'a> {
     }
 }
 
-// How many cases there were, how many of them refused, and how many differ.
+// How many cases there were, how many of them refused, and how many differ. Kept in each program: what it counts and prints is its own.
 #[derive(Drop)]
 struct Tally {
     cases: u64,
@@ -150,6 +150,7 @@ fn run(rt: &impl Print, all: &[u8], read: &mut Tally, written: &mut Tally) -> io
     let mut narrowed = [0u32; WORDS];
     for line in all.split(|b| *b == b'\n') {
         let asked = at(line, 0);
+        // Kept: the letter of a line says what it asks.
         match asked {
             b'L' => {
                 words_in(&mut layout, line);

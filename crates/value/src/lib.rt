@@ -111,6 +111,7 @@ pub fn has_room(places: usize, size: u64) -> bool
 }
 
 // The whole number of a sign and a size.
+// Kept: a sign and a size apart, of which it makes a Whole.
 pub fn signed_size(negative: bool, size: u64) -> Whole
     ensures { given result ≡ some negative size }
 {
@@ -121,6 +122,7 @@ pub fn signed_size(negative: bool, size: u64) -> Whole
 }
 
 // The number of a sign and a size that are read, where the size is to be below a bound.
+// Kept: a sign and a size apart, of which it makes a Whole.
 pub fn number_in(bound: u64, negative: bool, size: u64) -> Result<Whole, Refusal>
     ensures { answered result ≡ read_in bound negative size }
 {
@@ -137,7 +139,8 @@ pub fn with_sign(negative: bool, n: Result<Whole, Refusal>) -> Result<Whole, Ref
     Ok(signed_size(negative, n?.size))
 }
 
-// The number of a sign and a size that are to be written.
+// The number of a sign and a size that are to be written. Kept beside number_in: each is a question of its own, and its definition another.
+// Kept: a sign and a size apart, of which it makes a Whole.
 pub fn amount_of(negative: bool, size: u64) -> Result<Whole, Refusal>
     ensures { answered result ≡ amount_of negative size }
 {
@@ -188,6 +191,7 @@ pub fn goes_up(above: u64, below: u64, q: u64) -> bool
 }
 
 // A size of one scale at another, as an amount.
+// Kept: a sign and a size apart, of which it makes a Whole.
 pub fn rescale(negative: bool, size: u64, from: u64, to: u64) -> Result<Whole, Refusal>
     ensures { answered result ≡ amount_of negative (rescaled from to size) }
 {
@@ -214,6 +218,7 @@ pub fn rounded(size: u64, k: u64) -> u64
 }
 
 // A size with k zeros more.
+// Kept: a sign and a size apart, of which it makes a Whole.
 fn scale_up(negative: bool, size: u64, k: u64) -> Result<Whole, Refusal>
     ensures { answered result ≡ amount_of negative (size * 10 ^ k) }
 {
@@ -229,6 +234,7 @@ fn scale_up(negative: bool, size: u64, k: u64) -> Result<Whole, Refusal>
 // ---- words
 
 // The two's-complement word of a sign and a size.
+// Kept: a sign and a size as a Scalar holds them.
 pub fn word_of(negative: bool, size: u64) -> u64
     ensures { result ≡ word_of negative size }
 {

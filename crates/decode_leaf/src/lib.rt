@@ -17,6 +17,7 @@ use codes::{ABSENT, ELEMENT, Kind, Refusal, Tag};
 use decode_scalar::Field;
 use items::{ITEM_WORDS, Item, item_count};
 use layout::{Entry, Layout};
+use lists::put;
 use positions::inside;
 use value::Scalar;
 use walks::field_of;
@@ -53,7 +54,7 @@ impl Out {
 fn natural(x: i64) -> u64
     ensures { result ≡ nat_of x }
 {
-    if x < 0 { 0 } else { x as u64 }
+    u64::try_from(x).unwrap_or(0)
 }
 
 fn signed(x: u64) -> i64
@@ -79,20 +80,7 @@ fn first_of(layout: &Layout, name: u32) -> usize
 fn word_in(counts: &[i64], at: usize) -> u64
     ensures { result ≡ nat_of (get_or counts.now at (pos 0)) }
 {
-    if at < counts.len() {
-        natural(counts[at])
-    } else {
-        0
-    }
-}
-
-fn put_word(counts: &mut [i64], at: usize, x: u64)
-    requires { x < 2 ^ 63 }
-    ensures { counts.new ≡ set counts.old at (pos x) }
-{
-    if at < counts.len() {
-        counts[at] = signed(x);
-    }
+    natural(counts.get(at).copied().unwrap_or(0))
 }
 
 // Kept: a sign and a size as a Scalar holds them.
@@ -115,8 +103,8 @@ fn set_count(layout: &Layout, counts: &mut [i64], name: u32, negative: bool, siz
     ensures { counts.new ≡ set_in layout.now.words.now name negative size counts.old }
 {
     let j = first_of(layout, name);
-    put_word(counts, j * 2, status(negative, size));
-    put_word(counts, j * 2 + 1, stored(size));
+    put(counts, j * 2, signed(status(negative, size)));
+    put(counts, j * 2 + 1, signed(stored(size)));
 }
 
 // What controls a table sets the count for its name, where some table depends on one.
@@ -307,30 +295,6 @@ fn passed(width: u32, told: usize) -> Out
     }
 }
 
-// A single scalar that is inside the record.
-// Kept: places one by one, as each call moves some of them.
-fn lone_value(
-    layout: &Layout,
-    record: &[u8],
-    items: &mut [u64],
-    text: &mut [u8],
-    counts: &mut [i64],
-    deps: bool,
-    e: Entry,
-    at: u64,
-    told: usize,
-) -> Result<Out, Refusal>
-    requires width_in_bounds { at + e.width ≤ length «record».now }
-    requires told_in_bounds { told ≤ length text.old }
-    ensures lone { Lone
-        (scalar (kept layout.now.words.now layout.now.page (length text.old) deps) «record».now e e.name true at (length items.old)
-        (state counts.old told text.old)) items.old counts.old result items.new text.new counts.new }
-    ensures text_after { text.new ≡ text_in layout.now.page «record».now e at told text.old }
-{
-    let v = read_part(record, text, layout.page, field_of(e), e.width, at, told)?;
-    place_lone(layout, items, counts, deps, e, told, v)
-}
-
 // One scalar or Pad that is no element of a table.
 // Kept: places one by one, as each call moves some of them.
 pub fn decode_lone(
@@ -356,31 +320,12 @@ pub fn decode_lone(
     if Kind::Pad.is(e.kind) {
         return Ok(passed(e.width, told));
     }
-    lone_value(layout, record, items, text, counts, deps, e, at, told)
+    let v = read_part(record, text, layout.page, field_of(e), e.width, at, told)?;
+    place_lone(layout, items, counts, deps, e, told, v)
 }
 
-// A scalar of a table that is inside the record. Kept beside lone_value: an element sets no count, and needs neither the layout nor the counts.
-fn element_value(
-    page: u32,
-    record: &[u8],
-    items: &mut [u64],
-    text: &mut [u8],
-    e: Entry,
-    at: u64,
-    told: usize,
-) -> Result<Out, Refusal>
-    requires e_value { unrepeated e ≡ false }
-    requires width_in_bounds { at + e.width ≤ length «record».now }
-    requires told_in_bounds { told ≤ length text.old }
-    ensures element { Element (λ l deps. scalar (kept l page (length text.old) deps) «record».now e element false at (length items.old))
-        told text.old items.old result items.new text.new }
-    ensures text_after { text.new ≡ text_in page «record».now e at told text.old }
-{
-    let v = read_part(record, text, page, field_of(e), e.width, at, told)?;
-    place_element(items, e, told, v)
-}
-
-// One scalar or Pad that is an element of a table: it sets no count.
+// One scalar or Pad that is an element of a table.
+// Kept beside decode_lone: an element sets no count, and needs neither the layout nor the counts.
 pub fn decode_element(
     page: u32,
     record: &[u8],
@@ -402,7 +347,8 @@ pub fn decode_element(
     if Kind::Pad.is(e.kind) {
         return Ok(passed(e.width, told));
     }
-    element_value(page, record, items, text, e, at, told)
+    let v = read_part(record, text, page, field_of(e), e.width, at, told)?;
+    place_element(items, e, told, v)
 }
 
 // ---- zeros

@@ -17,7 +17,6 @@ use decode_scalar::Field;
 use items::{Item, ValueList, after};
 use layout::{Entry, Layout};
 use positions::{inside, sat_add, sat_mul};
-use value::Words;
 use walks::field_of;
 
 // What a part of the walk came to: one more than the furthest end of what was put, 0 where nothing was, and the bytes taken.
@@ -125,19 +124,6 @@ fn mask_of(masks: &[u8], e: Entry) -> &[u8]
     walks::mask_of(masks, e)
 }
 
-// The words of an item that tell its value.
-fn words_of(it: Item) -> Words
-    ensures tag { result.tag ≡ it.tag }
-    ensures a { result.a ≡ it.a }
-    ensures b { result.b ≡ it.b }
-{
-    Words {
-        tag: it.tag,
-        a: it.a,
-        b: it.b,
-    }
-}
-
 // The question that refuses an item for an entry of this width.
 #[tactic(auto, using(crate::proofs::Leaves::judged_there))]
 fn judge_leaf(
@@ -155,7 +141,7 @@ fn judge_leaf(
         field_of(e),
         mask,
         width as usize,
-        words_of(it),
+        it.into(),
         it.text_in(list.text),
     )
 }
@@ -179,7 +165,7 @@ fn put_leaf(
         field_of(e),
         mask,
         layout.page,
-        words_of(it),
+        it.into(),
         it.text_in(list.text),
     )
 }

@@ -147,7 +147,7 @@ pub fn judge_scalar(
 ) -> Result<(), Refusal>
     ensures { number_in result ≡ judged_of field.kind field.p field.q field.r field.s mask.now width item.tag (scalar_of item.tag item.a item.b) text.now }
 {
-    let v = value::item_scalar(item.tag, item.a, item.b);
+    let v = Scalar::from(item);
     match Kind::try_from(field.kind) {
         Ok(Kind::Text) => text::fits_text(width, v, text),
         Ok(Kind::Bool | Kind::Pad) => Ok(()),
@@ -310,7 +310,7 @@ fn decimal_item(item: Words, scale: u64) -> Result<Whole, Refusal>
     if has_members(item) {
         return Err(Refusal::WrongKind);
     }
-    float::as_decimal(value::item_scalar(item.tag, item.a, item.b), scale)
+    float::as_decimal(Scalar::from(item), scale)
 }
 
 #[tactic(auto, using(crate::proofs::Parts::edited_part))]
@@ -376,7 +376,7 @@ pub fn encode_scalar(
     if Kind::Decimal.is(kind) {
         return write_decimal(part, page, p, q, s, decimal_item(item, u64::from(r)));
     }
-    let v = value::item_scalar(item.tag, item.a, item.b);
+    let v = Scalar::from(item);
     match Kind::try_from(kind) {
         Ok(Kind::Text) => write_text(part, page, flag(p), low_byte(r), v, text),
         Ok(Kind::Bool) => {

@@ -10,7 +10,7 @@ ghost use Rattle.items.specs.Items.{item_words, words_of, item_of, header, scala
 
 use codes::{ELEMENT, Refusal, Tag};
 use spans::end_of;
-use value::{LIMIT, Scalar, item_scalar, size_of, words_of};
+use value::{LIMIT, Scalar, Words, size_of};
 
 // The words of an item; this crate alone knows which they are.
 pub const ITEM_WORDS: usize = 4;
@@ -45,18 +45,26 @@ pub struct Item {
     pub b: u64,
 }
 
+// The words of an item that tell its value.
+impl From<Item> for Words {
+    ghost from_gives = { λ it words. (words.tag ≡ it.tag) × ((words.a ≡ it.a) × (words.b ≡ it.b)) };
+
+    fn from(it: Item) -> Words {
+        Words {
+            tag: it.tag,
+            a: it.a,
+            b: it.b,
+        }
+    }
+}
+
 impl Item {
     // The item of a scalar.
     pub fn of_scalar(name: u64, v: Scalar) -> Item
         ensures { result ≡ item_of name v }
     {
-        let w = words_of(v);
-        Item {
-            name,
-            tag: w.tag,
-            a: w.a,
-            b: w.b,
-        }
+        let Words { tag, a, b } = v.into();
+        Item { name, tag, a, b }
     }
 
     // The item of a List or Struct of so many members, its span itself counted.
@@ -86,7 +94,7 @@ impl Item {
     pub fn scalar(self) -> Scalar
         ensures { result ≡ scalar_in self }
     {
-        item_scalar(self.tag, self.a, self.b)
+        Words::from(self).into()
     }
 
     // The bytes of a Text in its text buffer; no other item has any.
@@ -170,11 +178,8 @@ impl<'a> ValueList<'a> {
     fn word_at(&self, i: usize, k: usize) -> u64
         ensures { result ≡ get_or self.now.items.now (i * item_words + k) 0 }
     {
-        if i <= self.item_count() && k < self.items.len() - i * ITEM_WORDS {
-            self.items[i * ITEM_WORDS + k]
-        } else {
-            0
-        }
+        let at = i.saturating_mul(ITEM_WORDS).saturating_add(k);
+        self.items.get(at).copied().unwrap_or(0)
     }
 
     // The item i, its words past the end 0.

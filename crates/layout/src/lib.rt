@@ -182,11 +182,8 @@ impl<'a> Layout<'a> {
     fn word(&self, i: usize, k: usize) -> u32
         ensures { result ≡ get_or self.now.words.now (i * 12 + k) 0 }
     {
-        if i <= self.entry_count() && k < self.words.len() - i * 12 {
-            self.words[i * 12 + k]
-        } else {
-            0
-        }
+        let at = i.saturating_mul(12).saturating_add(k);
+        self.words.get(at).copied().unwrap_or(0)
     }
 
     #[tactic(auto, unfolding(crate::specs::Layout::entry_at))]

@@ -2,7 +2,16 @@
 
 #![tactic(auto)]
 
-ghost use Rattle.std.specs.Prelude.{◌≡◌, ◌++◌, length, take, drop};
+ghost use Rattle.std.specs.Prelude.{◌≡◌, ◌++◌, length, take, drop, set};
+
+// Stores a value at a place, where there is such a place.
+pub fn put<T: Copy>(cells: &mut [T], at: usize, value: T)
+    ensures { cells.new ≡ set cells.old at value }
+{
+    if at < cells.len() {
+        cells[at] = value;
+    }
+}
 
 // Copies bytes to the front of a buffer, as many as it has room for.
 pub fn copy(src: &[u8], out: &mut [u8])

@@ -274,45 +274,47 @@ pub struct Words {
 }
 
 // The words of a scalar's item.
-pub fn words_of(s: Scalar) -> Words
-    ensures { (result.tag ≡ tag_of s) × ((result.a ≡ first_of s) × (result.b ≡ second_of s)) }
-{
-    match s {
-        Scalar::Null => Words {
-            tag: Tag::Null.into(),
-            a: 0,
-            b: 0,
-        },
-        Scalar::Text(start, count) => Words {
-            tag: Tag::Text.into(),
-            a: start,
-            b: count,
-        },
-        Scalar::Int(negative, size) => Words {
-            tag: Tag::Int.into(),
-            a: word_of(negative, size),
-            b: 0,
-        },
-        Scalar::Decimal(negative, size, scale) => Words {
-            tag: Tag::Decimal.into(),
-            a: word_of(negative, size),
-            b: scale,
-        },
-        Scalar::Float(x) => Words {
-            tag: Tag::Float.into(),
-            a: float_word(x),
-            b: 0,
-        },
-        Scalar::FloatBits(w) => Words {
-            tag: Tag::Float.into(),
-            a: w,
-            b: 0,
-        },
-        Scalar::Bool(b) => Words {
-            tag: Tag::Bool.into(),
-            a: u64::from(b),
-            b: 0,
-        },
+impl From<Scalar> for Words {
+    ghost from_gives = { λ s words. (words.tag ≡ tag_of s) × ((words.a ≡ first_of s) × (words.b ≡ second_of s)) };
+
+    fn from(s: Scalar) -> Words {
+        match s {
+            Scalar::Null => Words {
+                tag: Tag::Null.into(),
+                a: 0,
+                b: 0,
+            },
+            Scalar::Text(start, count) => Words {
+                tag: Tag::Text.into(),
+                a: start,
+                b: count,
+            },
+            Scalar::Int(negative, size) => Words {
+                tag: Tag::Int.into(),
+                a: word_of(negative, size),
+                b: 0,
+            },
+            Scalar::Decimal(negative, size, scale) => Words {
+                tag: Tag::Decimal.into(),
+                a: word_of(negative, size),
+                b: scale,
+            },
+            Scalar::Float(x) => Words {
+                tag: Tag::Float.into(),
+                a: float_word(x),
+                b: 0,
+            },
+            Scalar::FloatBits(w) => Words {
+                tag: Tag::Float.into(),
+                a: w,
+                b: 0,
+            },
+            Scalar::Bool(b) => Words {
+                tag: Tag::Bool.into(),
+                a: u64::from(b),
+                b: 0,
+            },
+        }
     }
 }
 
@@ -334,17 +336,20 @@ pub fn float_scalar(w: u64) -> Scalar
     }
 }
 
-// The scalar of an item's tag and two words.
-#[tactic(auto, unfolding(crate::specs::Scalar::scalar_of))]
-pub fn item_scalar(tag: u64, a: u64, b: u64) -> Scalar
-    ensures { result ≡ scalar_of tag a b }
-{
-    match Tag::try_from(tag) {
-        Ok(Tag::Text) => Scalar::Text(a, b),
-        Ok(Tag::Int) => Scalar::Int(is_minus(a), size_of(a)),
-        Ok(Tag::Decimal) => Scalar::Decimal(is_minus(a), size_of(a), b),
-        Ok(Tag::Float) => float_scalar(a),
-        Ok(Tag::Bool) => Scalar::Bool(a == 1),
-        _ => Scalar::Null,
+// The scalar of an item's words.
+impl From<Words> for Scalar {
+    ghost from_gives = { λ words s. s ≡ scalar_of words.tag words.a words.b };
+
+    #[tactic(auto, unfolding(crate::specs::Scalar::scalar_of))]
+    fn from(words: Words) -> Scalar {
+        let Words { tag, a, b } = words;
+        match Tag::try_from(tag) {
+            Ok(Tag::Text) => Scalar::Text(a, b),
+            Ok(Tag::Int) => Scalar::Int(is_minus(a), size_of(a)),
+            Ok(Tag::Decimal) => Scalar::Decimal(is_minus(a), size_of(a), b),
+            Ok(Tag::Float) => float_scalar(a),
+            Ok(Tag::Bool) => Scalar::Bool(a == 1),
+            _ => Scalar::Null,
+        }
     }
 }

@@ -223,7 +223,7 @@ fn mixed(sum: u64, w: u64) -> u64 {
 
 fn read_in(part: &mut [u8], v: u64, bits: u32) -> u64 {
     binary::put_word(part, 1, v);
-    float::parse_float(part, bits, 1).map_or(0, |v| value::words_of(v).a)
+    float::parse_float(part, bits, 1).map_or(0, |v| value::Words::from(v).a)
 }
 
 fn write_in(part: &mut [u8], w: u64, bits: u32) -> u64 {

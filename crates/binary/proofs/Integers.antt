@@ -75,12 +75,3 @@ whole_word n v h l = mod-eq_of_lt (lt_of_lt_of_le l (subst (λ (m : ℕ). 256 ^ 
 -- what a reader of at most eight bytes finds
 pub word-is : (order : ℕ) (s : List ℕ) → ((k : ℕ) → k < length s → get_or s k 0 < 256) → width_ok (length s) ≡ true → word_in order s % 2 ^ 64 ≡ word_in order s
 word-is order s bytes ok = whole_word (length s) (word_in order s) (width-high (length s) ok) (word_below order s bytes)
-
-pub integer-numbered : (order : ℕ) (signed : Bool) (s : List ℕ) → Numbered (integer_of order signed s)
-unfolding integer_of
-integer-numbered order signed s =
-    numbered-cond (width_ok (length s)) _ unlawful
-    (numbered-cond signed (signed_word (length s) (word_in order s)) (unsigned_word (word_in order s))
-    (numbered-cond (leb (256 ^ length s / 2) (word_in order s)) (some true (256 ^ length s - word_in order s)) (some false (word_in order s)) tt tt)
-    (numbered-in 9 (2 ^ 63) false (word_in order s) (λ e. omega arith)))
-    (λ e. omega arith)

@@ -77,11 +77,6 @@ pub record Put (l : List ℕ) (n w i rest : ℕ) : Type 0 where
   pub tail : drop i l ≡ big_bytes (n - i) w
   pub left : rest ≡ w / 256 ^ (n - i)
 
-put-none : (l : List ℕ) (n w : ℕ) → length l ≡ n → Put l n w n w
-put-none l n w e =
-    let z : n - n ≡ 0 = omega arith in
-    record { tail = rw (z, ← e, drop-length); left = rw z (sym (div-one w)) }
-
 put-more : (l : List ℕ) (n w i rest : ℕ) → 0 < i → i ≤ n → length l ≡ n → Put l n w i rest → Put (set l (i - 1) (rest % 256)) n w (i - 1) (rest / 256)
 put-more l n w i rest h k e r =
     let d : n - (i - 1) ≡ suc (n - i) = omega arith in
@@ -101,12 +96,6 @@ little-more l n w i rest h e q =
 pub record Turn (l : List ℕ) (n order w k rest : ℕ) : Type 0 where
   pub big : order ≡ 0 → Put l n w (n - k) rest
   pub little : (order ≡ 0 → ⊥) → little_bytes n w ≡ take k l ++ little_bytes (n - k) rest
-
-pub turn-none : (l : List ℕ) (order w : ℕ) → Turn l (length l) order w 0 w
-turn-none l order w = record {
-  big = λ e. rw sub-zero (put-none l (length l) w refl);
-  little = λ e. rw sub-zero refl;
-}
 
 pub turn-big : (l : List ℕ) (n order w k rest : ℕ) → k < n → length l ≡ n → order ≡ 0 → Turn l n order w k rest → Turn (set l (n - 1 - k) (rest % 256)) n order w (k + 1) (rest / 256)
 turn-big l n order w k rest h e z t =

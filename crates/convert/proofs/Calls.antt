@@ -49,30 +49,11 @@ refusing e n number bytes r r' c c' q a b k z = record {
 -- ---- reading back
 
 module _ (d : Decoded) (number words bytes : ℕ) (bi bi' bt bt' : List ℕ) (c c' : List ℤ) (r : RecordRead d number words bytes bi bi' bt bt' c c') where
-  pub words-in : words ≤ length bi'
-  words-in = (in-front (length bi) words bi' (items_of d) r.words_read r.items_left).1
-
-  pub bytes-in : bytes ≤ length bt'
-  bytes-in = (in-front (length bt) bytes bt' (texts_of d) r.text_bytes r.text_left).1
-
   pub words_are : take words bi' ≡ items_of d
   words_are = (in-front (length bi) words bi' (items_of d) r.words_read r.items_left).0
 
   pub bytes-are : take bytes bt' ≡ texts_of d
   bytes-are = (in-front (length bt) bytes bt' (texts_of d) r.text_bytes r.text_left).0
-
-  pub back-judged : (items text : List ℕ) (to end : ℕ) → to ≡ length items / item_words → end ≡ words / item_words → (kept : Bool)
-      → kept ≡ all_kept text (take bytes bt') (values items 0 to) (values (take words bi') 0 end) → (answer : ℕ) → answer ≡ back_asks number kept
-      → (bi'' bt'' : List ℕ) → Cleared bi' bi'' × Cleared bt' bt'' → length bi' ≡ length bi → length bt' ≡ length bt → BackJudged d items text answer bi bi'' bt bt'' c c'
-  back-judged items text to end p q kept k answer a bi'' bt'' z m n =
-      let e : end ≡ length (items_of d) / item_words = q ∙ ap (λ i. i / item_words) r.words_read in
-      let s : kept ≡ kept_in items text d = k ∙ (λ i. all_kept text (bytes-are i) (values items 0 (p i)) (values (words_are i) 0 (e i))) in
-      record {
-        numbered = a ∙ (λ i. back_asks (r.numbered i) (s i));
-        back_items_left = again bi bi' bi'' m z.0;
-        back_text_left = again bt bt' bt'' n z.1;
-        counts_left = r.counts_left;
-      }
 
 -- ---- a list rewritten
 
@@ -83,9 +64,6 @@ module _ (l masks : List ℕ) (page : ℕ) (items text r bi bt : List ℕ) (c : 
 
   abbrev Whole : Encoded
   Whole = rewritten l masks page items text (length r) (length bi) (length bt) (length c)
-
-  pub record-in : bytes ≤ length r'
-  record-in = (in-front (length r) bytes r' (bytes_of E) w.record_bytes w.record_left).1
 
   -- the writer's own answer, where that is the call's
   kept-answer : (c'' : List ℤ) → c'' ≡ replicate (length c) (pos 0) → Whole ≡ E → RecordWritten Whole number bytes r r' c c''

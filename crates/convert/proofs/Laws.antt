@@ -42,9 +42,6 @@ scaled-far big little d b h z =
     let q : 1 * 10 ^ d ≤ little * 10 ^ d = mul-le-mul_right (10 ^ d) (omega arith) in
     sym (ne_eqb (little * 10 ^ d) big (λ e. omega (arith, one-mul (10 ^ d))))
 
-pub scaled-zero : (big little d : ℕ) → little ≡ 0 → eqb 0 big ≡ eqb (little * 10 ^ d) big
-scaled-zero big little d z = sym (ap (λ n. eqb (n * 10 ^ d) big) z ∙ ap (λ n. eqb n big) (zero-mul (10 ^ d)))
-
 module _ (big little d p : ℕ) (e : p ≡ 10 ^ d) where
   pub scaled-part : (big % p ≡ 0 → ⊥) → false ≡ eqb (little * 10 ^ d) big
   scaled-part h = sym (ne_eqb (little * 10 ^ d) big (λ k. h (ap (λ n. n % p) (sym k) ∙ ap (λ n. little * n % p) (sym e) ∙ mul-mod_left little p)))
@@ -59,26 +56,9 @@ module _ (big little d p : ℕ) (e : p ≡ 10 ^ d) where
 
 -- ---- decimals
 
-pub scale-is : (x : Item) → x.tag ≡ tag_decimal → x.b ≡ (exact_in x).scale
-unfolding exact_in
-scale-is x h = rw (eq-eqb x.tag tag_decimal h)
-
 pub scale-none : (x : Item) → (x.tag ≡ tag_decimal → ⊥) → 0 ≡ (exact_in x).scale
 unfolding exact_in
 scale-none x h = rw (ne_eqb x.tag tag_decimal h)
-
-pub exact-is : (x : Item) (m : Bool) (n k : ℕ) → m ≡ minus_in x.a → n ≡ size_in x.a → k ≡ (exact_in x).scale → exact m n k ≡ exact_in x
-unfolding exact_in
-exact-is x m n k p q e = λ i. exact (p i) (q i) (e i)
-
-module _ (x y : Exact) (m n : Bool) (s k t l : ℕ) (p : exact m s k ≡ x) (q : exact n t l ≡ y) where
-  pub decimal-signs : same_bool m n ≡ false → false ≡ same_decimal x y
-  unfolding same_decimal
-  decimal-signs h = rw (sym p, sym q, h)
-
-  pub decimal-sizes : same_bool m n ≡ true → (r : Bool) → r ≡ same_size s k t l → r ≡ same_decimal x y
-  unfolding same_decimal
-  decimal-sizes h r e = rw (sym p, sym q, h) e
 
 -- ---- bytes
 
@@ -92,66 +72,8 @@ bytes-length (x ∷ xs) (y ∷ ys) h = go (eqb x y) (bytes-length xs ys (λ e. h
     go true rest = rest
     go false rest = refl
 
-module _ (xs ys : List ℕ) (i : ℕ) where
-  both : i < length xs → i < length ys → same (drop i xs) (drop i ys) ≡ (eqb (get_or xs i 0) (get_or ys i 0) && same (drop (i + 1) xs) (drop (i + 1) ys))
-  both p q = rw (add-one i, drop-cons xs i 0 p, drop-cons ys i 0 q)
-
-  pub bytes-differ : i < length xs → i < length ys → (get_or xs i 0 ≡ get_or ys i 0 → ⊥) → same (drop i xs) (drop i ys) ≡ false
-  bytes-differ p q h = both p q ∙ rw (ne_eqb (get_or xs i 0) (get_or ys i 0) h)
-
-  pub bytes-go : i < length xs → i < length ys → get_or xs i 0 ≡ get_or ys i 0 → same (drop i xs) (drop i ys) ≡ same (drop (i + 1) xs) (drop (i + 1) ys)
-  bytes-go p q h = both p q ∙ rw (eq-eqb (get_or xs i 0) (get_or ys i 0) h)
-
-empty : (xs : List ℕ) → length xs ≡ 0 → xs ≡ []
-empty [] h = refl
-empty (x ∷ xs) h = absurd (omega arith)
-
-pub bytes-end : (xs ys : List ℕ) (i : ℕ) → length xs ≤ i → length ys ≤ i → same (drop i xs) (drop i ys) ≡ true
-bytes-end xs ys i p q = ap₂ same (empty (drop i xs) (omega (arith, length-drop i xs))) (empty (drop i ys) (omega (arith, length-drop i ys)))
-
--- ---- texts
-
-module _ (t : List ℕ) (a n : ℕ) (u : List ℕ) (b m : ℕ) where
-  pub text-first : text_ok (length t) a n ≡ false → false ≡ same_text t a n u b m
-  unfolding same_text
-  text-first h = rw h
-
-  pub text-second : text_ok (length t) a n ≡ true → text_ok (length u) b m ≡ false → false ≡ same_text t a n u b m
-  unfolding same_text
-  text-second h k = rw (h, k)
-
-  pub text-both : text_ok (length t) a n ≡ true → text_ok (length u) b m ≡ true → (r : Bool) → r ≡ same (take (a + n - a) (drop a t)) (take (b + m - b) (drop b u)) → r ≡ same_text t a n u b m
-  unfolding same_text
-  text-both h k r e =
-      let p : a + n - a ≡ n = omega arith in
-      let q : b + m - b ≡ m = omega arith in
-      rw (h, k) (rw (p, q) at e)
-
 -- ---- floats
-
-pub float-bits : (a b : ℕ) → (a ≡ b → ⊥) → false ≡ same_float a b
-unfolding same_float
-float-bits a b h = rw (ne_eqb a b h)
 
 pub float-nan : (a b : ℕ) (n : Bool) → a ≡ b → n ≡ nan_bits binary64 a → not n ≡ same_float a b
 unfolding same_float
 float-nan a b n h e = rw (eq-eqb a b h) (ap not e)
-
--- ---- items
-
-module _ (t u : List ℕ) (x y : Item) where
-  pub item-numbers : is_number x.tag ≡ true → is_number y.tag ≡ true → same_decimal (exact_in x) (exact_in y) ≡ same_item t u x y
-  unfolding same_item
-  item-numbers p q = rw (p, q)
-
-  pub item-number : is_number x.tag ≡ true → is_number y.tag ≡ false → false ≡ same_item t u x y
-  unfolding same_item
-  item-number p q = rw (p, q, ne_eqb x.tag y.tag (λ e. true≢false (sym p ∙ ap is_number e ∙ q)))
-
-  pub item-tags : is_number x.tag ≡ false → (x.tag ≡ y.tag → ⊥) → false ≡ same_item t u x y
-  unfolding same_item
-  item-tags p h = rw (p, ne_eqb x.tag y.tag h)
-
-  pub item-kinds : is_number x.tag ≡ false → x.tag ≡ y.tag → same_kind t u x y ≡ same_item t u x y
-  unfolding same_item
-  item-kinds p h = rw (p, eq-eqb x.tag y.tag h)

@@ -62,12 +62,6 @@ numbered n bytes part last e l = by (eqb n 0) refl
 
 -- ---- each kind
 
-pub text-part : (page : ℕ) (right : Bool) (pad : ℕ) (part last : List ℕ) (s : Shows) → last ≡ encoded_in page right pad part s
-    → last ≡ part_after (refusal_at (length part) s) (text_bytes page right pad (length part) s) part
-text-part page right pad part last (shows t) e =
-    fitted (leb (length t) (length part)) (written page right pad (length part) t) part last e (λ q. written-length page right pad (length part) t (leb-true (length t) (length part) q))
-text-part page right pad part last none e = e
-
 display-length : (page w : ℕ) (negative : Bool) (size : ℕ) (signed : Bool) (sign : ℕ) → int_fits w negative size signed sign ≡ true → length (map (onto_page page) (int_bytes w negative size sign)) ≡ w
 display-length page w negative size signed sign f = length-map (int_bytes w negative size sign) (onto_page page) ∙ length-bytes w negative size signed sign f
 
@@ -99,21 +93,7 @@ decimal-length p q s page w negative size f = by (eqb p 0) (eqb p 1) f
     by false true e = PackedRound.encoded-length w negative size (flag q) (PackedWriting.fits-some w size e)
     by false false e = zoned-length page w negative size (flag q) e
 
--- ---- a Decimal field's number by the item: a List or Struct (the Bool t) is refused
-
-pub item-judged : (t : Bool) (p q s w : ℕ) (n : Answer Whole) → decimal_judged p q s w (cond t no_number n) ≡ cond t 13 (decimal_judged p q s w n)
-item-judged true p q s w n = refl
-item-judged false p q s w n = refl
-
-pub item-after : (t : Bool) (p q s page w : ℕ) (n : Answer Whole) (part : List ℕ)
-    → part_after (decimal_judged p q s w (cond t no_number n)) (decimal_written p q page w (cond t no_number n)) part ≡ part_after (cond t 13 (decimal_judged p q s w n)) (decimal_written p q page w n) part
-item-after true p q s page w n part = refl
-item-after false p q s page w n part = refl
-
 -- ---- a Bool's byte
-
-pub bool-none : (b : ℕ) (part : List ℕ) → length part < 1 → part ≡ part_after 0 (b ∷ []) part
-bool-none b part h = rw (lt-leb 1 (length part) h)
 
 pub bool-some : (b : ℕ) (part : List ℕ) → 1 ≤ length part → set part 0 b ≡ part_after 0 (b ∷ []) part
 bool-some b part h = rw (le-leb 1 (length part) h) (go part h)

@@ -35,22 +35,6 @@ go e t f = rw (← e, t) f
 pub stop : {a A : Bool} (X : Bool) → a ≡ A → a ≡ false → false ≡ (A && X)
 stop X e t = rw (← e, t)
 
-pub go-two : (A B : Bool) {a x X : Bool} → a ≡ (A && B) → a ≡ true → x ≡ X → x ≡ (A && (B && X))
-go-two A B {a} {x} {X} e t f = by A B (sym e ∙ t)
-  where
-    by : (A B : Bool) → (A && B) ≡ true → x ≡ (A && (B && X))
-    by true true q = f
-    by true false q = absurd (false≢true q)
-    by false B q = absurd (false≢true q)
-
-pub stop-two : (A B X : Bool) {a : Bool} → a ≡ (A && B) → a ≡ false → false ≡ (A && (B && X))
-stop-two A B X e t = by A B (sym e ∙ t)
-  where
-    by : (A B : Bool) → (A && B) ≡ false → false ≡ (A && (B && X))
-    by true true q = absurd (false≢true (sym q))
-    by true false q = refl
-    by false B q = refl
-
 pub some : (n : ℕ) → (n ≡ 0 → ⊥) → ltb 0 n ≡ true
 some n h = lt-ltb 0 n (omega arith)
 
@@ -79,39 +63,7 @@ every-same f g (x ∷ t) h = rw (h 0 (omega arith), every-same f g t (λ k l. h 
 pub untrimmed-long : (w : ℕ) (t : List ℕ) → ((k : ℕ) → k < length t → get_or t k 0 < 256) → eqb (length t) w ≡ untrimmed_fits w t
 untrimmed-long w t h = rw (every_true byte_ok t (λ k b. lt-ltb (get_or t k 0) 256 (h k b)), and-true)
 
-pub lower-none : (x : ℕ) → x < 48 → false ≡ is_lower x
-lower-none x h = rw (lt-leb 48 x h, lt-leb 65 x (omega arith), lt-leb 97 x (omega arith))
-
-pub lower-digit : (x : ℕ) → 48 ≤ x → x < 58 → true ≡ is_lower x
-lower-digit x l h =
-    let e : 48 + (x - 48) ≡ x = omega arith in
-    rw (le-leb 48 x l, le-leb x 57 (omega arith), lt-ltb (x - 48) 16 (omega arith), lt-ltb (x - 48) 10 (omega arith), e, eq-eqb x x refl)
-
-pub lower-gap : (x : ℕ) → 58 ≤ x → x < 97 → false ≡ is_lower x
-lower-gap x l h = by (dec_lt x 65) (dec_lt x 71)
-  where
-    by : Dec (x < 65) → Dec (x < 71) → false ≡ is_lower x
-    by (yes p) q = rw (past 48 57 x l, lt-leb 65 x p, lt-leb 97 x h)
-    by (no p) (yes q) =
-        rw (past 48 57 x l, le-leb 65 x (omega arith), le-leb x 70 (omega arith), lt-ltb (x - 55) 16 (omega arith), le-ltb (x - 55) 10 (omega arith))
-        (sym (ne_eqb (87 + (x - 55)) x (λ e. omega arith)))
-    by (no p) (no q) = rw (past 48 57 x l, past 65 70 x (omega arith), lt-leb 97 x h)
-
-pub lower-letter : (x : ℕ) → 97 ≤ x → ltb x 103 ≡ is_lower x
-lower-letter x l = by (dec_lt x 103)
-  where
-    by : Dec (x < 103) → ltb x 103 ≡ is_lower x
-    by (yes p) =
-        let e : 87 + (x - 87) ≡ x = omega arith in
-        rw (past 48 57 x (omega arith), past 65 70 x (omega arith), le-leb 97 x l, le-leb x 102 (omega arith), lt-ltb x 103 p, lt-ltb (x - 87) 16 (omega arith), le-ltb (x - 87) 10 (omega arith), e)
-        (sym (eq-eqb x x refl))
-    by (no p) =
-        rw (past 48 57 x (omega arith), past 65 70 x (omega arith), past 97 102 x (omega arith), le-ltb x 103 (omega arith))
-
 -- twice a width, by halves
-pub odd-length : (n w : ℕ) → n % 2 ≡ 1 → eqb n (2 * w) ≡ false
-odd-length n w h = ne_eqb n (2 * w) (λ e. omega arith)
-
 pub half_length : (n w : ℕ) → (n % 2 ≡ 1 → ⊥) → n / 2 ≡ w → eqb n (2 * w) ≡ true
 half_length n w h e = eq-eqb n (2 * w) (omega arith)
 
@@ -119,37 +71,6 @@ pub other_length : (n w : ℕ) → (n / 2 ≡ w → ⊥) → eqb n (2 * w) ≡ f
 other_length n w h = ne_eqb n (2 * w) (λ e. h (omega arith))
 
 -- ---- Int and Binary
-
-pub digits-is : (w sign : ℕ) (negative : Bool) (size : ℕ) → (minus_ok negative size && Display.int_fits w negative size false sign) ≡ digits_fit w sign negative size
-unfolding digits_fit Display.int_fits
-digits-is w sign negative size = by (Display.is_separate sign) negative
-  where
-    width : leb 2 w ≡ ltb 0 (w - 1)
-    width = at (leb 2 w) refl
-      where
-        at : (b : Bool) → leb 2 w ≡ b → b ≡ ltb 0 (w - 1)
-        at true e = let h = leb-true 2 w e in sym (lt-ltb 0 (w - 1) (omega arith))
-        at false e = let h = leb-false 2 w e in sym (le-ltb 0 (w - 1) (omega arith))
-
-    last : (a b c : Bool) → (a && (b && c)) ≡ (b && (c && a))
-    last true b c = both_ways b c
-      where
-        both_ways : (b c : Bool) → (b && c) ≡ (b && (c && true))
-        both_ways true true = refl
-        both_ways true false = refl
-        both_ways false c = refl
-    last false b c = by-false b c
-      where
-        by-false : (b c : Bool) → false ≡ (b && (c && false))
-        by-false true true = refl
-        by-false true false = refl
-        by-false false c = refl
-
-    by : (s n : Bool) → (minus_ok n size && cond s (room_for (w - 1) size) (not (n && not false) && room_for w size))
-        ≡ cond s (leb 2 w && (ltb size (10 ^ (w - 1)) && minus_ok n size)) (ltb 0 w && (ltb size (10 ^ w) && not n))
-    by true n = rw width (last (minus_ok n size) (ltb 0 (w - 1)) (ltb size (10 ^ (w - 1))))
-    by false true = and-false (ltb 0 size) ∙ last false (ltb 0 w) (ltb size (10 ^ w))
-    by false false = last true (ltb 0 w) (ltb size (10 ^ w))
 
 module _ (w : ℕ) (ok : width_ok w ≡ true) (size : ℕ) where
   twice : 2 * half_at w ≡ 256 ^ w
@@ -176,9 +97,6 @@ module _ (w : ℕ) (ok : width_ok w ≡ true) (size : ℕ) where
       by true e = e ∙ sym (and (lt-ltb size (2 * half_at w) (let k = ltb-true (size / 2) (half_at w) e in omega arith)) (lt-ltb size (2 ^ 63) h))
       by false e = e ∙ rw (le-ltb size (2 * half_at w) (let k = ltb-false (size / 2) (half_at w) e in omega arith))
 
-  pub range-big : 2 ^ 63 ≤ size → false ≡ in_range w false false size
-  range-big h = rw (le-ltb size (2 ^ 63) h) (sym (and-false (ltb size (256 ^ w))))
-
 -- ---- Float
 
 number : (x : Float) → eq x x ≡ true → is_nan x ≡ false
@@ -190,9 +108,6 @@ number (fin s m d) e = refl
 no_number : (x : Float) → eq x x ≡ false → is_nan x ≡ true
 unfolding ne is_nan
 no_number x e = ap is_nan (differs_from_itself x (subst (λ (t : Bool). T (not t)) (sym e) tt))
-
-pub float-go : (bits w : ℕ) (x : Float) (k : ℕ) (r : Bool) → fits binary64 x ≡ true → eq x x ≡ true → k ≡ to_bits binary64 x → r ≡ word_fits bits w k → r ≡ ((fits binary64 x && not (is_nan x)) && word_fits bits w (to_bits binary64 x))
-float-go bits w x k r f e g h = rw (f, number x e, ← g) h
 
 pub float-stop : (bits w : ℕ) (x : Float) → fits binary64 x ≡ true → eq x x ≡ false → false ≡ ((fits binary64 x && not (is_nan x)) && word_fits bits w (to_bits binary64 x))
 float-stop bits w x f e = rw (f, no_number x e)
@@ -208,20 +123,6 @@ module _ (mask : List ℕ) {a : Bool} (ea : a ≡ is_sign (get_or mask 0 0)) whe
   pub tells_first : a ≡ true → true ≡ tells mask
   unfolding tells
   tells_first t = rw (← ea, t)
-
-  module _ (ha : a ≡ false) {b : Bool} (eb : b ≡ is_sign (last_of mask)) where
-    pub tells-last : b ≡ true → true ≡ tells mask
-    unfolding tells
-    tells-last t = rw (← ea, ha, ← eb, t)
-
-    module _ (hb : b ≡ false) {d : Bool} (ed : d ≡ last_two 67 82 mask) where
-      pub tells-credit : d ≡ true → true ≡ tells mask
-      unfolding tells
-      tells-credit t = rw (← ea, ha, ← eb, hb, ← ed, t)
-
-      pub tells-debit : d ≡ false → {r : Bool} → r ≡ last_two 68 66 mask → r ≡ tells mask
-      unfolding tells
-      tells-debit t e = rw (← ea, ha, ← eb, hb, ← ed, t) e
 
 -- the three questions of a mask at once
 asked : (F S P E L : Bool) → eqb (cond F 15 (cond (S && (P && E)) (cond L 0 15) 14)) 0 ≡ true → (Z : Bool) → Z ≡ (L && (not F && (Z && (P && (E && S)))))

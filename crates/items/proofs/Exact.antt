@@ -119,9 +119,6 @@ module _ (v : List ℕ) (i hi : ℕ) (h : i < hi) (it : Item) (p : it ≡ head_o
   pub at_own : item_ok text in_list it (count (values v (i + 1) en)) (en - i - 1) ≡ true
   at_own = and_left (item_ok text in_list it (count (values v (i + 1) en)) (en - i - 1)) (list_ok text (eqb it.tag 6) (levels - 1) (values v (i + 1) en)) both
 
-  pub at-members : list_ok text (eqb it.tag 6) (levels - 1) (values v (i + 1) en) ≡ true
-  at-members = and_right (item_ok text in_list it (count (values v (i + 1) en)) (en - i - 1)) (list_ok text (eqb it.tag 6) (levels - 1) (values v (i + 1) en)) both
-
   pub at_rest : list_ok text in_list levels (values v en hi) ≡ true
   at_rest = and_right (item_ok text in_list it (count (values v (i + 1) en)) (en - i - 1) && list_ok text (eqb it.tag 6) (levels - 1) (values v (i + 1) en)) (list_ok text in_list levels (values v en hi)) all
 
@@ -137,9 +134,6 @@ module _ (v : List ℕ) (i hi : ℕ) (h : i < hi) (it : Item) (p : it ≡ head_o
       go false e =
           let b : span_of it ≡ 1 = ap (λ t. cond t it.b 1) e in
           omega arith
-
-  pub at-inside : i + span_of it ≤ hi
-  at-inside = omega (arith, at_exact)
 
 -- the whole list
 module _ (items : List ℕ) (text : ℕ) (k : well_formed items text ≡ true) where

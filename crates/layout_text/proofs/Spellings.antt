@@ -73,18 +73,11 @@ room-enough text = by (eqb (text_checked text) 0) refl
 -- ---- the names that a table points at
 
 module _ (text starts : List ℕ) (count number : ℕ) where
-  pub name-none : min count (length starts) ≤ number → [] ≡ get_or (names_at text starts count) number []
-  name-none h = sym (get_or-eq_default (names_at text starts count) [] {n = number} (omega (arith, names-long text starts count)))
 
   pub start_none : min count (length starts) ≤ number → 0 ≡ start_in text (get_or (take count starts) number 0)
   start_none h =
       let z : get_or (take count starts) number 0 ≡ 0 = get_or-eq_default (take count starts) 0 {n = number} (omega (arith, length-take count starts)) in
       start-there text 0 (omega arith) ∙ ap (start_in text) (sym z)
-
-  pub name-there : number < count → number < length starts → line_from text (get_or starts number 0) ≡ get_or (names_at text starts count) number []
-  name-there a l =
-      let t : length (take count starts) ≡ min count (length starts) = length-take count starts in
-      sym (get_or-map-at (line_from text) (take count starts) number 0 (omega arith) ∙ ap (line_from text) (get_or-take count starts number 0 a))
 
 -- ---- the table that the pass over a text makes
 

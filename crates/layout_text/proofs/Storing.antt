@@ -31,12 +31,6 @@ use Rattle.layout_text.proofs.Words.{words_long, names_below, names_said, names-
 
 -- ---- a part of a buffer
 
-pub put-part : (at w : ℕ) (xs new last : List ℕ) → at + w ≤ length xs → last ≡ new ++ drop w (take (at + w - at) (drop at xs))
-    → take at xs ++ (last ++ drop (at + w - at) (drop at xs)) ≡ take at xs ++ (new ++ drop (at + w) xs)
-put-part at w xs new last h e =
-    let n : drop w (take (at + w - at) (drop at xs)) ≡ [] = drop_of_length-le (take (at + w - at) (drop at xs)) (le_of_eq (mid-length at w xs h)) in
-    rw (e, n, append-nil) (in_whole at w xs new)
-
 -- a buffer that holds `done`, then what it held before: one more part behind `done`
 pub put_next : (at w : ℕ) (xs xs₀ done new : List ℕ) → length done ≡ at → length new ≡ w → xs ≡ done ++ drop at xs₀
     → take at xs ++ (new ++ drop (at + w) xs) ≡ (done ++ new) ++ drop (at + w) xs₀
@@ -65,10 +59,6 @@ lawful-entry text k e h =
     (fourth (ended text) (eqb (length (lines_of text) % 11) 1) (says page_word is_number (get_or (lines_of text) 0 [])) (all_below (entry_lawful (lines_of text)) (count_of (lines_of text))) e)
 
 -- in a text that is stored no line is refused
-pub page-there : {text : List ℕ} (r : Result Number Refusal) → PageTells text r → {count : ℕ} → Lasts text count → ((x : Number) → r ≡ Ok x → ⊥) → ⊥
-page-there (Ok n) t w f = f n refl
-page-there (Err e) t w f = false≢true (sym t.1 ∙ w.is_lawful)
-
 pub lines_there : {text : List ℕ} {k at count : ℕ} (r : Result Said Refusal) → Tells text at r → Lasts text count → k < count → Here text (k * 11 + 1) at → ((x : Said) → r ≡ Ok x → ⊥) → ⊥
 lines_there (Ok s) t w h r f = f s refl
 lines_there {text} {k} (Err e) t w h r f = false≢true (sym (t.1 k r) ∙ both)
@@ -220,18 +210,6 @@ module _ {text : List ℕ} {at k seen : ℕ} {starts starts₀ : List ℕ} (g : 
     pub name_bound : s.name < 4294967296
     pub depending_bound : MatchOption s.depending ⊤ (λ d. d < 4294967296)
 
-  pub seen-room : Room
-  seen-room = record {
-    count_in_bounds = omega (arith, g.few, g.long, w.few);
-    starts_len = g.long;
-    name_bound = omega (arith, seen-told.name-inside, w.small);
-    depending_bound = by s.depending seen-told.depending;
-  }
-    where
-      by : (o : Option ℕ) → DependsOn text k o → MatchOption o ⊤ (λ d. d < 4294967296)
-      by None f = tt
-      by (Some x) f = omega (arith, f.inside, w.small)
-
   pub seen_next : (c : ℕ) (starts' : List ℕ) → take c starts' ≡ see_both text (take seen starts) s.name s.depending → drop c starts' ≡ drop c starts
       → (seen ≤ c) × (c ≤ seen + 2) → length starts' ≡ length starts → Seen-to text s.next (k + 1) c starts' starts₀
   seen_next c starts' x d y z = record {
@@ -313,13 +291,6 @@ module _ {text : List ℕ} {at k seen m : ℕ} {starts words masks starts₀ wor
           masks-long = rw (add-one, length-append) (omega (arith, g.masks-long, told.long));
           room = omega (arith, g.room, told.room);
         }
-
-  pub stored-end : k ≡ count_of (lines_of text) → (words ≡ words_of (lines_of text) ++ drop (length (words_of (lines_of text))) words₀) × (masks ≡ masks_of (lines_of text) ++ drop (length (masks_of (lines_of text))) masks₀)
-  stored-end e =
-      let l = lines_of text in (
-        g.words_are ∙ ap (λ (j : ℕ). words_below l k ++ drop j words₀) (sym (words_long l k)) ∙ ap (λ (j : ℕ). words_below l j ++ drop (length (words_below l j)) words₀) e,
-        g.masks-are ∙ ap (λ (j : ℕ). masks_below l k ++ drop j masks₀) g.masks-long ∙ ap (λ (j : ℕ). masks_below l j ++ drop (length (masks_below l j)) masks₀) e,
-      )
 
 -- ---- the whole table
 

@@ -103,6 +103,3 @@ module _ (s : List ℕ) (i v : ℕ) (h : i < length s) where
 pub number_end : (s : List ℕ) (i v : ℕ) → length s ≤ i → v < absent → number_from v (drop i s) ≡ given v
 unfolding every_by
 number_end s i v h k = rw (drop_of_length-le s h, lt-ltb v absent k)
-
-pub digit_is : (x : ℕ) (r t : Bool) → r ≡ is_ascii_digit x → r ≡ t → is_digit x ≡ t
-digit_is x r t e q = sym e ∙ q

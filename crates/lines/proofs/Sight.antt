@@ -79,9 +79,6 @@ get_or-map-at f [] i d h = absurd (not-suc-le-zero h)
 get_or-map-at f (x ∷ s) zero d h = refl
 get_or-map-at f (x ∷ s) (suc i) d h = get_or-map-at f s i d (le_of_suc-le-suc h)
 
-pub names-long : (text starts : List ℕ) (count : ℕ) → length (names_at text starts count) ≡ min count (length starts)
-names-long text starts count = length-map (take count starts) (line_from text) ∙ length-take count starts
-
 index_place : (text held name : List ℕ) → position_or_len (λ x. same_name name (line_from text x)) held ≡ index_in name (map (line_from text) held)
 unfolding index_in
 index_place text [] name = refl

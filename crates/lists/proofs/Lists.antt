@@ -19,12 +19,6 @@ copy-suc f (x ∷ xs) (y ∷ ys) (suc i) h k = ap (λ (l : List ℕ). f x ∷ l)
 pub copy-go : (f : ℕ → ℕ) (src dst : List ℕ) (i : ℕ) → i < length src → i < length dst → set (take i (map f src) ++ drop i dst) i (f (get_or src i 0)) ≡ take (i + 1) (map f src) ++ drop (i + 1) dst
 copy-go f src dst i h k = rw add-one (copy-suc f src dst i h k)
 
--- and its end
-pub copy-end : (f : ℕ → ℕ) (src dst : List ℕ) (i : ℕ) → i ≡ length src → take i (map f src) ++ drop i dst ≡ map f src ++ drop (length src) dst
-copy-end f src dst i e =
-    ap (λ (n : ℕ). take n (map f src) ++ drop n dst) e
-    ∙ ap (λ (l : List ℕ). l ++ drop (length src) dst) (take_all (length src) (map f src) (le_of_eq (length-map src f)))
-
 pub drop-replicate : (k n v : ℕ) → drop k (replicate n v) ≡ replicate (n - k) v
 drop-replicate zero n v = ap (λ (m : ℕ). replicate m v) (sym (sub-zero n))
 drop-replicate (suc k) zero v = ap (λ (m : ℕ). replicate m v) (sym (zero-sub (suc k)))
@@ -90,21 +84,6 @@ map-map f g (x ∷ s) = ap (λ (l : List ℕ). f (g x) ∷ l) (map-map f g s)
 pub map_same : (s : List ℕ) → map (λ x. x) s ≡ s
 map_same [] = refl
 map_same (x ∷ s) = ap (λ (l : List ℕ). x ∷ l) (map_same s)
-
--- the end of a copy that stops where the source or the buffer ends
-pub copy-all : (f : ℕ → ℕ) (src dst : List ℕ) (i : ℕ) → i ≡ min (length src) (length dst) → take i (map f src) ++ drop i dst ≡ take (length dst) (map f src) ++ drop (length src) dst
-copy-all f src dst i e = go (dec_le (length src) (length dst))
-  where
-    m : length (map f src) ≡ length src
-    m = length-map src f
-
-    go : Dec (length src ≤ length dst) → take i (map f src) ++ drop i dst ≡ take (length dst) (map f src) ++ drop (length src) dst
-    go (yes h) =
-        let k : i ≡ length src = omega arith in
-        rw (take_all (length dst) (map f src) (rw m h)) (copy-end f src dst i k)
-    go (no h) =
-        let k : i ≡ length dst = omega arith in
-        rw (k, drop_of_length-le dst {i = length dst} (le_refl (length dst)), drop_of_length-le dst {i = length src} (omega arith))
 
 -- zeros behind a list are what stands past its end
 zeros-at : (n k : ℕ) → ◌≡◌ {A = ℕ} (get_or (replicate n 0) k 0) 0

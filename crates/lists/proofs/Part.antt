@@ -21,15 +21,6 @@ mid-length at w xs h =
     let d : length (drop at xs) ≡ length xs - at = length-drop at xs in
     length-take-le (at + w - at) (drop at xs) (omega arith) ∙ omega arith
 
--- the part filled by bytes that are copied to its front
-pub copy-part : (at w : ℕ) (xs src last : List ℕ) → at + w ≤ length xs → w ≤ length src
-    → last ≡ take (length (take (at + w - at) (drop at xs))) src ++ drop (length src) (take (at + w - at) (drop at xs))
-    → take at xs ++ (last ++ drop (at + w - at) (drop at xs)) ≡ take at xs ++ (take w src ++ drop (at + w) xs)
-copy-part at w xs src last h k e =
-    let long : length (take (at + w - at) (drop at xs)) ≡ w = mid-length at w xs h in
-    let none : drop (length src) (take (at + w - at) (drop at xs)) ≡ [] = drop_of_length-le (take (at + w - at) (drop at xs)) {i = length src} (omega (arith, long)) in
-    rw (e, none, append-nil, long) (in_whole at w xs (take w src))
-
 -- a callee's choice between new bytes for the part and the part as it was, in the whole
 pub lift : (b : Bool) (at w : ℕ) (xs new last : List ℕ) → last ≡ cond b new (take (at + w - at) (drop at xs))
     → take at xs ++ (last ++ drop (at + w - at) (drop at xs)) ≡ cond b (take at xs ++ (new ++ drop (at + w) xs)) xs
@@ -50,9 +41,4 @@ place-zero x = λ i. (x.ref_ptr.0, sym (zero-add x.ref_ptr.1) i)
 pub place-add : (x : Bor (List ℕ)) (a k : ℕ) → ◌≡◌ {A = ℕ × ℕ} (x.ref_ptr.0, k + (a + x.ref_ptr.1)) (place_in x (a + k))
 place-add x a k =
     let e : k + (a + x.ref_ptr.1) ≡ a + k + x.ref_ptr.1 = omega arith in
-    λ i. (x.ref_ptr.0, e i)
-
-pub place-front : (x : Bor (List ℕ)) (a k : ℕ) → a ≡ k → ◌≡◌ {A = ℕ × ℕ} (x.ref_ptr.0, 0 + (a + x.ref_ptr.1)) (place_in x k)
-place-front x a k q =
-    let e : 0 + (a + x.ref_ptr.1) ≡ k + x.ref_ptr.1 = omega (arith, q) in
     λ i. (x.ref_ptr.0, e i)

@@ -26,11 +26,6 @@ module _ (f : ℕ → Bool) (s : List ℕ) where
   pub left-count : (a : ℕ) → a ≤ length s → drop a s ≡ left_by f s → a ≡ left_count f s
   left-count a h e = omega (arith, ap length e, length-drop a s)
 
-  snoc-go : (x : ℕ) (xs : List ℕ) → f x ≡ true → right_by f (xs ++ (x ∷ [])) ≡ right_by f xs
-  unfolding right_by
-  snoc-go x [] e = rw e
-  snoc-go x (y ∷ xs) e = ap (join_by f y) (snoc-go x xs e)
-
   join-snoc : (y x : ℕ) (xs : List ℕ) → join_by f y (xs ++ (x ∷ [])) ≡ y ∷ (xs ++ (x ∷ []))
   join-snoc y x [] = refl
   join-snoc y x (z ∷ xs) = refl
@@ -45,9 +40,6 @@ module _ (f : ℕ → Bool) (s : List ℕ) where
       let q : e ≡ suc (e - 1) = omega arith in
       ap (λ (n : ℕ). take n s) q ∙ take-suc s (e - 1) 0 (omega arith)
 
-  pub right-go : (e : ℕ) → 0 < e → e ≤ length s → f (get_or s (e - 1) 0) ≡ true → right_by f (take e s) ≡ right_by f (take (e - 1) s)
-  right-go e h k q = ap (right_by f) (last_of e h k) ∙ snoc-go (get_or s (e - 1) 0) (take (e - 1) s) q
-
   pub right-stop : (e : ℕ) → 0 < e → e ≤ length s → f (get_or s (e - 1) 0) ≡ false → right_by f (take e s) ≡ take e s
   right-stop e h k q = ap (right_by f) (last_of e h k) ∙ snoc-stop (get_or s (e - 1) 0) (take (e - 1) s) q ∙ sym (last_of e h k)
 
@@ -55,30 +47,6 @@ module _ (f : ℕ → Bool) (s : List ℕ) where
   unfolding right_by
   right_end zero h = refl
   right_end (suc e) h = absurd (not-suc-le-zero h)
-
-  pub before-go : (i : ℕ) → i < length s → f (get_or s i 0) ≡ false → take i s ++ before_by f (drop i s) ≡ take (i + 1) s ++ before_by f (drop (i + 1) s)
-  unfolding before_by
-  before-go i h e = rw (add-one, drop-cons s i 0, e, take-suc s i 0, append_assoc)
-
-  pub before-stop : (i : ℕ) → i < length s → f (get_or s i 0) ≡ true → take i s ++ before_by f (drop i s) ≡ take i s
-  unfolding before_by
-  before-stop i h e = rw (drop-cons s i 0, e, append-nil)
-
-  pub before-end : (i : ℕ) → length s ≤ i → take i s ++ before_by f (drop i s) ≡ take i s
-  unfolding before_by
-  before-end i h = rw (drop_of_length-le s h, append-nil)
-
-  pub every-go : (i : ℕ) → i < length s → f (get_or s i 0) ≡ true → every_by f (drop i s) ≡ every_by f (drop (i + 1) s)
-  unfolding every_by
-  every-go i h e = rw (add-one, drop-cons s i 0, e)
-
-  pub every-stop : (i : ℕ) → i < length s → f (get_or s i 0) ≡ false → every_by f (drop i s) ≡ false
-  unfolding every_by
-  every-stop i h e = rw (drop-cons s i 0, e)
-
-  pub every-end : (i : ℕ) → length s ≤ i → every_by f (drop i s) ≡ true
-  unfolding every_by
-  every-end i h = rw (drop_of_length-le s h)
 
 -- ---- a scan of g of each element, by a test f, is one of the elements by a test h that agrees with it on them
 

@@ -80,14 +80,6 @@ fits-ample w size h l = room-ample (2 * w - 1) size (omega arith) l
 pub fits_below : (w size : ℕ) → 0 < w → size < 10 ^ (2 * w - 1) → fits_of w size ≡ true
 fits_below w size h k = room_fits (2 * w - 1) size (omega arith) k
 
--- a place, or a byte
-pub fits-is : (w size : ℕ) → fits_of w size ≡ (ltb 0 w && ltb size (10 ^ (2 * w - 1)))
-fits-is w size = go (dec_lt 0 w)
-  where
-    go : Dec (0 < w) → fits_of w size ≡ (ltb 0 w && ltb size (10 ^ (2 * w - 1)))
-    go (yes h) = rw (lt-ltb 0 w h, lt-ltb 0 (2 * w - 1) (omega arith))
-    go (no h) = rw (le-ltb 0 w (omega arith), le-ltb 0 (2 * w - 1) (omega arith))
-
 pub fits-some : (w size : ℕ) → fits_of w size ≡ true → 0 < w
 fits-some w size h = let k = room-some (2 * w - 1) size h in omega arith
 

@@ -22,13 +22,6 @@ module _ (n : ℕ) (bs more : List ℕ) where
   Stood = bs ++ take (n - length bs) more
 
   module _ (r : List ℕ) (at end : ℕ) (p : r ≡ filled n bs) (long : length r ≡ n) (q : at ≡ length bs) (e : end ≡ at + length (take (length r - at) more)) where
-    pub at_room : at ≤ length r
-    at_room = omega (arith, fits-room n r bs p long)
-
-    pub end-room : end ≤ length r
-    end-room =
-        let m : length (take (length r - at) more) ≡ min (length r - at) (length more) = length-take (length r - at) more in
-        omega (arith, at_room)
 
     end-at : end ≡ length bs + length (take (n - length bs) more)
     end-at = e ∙ ap₂ (λ a k. a + length (take (k - a) more)) q long

@@ -28,6 +28,3 @@ differs buffer given i (suc n) e h = by (eqb i n) refl (differs buffer given i n
 
 pub holds_not : (buffer given : List ℕ) (i y : ℕ) → y ≡ get_or given i 0 → (get_or buffer i 0 ≡ y → ⊥) → i < length buffer → false ≡ holds buffer given
 holds_not buffer given i y e q h = sym (differs buffer given i (length buffer) (ne_eqb (get_or buffer i 0) (get_or given i 0) (λ z. q (z ∙ sym e))) h)
-
-pub holds-all : (buffer given : List ℕ) (i : ℕ) → i ≤ length buffer → length buffer ≤ i → holds_below buffer given i ≡ true → true ≡ holds buffer given
-holds-all buffer given i a b h = sym h ∙ ap (holds_below buffer given) (le_antisymm a b)

@@ -5,12 +5,6 @@ use native.Mathlib.Nat.{sub-zero}
 use Rattle.value.specs.Answer.{refused, given}
 use Rattle.text.specs.Shown.{Shows, shows, none, answer_of, shown_in}
 
-pub text-told : (s : Shows) (n : ℕ) (out last : List ℕ) → given n ≡ answer_of s → last ≡ shown_in s out → s ≡ shows (take (n - 0) last)
-text-told (shows t) n out last e q =
-    let l : length t ≡ n = cc in
-    ap shows (sym (take-append_seam t (drop (length t) out)) ∙ ap (take (length t)) (sym q) ∙ ap (λ (m : ℕ). take m last) (l ∙ sym (sub-zero n)))
-text-told none n out last e q = let z : ◌≡◌ {A = ℕ} 0 1 = cc in absurd (omega arith)
-
 -- the text lies inside the array
 pub room-told : (s : Shows) (n : ℕ) (out last : List ℕ) → given n ≡ answer_of s → last ≡ shown_in s out → n ≤ length last
 room-told (shows t) n out last e q =

@@ -27,13 +27,6 @@ digits-placed at n v xs last h e =
     rw (e, mid-length at n xs h) (in_whole at n xs (digit_text n v))
     ∙ ap (λ (k : ℕ). take at xs ++ (digit_text n v ++ drop (at + k) xs)) (sym (length-digit_text n v))
 
--- a byte and a text behind it
-pub byte-placed : (at b : ℕ) (t xs : List ℕ) → at < length xs → placed (at + 1) t (set xs at b) ≡ placed at (b ∷ t) xs
-byte-placed at b t xs h =
-    let e : suc at + length t ≡ at + suc (length t) = omega arith in
-    rw (add-one, take-suc-set xs at b h, append_assoc)
-    (ap (λ (l : List ℕ). take at xs ++ (b ∷ (t ++ l))) (drop-set-lt (suc at + length t) xs at b (omega arith) ∙ ap (λ (n : ℕ). drop n xs) e))
-
 -- ---- digits from the right: from i on they stand in a part of n bytes, and rest is what is left of the number
 
 pub record Spelt (part : List ℕ) (n v i rest : ℕ) : Type 0 where

@@ -7,9 +7,6 @@ use Rattle.value.specs.Digits.{room_for}
 use Rattle.value.specs.Word.{power_ten}
 use Rattle.value.proofs.Word.{power-is}
 
-pub room-none : (places size : ℕ) → places ≡ 0 → room_for places size ≡ false
-room-none places size e = rw e
-
 pub room_fits : (places size : ℕ) → 0 < places → size < 10 ^ places → room_for places size ≡ true
 room_fits places size h k = rw (lt-ltb 0 places h, lt-ltb size (10 ^ places) k)
 

@@ -66,23 +66,6 @@ module _ (p : Pair) (scale w : ℕ) (window : List ℕ) where
 
 -- ---- a record's pair
 
-module _ (l : List ℕ) (first second : ℕ) (d : Decoded) (number used bytes : ℕ) (items items₁ text text₁ : List ℕ) (counts counts₁ : List ℤ)
-    (r : RecordRead d number used bytes items items₁ text text₁ counts counts₁) where
-  -- the list that was read is the front of its buffer
-  pub list_read : take used items₁ ≡ items_of d
-  list_read = ap₂ take r.words_read r.items_left ∙ take_at (items_of d) _ (length (items_of d)) refl
-
-  pub pair_taken : (p : Pair) → p ≡ pair_in l first second (take used items₁) → (items' text' : List ℕ) → items' ≡ replicate (length items₁) 0 → text' ≡ replicate (length text₁) 0
-      → length items₁ ≡ length items → length text₁ ≡ length text → PairRead d l first second number p items items' text text' counts counts₁
-  pair_taken p e items' text' u v m n =
-      record {
-        numbered = r.numbered;
-        pair_read = e ∙ ap (pair_in l first second) list_read;
-        items_left = u ∙ ap (λ k. replicate k 0) m;
-        text_left = v ∙ ap (λ k. replicate k 0) n;
-        counts_left = r.counts_left;
-      }
-
 -- no list, no pair
 nothing-from : (k : ℕ) → values_from k none ≡ none
 unfolding values_from

@@ -7,12 +7,6 @@ use Rattle.window.specs.Steps.{put_at, moved_down, pair_plus, pair_minus, with_h
 
 -- ---- stores
 
-pub head-put : (l : List ℕ) (n x y : ℕ) → 3 ≤ length l → set (set (set l 0 n) 1 x) 2 y ≡ with_head n x y l
-head-put [] n x y h = absurd (omega arith)
-head-put (a ∷ []) n x y h = absurd (omega arith)
-head-put (a ∷ b ∷ []) n x y h = absurd (omega arith)
-head-put (a ∷ b ∷ c ∷ l) n x y h = refl
-
 pub pair_put : (l : List ℕ) (at a b : ℕ) → 2 + at ≤ length l → set (set l at a) (at + 1) b ≡ put_at at a b l
 unfolding put_at
 pair_put [] at a b h = absurd (omega arith)

@@ -93,7 +93,7 @@ fn decode_seq(
     Ok(all)
 }
 
-// A table of scalars or Pads: outside the cycle, so that its elements are read without a call of it.
+// A table of scalars or Pads. Kept beside the loop of decode_field: outside the cycle, its elements are read without a call of it.
 // Kept: places one by one, as each call moves some of them.
 fn decode_table(
     layout: &Layout,

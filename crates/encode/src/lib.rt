@@ -15,7 +15,7 @@ ghost use Rattle.encode.specs.Order.{lone, heads, sought, value_of, Ahead};
 
 use codes::{Kind, Refusal, Tag};
 use encode_leaf::{
-    Out, Run, clear, elements_of, encode_leaf, encode_table, room_of, settles, takes, values_after,
+    Out, Run, elements_of, encode_leaf, encode_table, room_of, settles, takes, values_after,
 };
 use items::{ValueList, after};
 use layout::{Entry, Layout};
@@ -32,8 +32,9 @@ fn has_name(list: &ValueList, name: u64, i: usize, to: usize) -> bool
     i < to && list.fetch(i, to).name == name
 }
 
-// Where an entry's value is, and how far the items of its sequence were met in the entries' order: none in front of `next` has a name from
+// Where an entry's value is, at the sequence's end where there is none, and how far the items of its sequence were met in the entries' order: none in front of `next` has a name from
 // `low` on.
+// Kept: `find` answers so, and `fetch` gives a Null there, as the definitions do.
 #[derive(Clone, Copy)]
 struct Place {
     at: usize,
@@ -275,13 +276,6 @@ fn asked(
     ask_list(layout, list, least, room)
 }
 
-// After a refusal the record holds zeros.
-fn wipe(record: &mut [u8])
-    ensures { «record».new ≡ replicate (length «record».old) 0 }
-{
-    record.fill(0);
-}
-
 // Writes a record by a layout and a value list: its bytes, and zeros behind them; zeros alone after a refusal. The answer is the record's length.
 pub fn encode_record(
     layout: &Layout,
@@ -294,7 +288,8 @@ pub fn encode_record(
 {
     let least = layout.record_length();
     let questions = asked(layout, list, least, record.len(), counts.len());
-    clear(record, counts);
+    record.fill(0);
+    counts.fill(0);
     questions?;
     match encode_seq(
         layout,
@@ -308,7 +303,7 @@ pub fn encode_record(
     ) {
         Ok(o) => Ok(least.max(o.past.saturating_sub(1)) as usize),
         Err(refusal) => {
-            wipe(record);
+            record.fill(0);
             Err(refusal)
         }
     }

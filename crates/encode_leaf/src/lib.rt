@@ -208,7 +208,7 @@ pub fn encode_leaf(
     })
 }
 
-// The elements of an entry that is no group.
+// The elements of an entry that is no group. Kept beside the loop of encode_field: outside the cycle, its elements are written without a call of it.
 pub fn encode_table(
     layout: &Layout,
     list: &ValueList,
@@ -244,15 +244,4 @@ pub fn encode_table(
         j = next;
     }
     Ok(Out { past, taken })
-}
-
-// ---- zeros
-
-// The record and the work space as zeros.
-pub fn clear(record: &mut [u8], counts: &mut [i64])
-    ensures record_after { «record».new ≡ replicate (length «record».old) 0 }
-    ensures counts_after { counts.new ≡ replicate (length counts.old) (pos 0) }
-{
-    record.fill(0);
-    counts.fill(0);
 }

@@ -233,19 +233,13 @@ fn fit_one(
     fit_seq(layout, list, counts, lo, hi, after(j, end), end, told)
 }
 
-fn clear(counts: &mut [i64])
-    ensures { counts.new ≡ replicate (length counts.old) (pos 0) }
-{
-    counts.fill(0);
-}
-
 // Whether a value list with its texts fits a layout, in work space of two words an entry, which ends as zeros.
 pub fn is_fitting(layout: &Layout, list: &ValueList, counts: &mut [i64]) -> bool
     ensures value { result ≡ (leb (work_for layout.now.words.now) (length counts.old)
         && fitting layout.now.words.now layout.now.masks.now list.now.items.now list.now.text.now) }
     ensures counts_after { counts.new ≡ replicate (length counts.old) (pos 0) }
 {
-    clear(counts);
+    counts.fill(0);
     if counts.len() < layout.entry_count() * 2 {
         return false;
     }
@@ -262,7 +256,7 @@ pub fn is_fitting(layout: &Layout, list: &ValueList, counts: &mut [i64]) -> bool
         list.item_count(),
         0,
     );
-    clear(counts);
+    counts.fill(0);
     match told {
         Some(told) => told == list.text.len(),
         None => false,

@@ -150,7 +150,7 @@ pub fn amount_of(negative: bool, size: u64) -> Result<Whole, Refusal>
     Ok(signed_size(negative, size))
 }
 
-// 10^k where a word holds it, else 0.
+// 10^k where a word holds it, else 0. Kept: the definition gives that number, and who asks has looked that k is at most 19.
 pub fn ten_to(k: u64) -> u64
     ensures { result ≡ power_ten k }
 {

@@ -278,42 +278,23 @@ impl From<Scalar> for Words {
     ghost from_gives = { λ s words. (words.tag ≡ tag_of s) × ((words.a ≡ first_of s) × (words.b ≡ second_of s)) };
 
     fn from(s: Scalar) -> Words {
-        match s {
-            Scalar::Null => Words {
-                tag: Tag::Null.into(),
-                a: 0,
-                b: 0,
-            },
-            Scalar::Text(start, count) => Words {
-                tag: Tag::Text.into(),
-                a: start,
-                b: count,
-            },
-            Scalar::Int(negative, size) => Words {
-                tag: Tag::Int.into(),
-                a: word_of(negative, size),
-                b: 0,
-            },
-            Scalar::Decimal(negative, size, scale) => Words {
-                tag: Tag::Decimal.into(),
-                a: word_of(negative, size),
-                b: scale,
-            },
-            Scalar::Float(x) => Words {
-                tag: Tag::Float.into(),
-                a: float_word(x),
-                b: 0,
-            },
-            Scalar::FloatBits(w) => Words {
-                tag: Tag::Float.into(),
-                a: w,
-                b: 0,
-            },
-            Scalar::Bool(b) => Words {
-                tag: Tag::Bool.into(),
-                a: u64::from(b),
-                b: 0,
-            },
+        let (tag, a, b) = match s {
+            Scalar::Null => (Tag::Null, 0, 0),
+            Scalar::Text(start, count) => (Tag::Text, start, count),
+            Scalar::Int(negative, size) => (Tag::Int, word_of(negative, size), 0),
+            Scalar::Decimal(negative, size, scale) => (
+                Tag::Decimal,
+                word_of(negative, size),
+                scale,
+            ),
+            Scalar::Float(x) => (Tag::Float, float_word(x), 0),
+            Scalar::FloatBits(w) => (Tag::Float, w, 0),
+            Scalar::Bool(b) => (Tag::Bool, u64::from(b), 0),
+        };
+        Words {
+            tag: tag.into(),
+            a,
+            b,
         }
     }
 }

@@ -1,15 +1,19 @@
 -- Laws of a value list's sequences by places in the list, of lookup by name, and of what a well formed list is.
 use mathlib.Core.Path.{◌≡◌, refl, sym, ap, ◌∙◌}
-use mathlib.Core.Bool.{false, cond}
+use mathlib.Core.Bool.{Bool, true, false, cond}
 use mathlib.Core.List.{List}
-use Prim.Native.Nat.{ℕ, ◌+◌, ◌-◌, ◌<◌, ◌≤◌, min}
+use Prim.Native.Nat.{ℕ, zero, suc, ◌+◌, ◌-◌, ◌<◌, ◌≤◌, min}
 use native.Mathlib.Omega.{arith}
 use native.Mathlib.Decide.{dec_lt}
-use borrow.Author.Tests.{eq-eqb, ne_eqb}
+use lib.Dec.{eqb}
+use borrow.Author.Tests.{eq-eqb, ne_eqb, eqb-true, eqb-false}
+use Rattle.std.proofs.Common.{Some}
+use Rattle.std.specs.List.{find}
+use Rattle.std.specs.Option.{option_map_or}
 use Rattle.items.specs.declared.Item.{Item}
-use Rattle.spans.specs.Tree.{none, node, end_of, size}
+use Rattle.spans.specs.Tree.{none, node, end_of, size, level}
 use Rattle.spans.proofs.Tree.{tree-none, tree-at, size-tree}
-use Rattle.items.specs.Items.{item_at, holds, span_of, values, head_of, members_of, rest_of, lookup, place_of}
+use Rattle.items.specs.Items.{Values, item_at, holds, span_of, values, head_of, members_of, rest_of, lookup, place_of}
 
 pub values-none : (v : List ℕ) (i to : ℕ) → to ≤ i → values v i to ≡ none
 unfolding values
@@ -74,3 +78,46 @@ module _ (v : List ℕ) (i to : ℕ) where
     pub lookup-more : (name : ℕ) → i < to → (it.name ≡ name → ⊥) → lookup name (values v i to) ≡ lookup name (values v en to)
     unfolding lookup
     lookup-more name h e = rw (values-node h, ne_eqb it.name name e)
+
+-- what stands from the first item of a name on begins at its place
+module _ (v : List ℕ) (name to : ℕ) where
+  somewhere : (n i : ℕ) → to - i ≤ n → (r : ℕ) × ((r ≤ to) × (lookup name (values v i to) ≡ values v r to))
+  somewhere zero i h = (to, (omega arith, lookup-none v i to name (omega arith)))
+  somewhere (suc n) i h = go (dec_lt i to) (eqb it.name name) refl (λ a k. somewhere n a k)
+    where
+      it : Item
+      it = head_of (values v i to)
+
+      en : ℕ
+      en = end_of (span_of it) i to
+
+      go : Dec (i < to) → (b : Bool) → eqb it.name name ≡ b → ((a : ℕ) → to - a ≤ n → (r : ℕ) × ((r ≤ to) × (lookup name (values v a to) ≡ values v r to)))
+          → (r : ℕ) × ((r ≤ to) × (lookup name (values v i to) ≡ values v r to))
+      go (no k) b e ih = (to, (omega arith, lookup-none v i to name (omega arith)))
+      go (yes k) true e ih = (i, (omega arith, lookup-hit v i to it (span_of it) en refl refl refl name k (eqb-true it.name name e)))
+      go (yes k) false e ih =
+          let f = ih en (omega arith) in
+          (f.0, (f.1.0, lookup-more v i to it (span_of it) en refl refl refl name k (eqb-false it.name name e) ∙ f.1.1))
+
+  pub found-there : (i : ℕ) → lookup name (values v i to) ≡ values v (place_of v name i to) to
+  found-there i =
+      let f = somewhere (to - i) i (omega arith) in
+      f.1.1 ∙ ap (λ r. values v r to) (place_is v i to name f.0 f.1.0 f.1.1)
+
+  taken : (t : Values) (i : ℕ) → to ≡ i + size t → option_map_or (λ p. p.0) (find (λ p. eqb p.1.name name) (level i t)) to ≡ to - size (lookup name t)
+  unfolding level lookup size
+  taken none i h = omega arith
+  taken (node it members rest) i h = go (eqb it.name name) (taken rest (i + suc (size members)) (omega arith))
+    where
+      go : (b : Bool) → option_map_or (λ p. p.0) (find (λ p. eqb p.1.name name) (level (i + suc (size members)) rest)) to ≡ to - size (lookup name rest)
+          → option_map_or (λ p. p.0) (cond b (Some (i, it)) (find (λ p. eqb p.1.name name) (level (i + suc (size members)) rest))) to ≡ to - size (cond b (node it members rest) (lookup name rest))
+      go true ih = omega arith
+      go false ih = ih
+
+  pub place-by-level : (i : ℕ) → option_map_or (λ p. p.0) (find (λ p. eqb p.1.name name) (level i (values v i to))) to ≡ place_of v name i to
+  unfolding level lookup size
+  place-by-level i = go (dec_lt i to)
+    where
+      go : Dec (i < to) → option_map_or (λ p. p.0) (find (λ p. eqb p.1.name name) (level i (values v i to))) to ≡ place_of v name i to
+      go (yes h) = taken (values v i to) i (omega (arith, size-values v i to))
+      go (no h) = rw (values-none v i to (omega arith)) (omega arith)

@@ -5,10 +5,23 @@ use mathlib.Core.List.{List}
 use Prim.Native.Nat.{ℕ, suc, ◌+◌, ◌-◌, ◌<◌, ◌≤◌}
 use native.Mathlib.Omega.{arith}
 use lib.Dec.{eqb}
+use lib.ListN.{length}
 use Rattle.items.specs.declared.Item.{Item}
-use Rattle.spans.specs.Tree.{node, end_of, size}
-use Rattle.items.specs.Items.{holds, span_of, values, item_ok, count, list_ok, head_of}
+use Rattle.spans.specs.Tree.{none, node, end_of, size, level}
+use Rattle.spans.proofs.Tree.{level-few}
+use Rattle.items.specs.Items.{Values, holds, span_of, values, item_ok, count, list_ok, head_of}
 use Rattle.items.proofs.Items.{values-none, values-node, size-values}
+
+count-level : (t : Values) (i : ℕ) → count t ≡ length (level i t)
+unfolding count level
+count-level none i = refl
+count-level (node it members rest) i = ap suc (count-level rest (i + suc (size members)))
+
+pub count_by_level : (v : List ℕ) (lo hi : ℕ) → count (values v lo hi) ≡ length (level lo (values v lo hi))
+count_by_level v lo hi = count-level (values v lo hi) lo
+
+pub few_by_level : (v : List ℕ) (lo hi : ℕ) → length (level lo (values v lo hi)) ≤ hi
+few_by_level v lo hi = omega (arith, level-few (values v lo hi) lo, size-values v lo hi)
 
 module _ (v : List ℕ) (i hi : ℕ) where
   pub count-end : hi ≤ i → count (values v i hi) ≡ 0
@@ -29,10 +42,6 @@ module _ (v : List ℕ) (i hi : ℕ) where
   module _ (h : i < hi) (en : ℕ) (q : en ≡ end_of (span_of (head_of (values v i hi))) i hi) where
     node-is : (it : Item) → it ≡ head_of (values v i hi) → values v i hi ≡ node it (values v (i + 1) en) (values v en hi)
     node-is it p = values-node v i hi it (span_of (head_of (values v i hi))) en p (ap span_of (sym p)) q h
-
-    pub count-more : count (values v i hi) ≡ suc (count (values v en hi))
-    unfolding count
-    count-more = rw (node-is (head_of (values v i hi)) refl)
 
     module _ (text levels : ℕ) (in_list : Bool) where
       pub ok-deep : levels ≡ 0 → list_ok text in_list levels (values v i hi) ≡ false

@@ -5,7 +5,8 @@
 ghost use Rattle.std.specs.Prelude.{◌≡◌, cond, false, ◌++◌, ℕ, ◌+◌, ◌*◌, ◌/◌, ◌≤◌, min, length, get_or, drop};
 ghost use Rattle.codes.specs.Kinds.{word_of_tag};
 ghost use Rattle.codes.specs.Refusals.{number_in};
-ghost use Rattle.spans.specs.Tree.{end_of};
+ghost use Rattle.spans.specs.Tree.{end_of, level};
+ghost use Rattle.items.specs.Level.{items_left};
 ghost use Rattle.items.specs.Items.{item_words, words_of, item_of, header, scalar_in, text_of, item_at, holds, span_of, values, text_ok, scalar_ok, holder_ok, item_ok, count, list_ok, well_formed, head_of, lookup, place_of};
 
 use codes::{ELEMENT, Refusal, Tag};
@@ -167,6 +168,36 @@ pub struct ValueList<'a> {
     pub text: &'a [u8],
 }
 
+// The items from the place `at` up to `to`, without their members, each with its place.
+#[derive(Drop)]
+pub struct Level<'a> {
+    list: ValueList<'a>,
+    at: usize,
+    to: usize,
+}
+
+impl<'a> Iterator for Level<'a> {
+    ghost use Rattle.std.specs.Iterator.{YieldsFirst, item_count};
+    ghost use Rattle.items.specs.Level.{items_left};
+
+    type Item = (usize, Item);
+
+    ghost next_gives = { YieldsFirst items_left };
+
+    ghost remaining = { item_count items_left };
+
+    #[inline(always)]
+    fn next(&mut self) -> Option<(usize, Item)> {
+        let i = self.at;
+        if i >= self.to {
+            return None;
+        }
+        let it = self.list.item_at(i);
+        self.at = end_of(it.span(), i, self.to);
+        Some((i, it))
+    }
+}
+
 impl<'a> ValueList<'a> {
     pub fn item_count(&self) -> usize
         ensures { result ≡ length self.now.items.now / item_words }
@@ -222,36 +253,39 @@ impl<'a> ValueList<'a> {
         end_of(self.fetch(i, to).span(), i, to)
     }
 
-    // The place of the first item of a name in the sequence from..to, and `to` where there is none. The step is a span, so no `for`.
+    // The items lo up to hi, without their members, each with its place.
+    #[inline(always)]
+    #[tactic(auto, unfolding(crate::specs::Level::items_left))]
+    pub fn level(&self, lo: usize, hi: usize) -> Level<'a>
+        ensures { items_left result ≡ level lo (values self.now.items.now lo hi) }
+    {
+        Level {
+            list: *self,
+            at: lo,
+            to: hi,
+        }
+    }
+
+    // The place of the first item of a name in the sequence from..to, and `to` where there is none.
     pub fn find(&self, name: u64, from: usize, to: usize) -> usize
         ensures place { result ≡ place_of self.now.items.now name from to }
         ensures found { lookup name (values self.now.items.now from to) ≡ values self.now.items.now result to }
     {
-        let mut i = from;
-        while i < to {
-            let it = self.fetch(i, to);
-            if it.name == name {
-                return i;
-            }
-            i = end_of(it.span(), i, to);
-        }
-        to
+        self.level(from, to)
+            .find(|(_, it)| it.name == name)
+            .map_or(to, |(i, _)| i)
     }
 
-    // How many items the sequence lo..hi has at its own level. The step is a span, so no `for`.
+    // How many items the sequence lo..hi has at its own level.
+    #[tactic(auto, using(crate::proofs::Lawful::few_by_level))]
     pub fn members(&self, lo: usize, hi: usize) -> u64
         ensures { result ≡ count (values self.now.items.now lo hi) }
     {
-        let mut i = lo;
-        let mut n: u64 = 0;
-        while i < hi {
-            i = self.item_end(i, hi);
-            n += 1;
-        }
-        n
+        self.level(lo, hi).count() as u64
     }
 
-    // Whether the sequence lo..hi is lawful, in at most so many levels. The step is a span, so no `for`.
+    // Whether the sequence lo..hi is lawful, in at most so many levels.
+    // Kept: what it asks needs where each item ends, and `level` yields no ends.
     fn is_lawful(&self, lo: usize, hi: usize, levels: usize, in_list: bool) -> bool
         ensures { result ≡ list_ok (length self.now.text.now) in_list levels (values self.now.items.now lo hi) }
     {

@@ -10,9 +10,9 @@ use lib.Dec.{eqb, leb, ltb}
 use borrow.Author.Tests.{ltb-true, ltb-false, eq-eqb, ne_eqb, le-leb, eqb-true, eqb-false, leb-true}
 use Rattle.layout.specs.declared.Entry.{Entry}
 use Rattle.lists.proofs.Logic.{or-true}
-use Rattle.spans.specs.Tree.{end_of}
-use Rattle.spans.proofs.Tree.{tree-none, tree-at}
-use Rattle.layout.specs.Layout.{absent, entry_at, entry_count, span_of, part, present, all_below, some_below, entry_ok, entries_ok, checked_of, work_for, layout_asks, depends_in, reserved_width, furthest, record_length}
+use Rattle.std.specs.List.{fold}
+use Rattle.spans.specs.Tree.{Tree, none, node, size, level}
+use Rattle.layout.specs.Layout.{absent, entry_at, entry_count, entries, present, all_below, some_below, entry_ok, entries_ok, checked_of, work_for, layout_asks, depends_in, reserved_width, furthest, record_length}
 
 module _ (f : ℕ → Bool) where
   pub all-next : (n : ℕ) → all_below f n ≡ true → f n ≡ true → all_below f (n + 1) ≡ true
@@ -49,16 +49,15 @@ module _ (f : ℕ → Bool) where
       go true t ih = rw (ih (ltb-true i n t)) refl
       go false t ih = let z : n ≡ i = omega (arith, ltb-false i n t) in ap (λ k. some_below f n || f k) z ∙ ap (λ x. some_below f n || x) b ∙ or-true (some_below f n)
 
-module _ (l : List ℕ) (lo hi : ℕ) where
-  pub furthest-end : hi ≤ lo → (far : ℕ) → max far (furthest (part l lo hi)) ≡ far
-  unfolding furthest
-  furthest-end h far = rw (tree-none (entry_at l) span_of lo hi h) (omega arith)
+-- the furthest end of a sequence, taken entry by entry
+pub furthest-fold : (t : Tree Entry) (i far : ℕ) → fold (λ n p. max n (p.1.offset + reserved_width p.1)) far (level i t) ≡ max far (furthest t)
+unfolding furthest level
+furthest-fold none i far = omega arith
+furthest-fold (node e members rest) i far = furthest-fold rest (i + suc (size members)) (max far (e.offset + reserved_width e)) ∙ omega arith
 
-  pub furthest-more : (e : Entry) (en : ℕ) → lo < hi → e ≡ entry_at l lo → en ≡ end_of e.span lo hi
-      → (far end far' : ℕ) → end ≡ e.offset + reserved_width e → far' ≡ max far end
-      → max far (furthest (part l lo hi)) ≡ max far' (furthest (part l en hi))
-  unfolding furthest
-  furthest-more e en h p q far end far' a b = rw (tree-at (entry_at l) span_of lo hi e en h p q) (omega (arith, a, b))
+pub length_by_fold : (l : List ℕ) → record_length l ≡ fold (λ n p. max n (p.1.offset + reserved_width p.1)) 0 (level 0 (entries l))
+unfolding record_length
+length_by_fold l = sym (furthest-fold (entries l) 0 0 ∙ omega arith)
 
 product_small : (a b : ℕ) → a < 4294967296 → b < 4294967296 → a * b ≤ 18446744065119617025
 product_small a b ha hb =
@@ -106,10 +105,6 @@ module _ (l : List ℕ) (i : ℕ) where
     pub depends-next : some_below (λ j. present (entry_at l j).depending) i ≡ false → e.depending ≡ absent → some_below (λ j. present (entry_at l j).depending) (i + 1) ≡ false
     depends-next h f = some_next (λ j. present (entry_at l j).depending) i h
         (ap (λ x. present x.depending) (sym p) ∙ ap not (eq-eqb e.depending absent f))
-
-pub length-is : (l : List ℕ) (i far : ℕ) → entry_count l ≤ i → furthest (part l 0 (entry_count l)) ≡ max far (furthest (part l i (entry_count l))) → far ≡ record_length l
-unfolding record_length
-length-is l i far h p = sym (p ∙ furthest-end l i (entry_count l) h far)
 
 -- a layout of which nothing is asked is lawful, and has its work space
 pub asked-lawful : (l masks : List ℕ) (page work : ℕ) → layout_asks l masks page work ≡ 0 → (checked_of l masks page ≡ 0) × (work_for l ≤ work)

@@ -4,7 +4,8 @@
 
 ghost use Rattle.std.specs.Prelude.{◌≡◌, ◌+◌, ◌*◌, ◌≤◌, length, get_or};
 ghost use Rattle.codes.specs.Refusals.{number_in};
-ghost use Rattle.spans.specs.Tree.{nested};
+ghost use Rattle.spans.specs.Tree.{nested, level};
+ghost use Rattle.layout.specs.Level.{entries_left};
 ghost use Rattle.layout.specs.Layout.{entry_at, entry_count, span_of, is_group, unrepeated, unrepeated_leaf, controls, part, words_ok, up_to, plain_ok, float_ok, bool_ok, edited_ok, kind_ok, option_ok, place_ok, entry_ok, entries_ok, checked_of, layout_asks, reserved_width, record_length, depends_in};
 
 use codes::{ABSENT, Kind, Refusal};
@@ -171,6 +172,36 @@ pub struct Layout<'a> {
     pub page: u32,
 }
 
+// The entries from the place `at` up to `to`, without their members, each with its place.
+#[derive(Drop)]
+pub struct Level<'a> {
+    layout: Layout<'a>,
+    at: usize,
+    to: usize,
+}
+
+impl<'a> Iterator for Level<'a> {
+    ghost use Rattle.std.specs.Iterator.{YieldsFirst, item_count};
+    ghost use Rattle.layout.specs.Level.{entries_left};
+
+    type Item = (usize, Entry);
+
+    ghost next_gives = { YieldsFirst entries_left };
+
+    ghost remaining = { item_count entries_left };
+
+    #[inline(always)]
+    fn next(&mut self) -> Option<(usize, Entry)> {
+        let i = self.at;
+        if i >= self.to {
+            return None;
+        }
+        let e = self.layout.load(i);
+        self.at = end_of(e.span as u64, i, self.to);
+        Some((i, e))
+    }
+}
+
 impl<'a> Layout<'a> {
     pub fn entry_count(&self) -> usize
         ensures { result ≡ entry_count self.now.words.now }
@@ -259,7 +290,8 @@ impl<'a> Layout<'a> {
         true
     }
 
-    // Whether the entries lo up to hi are well nested, in at most so many levels. The step is a span, so no `for`.
+    // Whether the entries lo up to hi are well nested, in at most so many levels.
+    // Kept: what it asks needs where each entry ends, and `level` yields no ends.
     fn nested(&self, lo: usize, hi: usize, levels: usize) -> bool
         requires { hi * 12 ≤ length self.now.words.now }
         ensures { result ≡ nested span_of is_group levels (part self.now.words.now lo hi) }
@@ -315,21 +347,27 @@ impl<'a> Layout<'a> {
         Ok(())
     }
 
-    // The greatest end of a top-level entry. The step is a span, so no `for`.
+    // The entries lo up to hi, without their members, each with its place.
+    #[inline(always)]
+    #[tactic(auto, unfolding(crate::specs::Level::entries_left))]
+    pub fn level(&self, lo: usize, hi: usize) -> Level<'a>
+        ensures { entries_left result ≡ level lo (part self.now.words.now lo hi) }
+    {
+        Level {
+            layout: *self,
+            at: lo,
+            to: hi,
+        }
+    }
+
+    // The greatest end of a top-level entry.
+    #[tactic(auto, using(crate::proofs::Laws::length_by_fold))]
     pub fn record_length(&self) -> u64
         ensures { result ≡ record_length self.now.words.now }
     {
-        let n = self.entry_count();
-        let mut i = 0;
         let mut far: u64 = 0;
-        while i < n {
-            let e = self.load_inside(i);
+        for (_, e) in self.level(0, self.entry_count()) {
             far = far.max(e.end());
-            if e.span <= 1 {
-                i += 1;
-                continue;
-            }
-            i = end_of(e.span as u64, i, n);
         }
         far
     }

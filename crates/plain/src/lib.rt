@@ -60,19 +60,11 @@ fn width_ok(e: Entry) -> bool
     }
 }
 
-// Whether one of the sequence of the entries lo up to hi is unrepeated and no group. The step is a span, so no `for`.
+// Whether one of the sequence of the entries lo up to hi is unrepeated and no group.
 fn has_sure(layout: &Layout, lo: usize, hi: usize) -> bool
     ensures { result ≡ sure (part layout.now.words.now lo hi) }
 {
-    let mut i = lo;
-    while i < hi {
-        let e = layout.load(i);
-        if e.is_unrepeated_leaf() {
-            return true;
-        }
-        i = end_of(e.span as u64, i, hi);
-    }
-    false
+    layout.level(lo, hi).any(|(_, e)| e.is_unrepeated_leaf())
 }
 
 // An entry whose members are the entries lo up to hi: a group has some, a repeated group an unrepeated one that is no group.
@@ -128,7 +120,8 @@ fn put_known(known: &mut [u32], top: usize, e: Entry) -> usize
 
 // ---- the tree
 
-// The sequence of the entries lo up to hi, with the names below a height of the stack known: the height behind it, and none where a clause is not met. The step is a span, so no `for`.
+// The sequence of the entries lo up to hi, with the names below a height of the stack known: the height behind it, and none where a clause is not met.
+// Kept: it needs where each entry ends, for its members, and `level` yields no ends.
 fn walk(layout: &Layout, known: &mut [u32], lo: usize, hi: usize, top: usize) -> Option<usize>
     requires { top + (hi - lo) ≤ length known.old }
     ensures { Walked (part layout.now.words.now lo hi) top known.old result known.new }

@@ -1,13 +1,15 @@
 -- Laws of the tree that spans make, and of well nested spans.
 use mathlib.Core.Path.{◌≡◌, refl, sym, ap, ap₂, ◌∙◌}
 use mathlib.Core.Bool.{Bool, true, false, ◌&&◌, ◌||◌, cond, false≢true, or-true}
+use mathlib.Core.List.{[], ◌∷◌}
 use Prim.Native.Nat.{ℕ, zero, suc, ◌+◌, ◌-◌, ◌<◌, ◌≤◌}
 use native.Mathlib.Omega.{arith}
 use native.Mathlib.Numerals.{add-one}
 use lib.Dec.{ltb, eqb}
+use lib.ListN.{length}
 use borrow.Author.Tests.{lt-ltb, le-ltb, ltb-true, ltb-false, eqb-true}
 use Rattle.lists.proofs.Logic.{and_left, and_right}
-use Rattle.spans.specs.Tree.{none, node, end_of, tree_in, tree, size, span_ok, nested}
+use Rattle.spans.specs.Tree.{Tree, none, node, end_of, tree_in, tree, level, size, span_ok, nested}
 
 module _ {A : Type 0} (at : ℕ → A) (span : A → ℕ) where
   -- more than enough depth makes no difference
@@ -67,6 +69,24 @@ module _ {A : Type 0} (at : ℕ → A) (span : A → ℕ) where
   pub size-tree : (lo hi : ℕ) → size (tree at span lo hi) ≡ hi - lo
   unfolding tree
   size-tree lo hi = size_in (hi - lo) lo hi (omega arith)
+
+  -- a level by places: none is left, or the first entry and what stands behind it
+  pub level-none : (lo hi : ℕ) → hi ≤ lo → level lo (tree at span lo hi) ≡ []
+  unfolding level
+  level-none lo hi h = rw (tree-none lo hi h) refl
+
+  pub level-at : (lo hi : ℕ) (x : A) (en : ℕ) → lo < hi → x ≡ at lo → en ≡ end_of (span x) lo hi
+      → level lo (tree at span lo hi) ≡ (lo, x) ∷ level en (tree at span en hi)
+  unfolding level
+  level-at lo hi x en h p q =
+      let z : lo + suc (en - (lo + 1)) ≡ en = omega arith in
+      rw (tree-at lo hi x en h p q, size-tree (lo + 1) en, z) refl
+
+-- a level has no more entries than its sequence
+pub level-few : {A : Type 0} (t : Tree A) (i : ℕ) → length (level i t) ≤ size t
+unfolding level size
+level-few none i = omega arith
+level-few (node x members rest) i = let h : length (level (i + suc (size members)) rest) ≤ size rest = level-few rest (i + suc (size members)) in omega arith
 
 -- an entry of span 1 ends behind itself, and so does one of span 0
 pub end-single : (span lo hi : ℕ) → lo < hi → span ≤ 1 → lo + 1 ≡ end_of span lo hi

@@ -1,6 +1,6 @@
 -- Worked examples: the entry at i is its own number, and the spans stand in a list.
 use Rattle.std.specs.Prelude.{◌≡◌, refl, Bool, true, false, List, [], ◌∷◌, ℕ, eqb, get_or, length}
-use Rattle.spans.specs.Tree.{Tree, none, node, tree_in, tree, size, nested}
+use Rattle.spans.specs.Tree.{Tree, none, node, tree_in, tree, size, level, nested}
 
 abbrev of : List ℕ → Tree ℕ
 of spans = tree (λ i. i) (λ i. get_or spans i 0) 0 (length spans)
@@ -12,6 +12,11 @@ fine levels spans = nested (λ i. get_or spans i 0) (λ i. eqb i 0) levels (of s
 two-below : of (3 ∷ 1 ∷ 1 ∷ 1 ∷ []) ≡ node 0 (node 1 none (node 2 none none)) (node 3 none none)
 unfolding tree tree_in
 two-below = refl
+
+-- the top level of it: the entries 0 and 3
+top-two : level 0 (of (3 ∷ 1 ∷ 1 ∷ 1 ∷ [])) ≡ (0, 0) ∷ (3, 3) ∷ []
+unfolding tree tree_in size level
+top-two = refl
 
 -- a span of 0 counts as 1, and one past the end is cut
 cut : of (0 ∷ 9 ∷ 9 ∷ []) ≡ node 0 none (node 1 (node 2 none none) none)

@@ -1,5 +1,5 @@
 -- The tree that spans make: a layout's entries, and a value list's items, stand depth first, and the span of each counts the entries of its subtree, "itself counted".
-use Rattle.std.specs.Prelude.{Bool, true, false, ◌&&◌, ◌||◌, cond, ℕ, zero, suc, ◌+◌, ◌-◌, min, max, ltb, eqb}
+use Rattle.std.specs.Prelude.{Bool, true, false, ◌&&◌, ◌||◌, cond, List, [], ◌∷◌, ℕ, zero, suc, ◌+◌, ◌-◌, min, max, ltb, eqb}
 
 -- A sequence of entries: its first entry, the sequence of that entry's members, and the entries behind it.
 pub data Tree (A : Type 0) : Type 0 where
@@ -25,6 +25,11 @@ tree at span lo hi = tree_in (hi - lo) at span lo hi
 unfoldable pub size : {A : Type 0} → Tree A → ℕ
 size none = 0
 size (node x members rest) = suc (size members + size rest)
+
+-- the entries of a sequence at its own level, without their members, each with its place: the sequence begins at the place i
+unfoldable pub level : {A : Type 0} → ℕ → Tree A → List (ℕ × A)
+level i none = []
+level i (node x members rest) = (i, x) ∷ level (i + suc (size members)) rest
 
 -- Whether a span counts its entry and the n entries below it, and there are none of them unless the entry may have members.
 abbrev pub span_ok : ℕ → Bool → ℕ → Bool

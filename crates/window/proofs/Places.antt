@@ -1,44 +1,64 @@
--- The two entries and their items: the walk over the top-level entries, and over the top-level items, one turn at a time.
-use Rattle.std.proofs.Common.{◌≡◌, ℕ, suc, ◌+◌, ◌-◌, ◌<◌, ◌≤◌, Bool, true, false, cond, ◌&&◌, eqb, leb, List, sym, refl, ap, ◌∙◌, subst, arith, eq-eqb, ne_eqb, le-leb}
+-- The two entries and their items: what is asked of the level of the top, and the walk over the top-level items, one turn at a time.
+use Rattle.std.proofs.Common.{◌≡◌, ℕ, zero, suc, ◌+◌, ◌-◌, ◌<◌, ◌≤◌, Bool, true, false, cond, ◌&&◌, eqb, leb, List, [], ◌∷◌, length, sym, refl, ap, ◌∙◌, arith, eq-eqb, ne_eqb, le-leb}
 use native.Mathlib.Decide.{dec_le}
 use borrow.Author.Tests.{lt-leb}
 use Rattle.layout.specs.declared.Entry.{Entry}
-use Rattle.layout.specs.Layout.{entry_at, span_of, part, entries, entry_count, is_pad}
-use Rattle.spans.specs.Tree.{end_of}
-use Rattle.spans.proofs.Tree.{tree-none, tree-at, size-tree}
+use Rattle.layout.specs.Layout.{entry_at, span_of, entries, entry_count, is_pad}
+use native.Mathlib.Nat.{le_trans}
+use Rattle.std.specs.List.{list_any}
+use Rattle.spans.specs.Tree.{Tree, none, node, end_of, size, level}
+use Rattle.spans.proofs.Tree.{size-tree, level-few}
 use Rattle.items.specs.Items.{span_of as item_span, values, head_of}
 use Rattle.items.proofs.Items.{rest-is}
 use Rattle.window.specs.Pair.{is_top, items_for, items_before, scale_at, pair_ok, pair_asks, values_from}
 
 -- ---- an entry by its number
 
--- The walk for `is_top` has come to the entry i: what is left to ask of the entries from there on.
-pub record Topmost (l : List ℕ) (number i : ℕ) : Type 0 where
-  pub within : i ≤ entry_count l
-  pub tops : is_top (entries l) number ≡ (leb i number && is_top (part l i (entry_count l)) (number - i))
+-- no entry of a level stands before its first place
+none-before : (t : Tree Entry) (i n : ℕ) → n < i → list_any (λ p. eqb p.0 n) (level i t) ≡ false
+unfolding level
+none-before none i n h = refl
+none-before (node e members rest) i n h = rw (ne_eqb i n (λ e. omega arith), none-before rest (i + suc (size members)) n (omega arith)) refl
 
--- The walk for `items_before` has come to the entry i, and counted so many.
-pub record Counted (l : List ℕ) (number i before : ℕ) : Type 0 where
-  pub within : i ≤ entry_count l
-  pub few : before ≤ i
-  pub items : items_before (entries l) number ≡ before + items_before (part l i (entry_count l)) (number - i)
-
--- where an entry ends
-end_after : (span i hi : ℕ) → i < hi → i + 1 ≤ end_of span i hi
-end_after span i hi h = omega arith
-
-end-within : (span i hi : ℕ) → end_of span i hi ≤ hi
-end-within span i hi = omega arith
-
-left_over : (en number i : ℕ) → i + 1 ≤ en → number - (i + 1) - (en - (i + 1)) ≡ number - en
-left_over en number i h = omega arith
-
-same-order : (en number i : ℕ) → i + 1 ≤ en → i < number → leb (en - (i + 1)) (number - (i + 1)) ≡ leb en number
-same-order en number i h k = go (dec_le en number)
+-- the number of a top-level entry is a place of the level
+top-any : (t : Tree Entry) (i k : ℕ) → is_top t k ≡ list_any (λ p. eqb p.0 (i + k)) (level i t)
+unfolding is_top level
+top-any none i k = refl
+top-any (node e members rest) i zero = rw (eq-eqb i (i + 0) (omega arith)) refl
+top-any (node e members rest) i (suc k) = rw (ne_eqb i (i + suc k) (λ e. omega arith)) (go (dec_le (size members) k) (top-any rest (i + suc (size members)) (k - size members)))
   where
-    go : Dec (en ≤ number) → leb (en - (i + 1)) (number - (i + 1)) ≡ leb en number
-    go (yes a) = rw (le-leb en number a, le-leb (en - (i + 1)) (number - (i + 1)) (omega arith))
-    go (no a) = rw (lt-leb en number (omega arith), lt-leb (en - (i + 1)) (number - (i + 1)) (omega arith))
+    go : Dec (size members ≤ k) → is_top rest (k - size members) ≡ list_any (λ p. eqb p.0 (i + suc (size members) + (k - size members))) (level (i + suc (size members)) rest)
+        → (leb (size members) k && is_top rest (k - size members)) ≡ list_any (λ p. eqb p.0 (i + suc k)) (level (i + suc (size members)) rest)
+    go (yes h) ih =
+        let z : i + suc (size members) + (k - size members) ≡ i + suc k = omega arith in
+        rw (le-leb (size members) k h, ih, z) refl
+    go (no h) ih = rw (lt-leb (size members) k (omega arith)) (sym (none-before rest (i + suc (size members)) (i + suc k) (omega arith)))
+
+-- how many items the entries of a level before a place yield
+unfoldable pub count-to : ℕ → List (ℕ × Entry) → ℕ
+count-to n [] = 0
+count-to n (p ∷ ps) = cond (leb n p.0) 0 (items_for p.1 + count-to n ps)
+
+count-past : (t : Tree Entry) (i n : ℕ) → n ≤ i → count-to n (level i t) ≡ 0
+unfolding level count-to
+count-past none i n h = refl
+count-past (node e members rest) i n h = rw (le-leb n i h) refl
+
+count-level : (t : Tree Entry) (i k : ℕ) → items_before t k ≡ count-to (i + k) (level i t)
+unfolding items_before level count-to
+count-level none i k = refl
+count-level (node e members rest) i zero = rw (le-leb (i + 0) i (omega arith)) refl
+count-level (node e members rest) i (suc k) = rw (lt-leb (i + suc k) i (omega arith)) (ap (λ n. items_for e + n) (go (dec_le (size members) k) (count-level rest (i + suc (size members)) (k - size members))))
+  where
+    go : Dec (size members ≤ k) → items_before rest (k - size members) ≡ count-to (i + suc (size members) + (k - size members)) (level (i + suc (size members)) rest)
+        → items_before rest (k - size members) ≡ count-to (i + suc k) (level (i + suc (size members)) rest)
+    go (yes h) ih =
+        let z : i + suc (size members) + (k - size members) ≡ i + suc k = omega arith in
+        rw z at ih
+    go (no h) ih = ih ∙ count-past rest (i + suc (size members)) _ (omega arith) ∙ sym (count-past rest (i + suc (size members)) (i + suc k) (omega arith))
+
+pub before_by_level : (l : List ℕ) (k : ℕ) → items_before (entries l) k ≡ count-to k (level 0 (entries l))
+before_by_level l k = let z : 0 + k ≡ k = omega arith in rw z at (count-level (entries l) 0 k)
 
 pub items-few : (e : Entry) → items_for e ≤ 1
 items-few e = go (is_pad e)
@@ -47,83 +67,21 @@ items-few e = go (is_pad e)
     go true = omega arith
     go false = omega arith
 
-more-few : (before i n en : ℕ) → before ≤ i → n ≤ 1 → i + 1 ≤ en → before + n ≤ en
-more-few before i n en a b c = omega arith
+-- the turns of a count
+module _ (n i : ℕ) (e : Entry) (ps qs : List (ℕ × Entry)) (p : qs ≡ (i, e) ∷ ps) where
+  pub count-more : i < n → count-to n qs ≡ items_for e + count-to n ps
+  unfolding count-to
+  count-more h = rw (p, lt-leb n i h) refl
 
-module _ (l : List ℕ) (number : ℕ) where
-  pub top-starts : Topmost l number 0
-  top-starts =
-      let z : number - 0 ≡ number = omega arith in
-      record { within = omega arith; tops = rw (z, le-leb 0 number (omega arith)) }
+  pub count-stop : n ≤ i → count-to n qs ≡ 0
+  unfolding count-to
+  count-stop h = rw (p, le-leb n i h) refl
 
-  module _ (i : ℕ) where
-    pub top-ends : Topmost l number i → entry_count l ≤ i → false ≡ is_top (entries l) number
-    unfolding is_top
-    top-ends g h =
-        let n : part l i (entry_count l) ≡ _ = tree-none (entry_at l) span_of i (entry_count l) h in
-        sym (g.tops ∙ rw n (and-false (leb i number)))
-      where
-        and-false : (b : Bool) → (b && false) ≡ false
-        and-false true = refl
-        and-false false = refl
+pub few_by_level : (l : List ℕ) → length (level 0 (entries l)) ≤ entry_count l
+few_by_level l = le_trans (level-few (entries l) 0) (omega (arith, size-tree (entry_at l) span_of 0 (entry_count l)))
 
-    pub count-ends : (before : ℕ) → Counted l number i before → entry_count l ≤ i → before ≡ items_before (entries l) number
-    unfolding items_before
-    count-ends before g h =
-        let n : part l i (entry_count l) ≡ _ = tree-none (entry_at l) span_of i (entry_count l) h in
-        sym (g.items ∙ rw n (omega arith))
-
-    module _ (h : i < entry_count l) where
-      -- the walk stops at the number, or has passed it inside a group
-      pub top-stops : Topmost l number i → number ≤ i → eqb number i ≡ is_top (entries l) number
-      unfolding is_top
-      top-stops g k =
-          let z : number - i ≡ 0 = omega arith in
-          let n : part l i (entry_count l) ≡ _ = tree-at (entry_at l) span_of i (entry_count l) (entry_at l i) (end_of (span_of (entry_at l i)) i (entry_count l)) h refl refl in
-          sym (g.tops ∙ rw (z, n) (here (dec_le i number)))
-        where
-          here : Dec (i ≤ number) → (leb i number && true) ≡ eqb number i
-          here (yes a) = rw (le-leb i number a, eq-eqb number i (omega arith))
-          here (no a) = rw (lt-leb i number (omega arith), ne_eqb number i (λ e. omega arith))
-
-      pub count-stops : (before : ℕ) → Counted l number i before → number ≤ i → before ≡ items_before (entries l) number
-      unfolding items_before
-      count-stops before g k =
-          let z : number - i ≡ 0 = omega arith in
-          let n : part l i (entry_count l) ≡ _ = tree-at (entry_at l) span_of i (entry_count l) (entry_at l i) (end_of (span_of (entry_at l i)) i (entry_count l)) h refl refl in
-          sym (g.items ∙ rw (z, n) (omega arith))
-
-      module _ (k : i < number) (e : Entry) (p : e ≡ entry_at l i) (en : ℕ) (q : en ≡ end_of e.span i (entry_count l)) where
-        next : i + 1 ≤ en
-        next = subst (λ m. i + 1 ≤ m) (sym q) (end_after e.span i (entry_count l) h)
-
-        inside : en ≤ entry_count l
-        inside = subst (λ m. m ≤ entry_count l) (sym q) (end-within e.span i (entry_count l))
-
-        pub top-goes : Topmost l number i → Topmost l number en
-        unfolding is_top
-        top-goes g =
-            let s : number - i ≡ suc (number - (i + 1)) = omega arith in
-            let t : part l i (entry_count l) ≡ _ = tree-at (entry_at l) span_of i (entry_count l) e en h p q in
-            let d : number - (i + 1) - (en - (i + 1)) ≡ number - en = left_over en number i next in
-            record {
-              within = inside;
-              tops = g.tops ∙ rw (s, t, size-tree (entry_at l) span_of (i + 1) en, le-leb i number (omega arith), d)
-                  (ap (λ b. b && is_top (part l en (entry_count l)) (number - en)) (same-order en number i next k));
-            }
-
-        pub count-goes : (before n : ℕ) → n ≡ items_for e → Counted l number i before → Counted l number en (before + n)
-        unfolding items_before
-        count-goes before n c g =
-            let s : number - i ≡ suc (number - (i + 1)) = omega arith in
-            let t : part l i (entry_count l) ≡ _ = tree-at (entry_at l) span_of i (entry_count l) e en h p q in
-            let d : number - (i + 1) - (en - (i + 1)) ≡ number - en = left_over en number i next in
-            let at_most : n ≤ 1 = omega (arith, c, items-few e) in
-            record {
-              within = inside;
-              few = more-few before i n en g.few at_most next;
-              items = g.items ∙ rw (s, t, size-tree (entry_at l) span_of (i + 1) en, d, c) (omega arith);
-            }
+pub top_by_level : (l : List ℕ) (k : ℕ) → is_top (entries l) k ≡ list_any (λ p. eqb p.0 k) (level 0 (entries l))
+top_by_level l k = let z : 0 + k ≡ k = omega arith in rw z at (top-any (entries l) 0 k)
 
 -- ---- question 18 on a display word
 

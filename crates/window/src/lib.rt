@@ -66,35 +66,26 @@ fn items_for(e: Entry) -> usize
     if Kind::Pad.is(e.kind) { 0 } else { 1 }
 }
 
-// Whether the entry of a number stands at the top level. The step is a span, so no `for`.
+// Whether the entry of a number stands at the top level.
 fn is_top(layout: &Layout, number: u64) -> bool
     ensures { result ≡ is_top (entries layout.now.words.now) number }
 {
-    let n = layout.entry_count();
-    let mut i = 0;
-    while i < n {
-        if number <= i as u64 {
-            return number == i as u64;
-        }
-        i = end_of(layout.load(i).span as u64, i, n);
-    }
-    false
+    layout
+        .level(0, layout.entry_count())
+        .any(|(i, _)| i as u64 == number)
 }
 
-// How many items of the top level stand before that of the entry of a number. The step is a span, so no `for`.
+// How many items of the top level stand before that of the entry of a number.
+#[tactic(auto, using(crate::proofs::Places::before_by_level, crate::proofs::Places::few_by_level))]
 fn items_before(layout: &Layout, number: u64) -> usize
     ensures { result ≡ items_before (entries layout.now.words.now) number }
 {
-    let n = layout.entry_count();
-    let mut i = 0;
     let mut before = 0;
-    while i < n {
+    for (i, e) in layout.level(0, layout.entry_count()) {
         if number <= i as u64 {
-            return before;
+            break;
         }
-        let e = layout.load(i);
         before += items_for(e);
-        i = end_of(e.span as u64, i, n);
     }
     before
 }

@@ -1,15 +1,13 @@
--- `has_sure` meets its contract: a law of Clauses for each way through the loop.
-use Rattle.std.proofs.Common.{sym, ◌∙◌}
-use Rattle.plain.proofs.Clauses.{sure-end, sure-here, sure_next}
+-- `has_sure` meets its contract: it asks each entry of the level.
+use Rattle.std.proofs.Common.{sym, ◌∙◌, rules, tests}
+use Rattle.std.proofs.lemmas.Iterator.Consumers.{YieldsList-from_first}
+use Rattle.std.proofs.lemmas.Iterator.Search.{any_from_yields_List}
+use Rattle.layout.specs.Layout.{unrepeated_leaf}
+use Rattle.layout.specs.Level.{entries_left}
+use Rattle.plain.proofs.Clauses.{sure-any}
 use Rattle.plain.proofs.has_sure.Goals as goal
 
-pub returns-then-is_unrepeated_leaf : goal.returns-then-is_unrepeated_leaf
-returns-then-is_unrepeated_leaf c =
-    sym (c.loop-i.invariant ∙ sure-here _ _ _ _ _ c.loop-i-test.true c.load-e.ensures c.is_unrepeated_leaf.ensures c.if-is_unrepeated_leaf.true)
-
-pub loop-i-preserved : goal.loop-i-preserved
-loop-i-preserved c =
-    c.loop-i.invariant ∙ sure_next _ _ _ _ _ c.loop-i-test.true c.load-e.ensures c.is_unrepeated_leaf.ensures c.if-is_unrepeated_leaf.false _ c.end_of-i.ensures
-
 pub returns : goal.returns
-returns c = sym (c.loop-i.invariant ∙ sure-end _ _ _ c.loop-i-test.false)
+returns c =
+    let asked = any_from_yields_List (λ p. unrepeated_leaf p.1) _ _ c.any.result c.any.ensures.ran (YieldsList-from_first (λ p. p) entries_left _ c.level.ensures) (λ p b q k. search (rules, tests)) in
+    asked ∙ sym (sure-any _ _)

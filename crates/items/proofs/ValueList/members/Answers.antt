@@ -1,14 +1,11 @@
--- `members` meets its contract: each turn takes one item off the sequence.
-use Rattle.std.proofs.Common.{arith}
-use Rattle.items.proofs.Lawful.{count-end, count-more}
+-- `members` meets its contract: a sequence has as many items at its own level as its level has.
+use Rattle.std.proofs.Common.{sym, ◌∙◌}
+use Rattle.std.proofs.lemmas.Iterator.Consumers.{YieldsList-from_first, count_from_yields_List}
+use Rattle.items.specs.Level.{items_left}
+use Rattle.items.proofs.Lawful.{count_by_level}
 use Rattle.items.proofs.ValueList.members.Goals as goal
-
-pub loop-i-preserved : goal.loop-i-preserved
-loop-i-preserved c =
-    let more = count-more c.args.self.now.items.now c.loop-i.i c.args.hi c.loop-i-test.true c.item_end-i.result c.item_end-i.ensures in
-    record { few = omega arith; counted = omega arith }
 
 pub returns : goal.returns
 returns c =
-    let none_left = count-end c.args.self.now.items.now c.loop-i.i c.args.hi c.loop-i-test.false in
-    omega arith
+    count_from_yields_List _ c.count.result c.count.ensures.ran (YieldsList-from_first (λ p. p) items_left _ c.level.ensures)
+    ∙ sym (count_by_level _ _ _)

@@ -1,16 +1,15 @@
 -- Names supplied.
 use mathlib.Core.Path.{◌≡◌, refl, sym, ap, ap₂, ◌∙◌}
-use mathlib.Core.Bool.{Bool, true, false, ◌||◌, cond, false≢true}
-use mathlib.Core.List.{List}
-use Prim.Native.Nat.{ℕ, ◌<◌, ◌≤◌}
+use mathlib.Core.Bool.{Bool, true, false, ◌&&◌, ◌||◌, cond, false≢true}
+use mathlib.Core.List.{List, [], ◌∷◌}
+use Prim.Native.Nat.{ℕ, suc, ◌+◌, ◌<◌, ◌≤◌}
 use native.Mathlib.Omega.{arith}
 use native.Mathlib.Decide.{dec_lt}
 use lib.Dec.{eqb, ltb}
 use borrow.Author.Tests.{lt-ltb, le-ltb}
-use Rattle.spans.specs.Tree.{none, node, end_of}
-use Rattle.spans.proofs.Tree.{tree-none, tree-at}
+use Rattle.spans.specs.Tree.{Tree, none, node, end_of, size, level}
 use Rattle.layout.specs.declared.Entry.{Entry}
-use Rattle.layout.specs.Layout.{entry_at, entry_count, span_of, part, entries, is_pad}
+use Rattle.layout.specs.Layout.{entry_count, part, entries, is_pad}
 use Rattle.items.specs.Items as Items
 use Rattle.items.specs.Items.{Values, item_count, values, head_of, rest_of, lookup}
 use Rattle.items.proofs.Items.{values-none, values-node}
@@ -26,9 +25,15 @@ found-by v j to = go (dec_lt j to)
     go (yes h) = ap found (values-node v j to (head_of (values v j to)) (Items.span_of (head_of (values v j to))) (end_of (Items.span_of (head_of (values v j to))) j to) refl refl refl h) ∙ sym (lt-ltb j to h)
     go (no h) = ap found (values-none v j to (omega arith)) ∙ sym (le-ltb j to (omega arith))
 
-pub supplied-end : (l : List ℕ) (i hi : ℕ) (vs : Values) → hi ≤ i → supplied (part l i hi) vs ≡ true
-unfolding supplied
-supplied-end l i hi vs h = rw (tree-none (entry_at l) span_of i hi h) refl
+-- the names of a level's entries, one after the other
+pub all-supplied : List (ℕ × Entry) → Values → Bool
+all-supplied [] vs = true
+all-supplied (p ∷ ps) vs = (is_pad p.1 || found (lookup p.1.name vs)) && all-supplied ps vs
+
+pub supplied-level : (t : Tree Entry) (i : ℕ) (vs : Values) → supplied t vs ≡ all-supplied (level i t) vs
+unfolding supplied level all-supplied
+supplied-level none i vs = refl
+supplied-level (node e members rest) i vs = ap (λ b. (is_pad e || found (lookup e.name vs)) && b) (supplied-level rest (i + suc (size members)) vs)
 
 -- every name of these items is a name of all
 abbrev pub Within : Values → Values → Type 0
@@ -76,23 +81,29 @@ module _ (e : Entry) (vs all : Values) (w : Within vs all) where
       go false true h = w e.name (heads-in e.name vs h).1 ∙ sym (heads-in e.name vs h).0
       go false false h = refl
 
-module _ (l v : List ℕ) (i hi next to : ℕ) (w : Within (values v next to) (values v 0 to)) (h : i < hi) (e : Entry) (p : e ≡ entry_at l i)
+module _ (v : List ℕ) (next to : ℕ) (w : Within (values v next to) (values v 0 to)) (i : ℕ) (e : Entry) (ps es : List (ℕ × Entry)) (s : es ≡ (i, e) ∷ ps)
     (j : ℕ) (q : values v j to ≡ sought e (values v next to) (values v 0 to)) (z : Bool) (y : z ≡ (eqb e.kind 6 || ltb j to)) where
   has : (x : Bool) → z ≡ x → (is_pad e || found (lookup e.name (values v 0 to))) ≡ x
   unfolding is_pad
   has x f = sought-found e (values v next to) (values v 0 to) w ∙ ap (λ b. eqb e.kind 6 || b) (ap found (sym q) ∙ found-by v j to) ∙ sym y ∙ f
 
-  pub supplied-not : z ≡ false → supplied (part l i hi) (values v 0 to) ≡ false
-  unfolding supplied
-  supplied-not f = rw (tree-at (entry_at l) span_of i hi e (end_of e.span i hi) h p refl, has false f) refl
+  pub supplied-not : z ≡ false → all-supplied es (values v 0 to) ≡ false
+  unfolding all-supplied
+  supplied-not f = rw (s, has false f) refl
 
-  pub supplied-go : z ≡ true → (en : ℕ) → en ≡ end_of e.span i hi → supplied (part l i hi) (values v 0 to) ≡ supplied (part l en hi) (values v 0 to)
-  unfolding supplied
-  supplied-go f en r = rw (tree-at (entry_at l) span_of i hi e en h p r, has true f) refl
+  pub supplied-go : z ≡ true → all-supplied es (values v 0 to) ≡ all-supplied ps (values v 0 to)
+  unfolding all-supplied
+  supplied-go f = rw (s, has true f) refl
 
   pub within-behind : (j' : ℕ) → values v j' to ≡ values_after e (values v j to) → Within (values v j' to) (values v 0 to)
   within-behind j' r name k = within-next e (values v next to) (values v 0 to) w name (ap (λ vs. found (lookup name vs)) (sym (r ∙ ap (values_after e) q)) ∙ k)
 
--- by the entries' and the items' number
-pub supplied-is : (l v : List ℕ) (n to : ℕ) → n ≡ entry_count l → to ≡ item_count v → (z : Bool) → supplied (part l 0 n) (values v 0 to) ≡ z → z ≡ supplied (entries l) (values v 0 (item_count v))
-supplied-is l v n to p q z h = sym h ∙ ap₂ (λ m k. supplied (part l 0 m) (values v 0 k)) p q
+pub supplied-end : (es : List (ℕ × Entry)) (vs : Values) → es ≡ [] → all-supplied es vs ≡ true
+unfolding all-supplied
+supplied-end es vs s = rw s refl
+
+-- before the first, by the number of the items
+pub supplied-start : (l v : List ℕ) (n to : ℕ) (es : List (ℕ × Entry)) → es ≡ level 0 (part l 0 n) → n ≡ entry_count l → to ≡ item_count v
+    → supplied (entries l) (values v 0 (item_count v)) ≡ all-supplied es (values v 0 to)
+supplied-start l v n to es s p q =
+    supplied-level (entries l) 0 (values v 0 (item_count v)) ∙ ap₂ (λ m k. all-supplied (level 0 (part l 0 m)) (values v 0 k)) (sym p) (sym q) ∙ ap (λ x. all-supplied x (values v 0 to)) (sym s)

@@ -224,22 +224,18 @@ fn seek(list: &ValueList, e: Entry, next: usize, to: usize) -> usize
     }
 }
 
-// Whether every top-level name but those of Pads is in the list. The step is a span, so no `for`.
+// Whether every top-level name but those of Pads is in the list.
 fn supplies(layout: &Layout, list: &ValueList) -> bool
     ensures { result ≡ supplied (entries layout.now.words.now) (values list.now.items.now 0 (item_count list.now.items.now)) }
 {
-    let n = layout.entry_count();
     let to = list.item_count();
-    let mut i = 0;
     let mut next = 0;
-    while i < n {
-        let e = layout.load(i);
+    for (_, e) in layout.level(0, layout.entry_count()) {
         let j = seek(list, e, next, to);
         if !has_value(e, j, to) {
             return false;
         }
         next = values_after(list, e, j, to);
-        i = end_of(e.span as u64, i, n);
     }
     true
 }

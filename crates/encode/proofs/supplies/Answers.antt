@@ -1,20 +1,27 @@
--- Each turn by the laws of Asking.
-use Rattle.std.proofs.Common.{◌∙◌, true, false}
-use Rattle.encode.proofs.Asking.{supplied-end, supplied-not, supplied-go, supplied-is, within-behind}
+-- Each turn takes the first entry off those that are left.
+use Rattle.std.proofs.Common.{sym, ap, ◌∙◌}
+use Rattle.layout.specs.Level.{entries_left}
+use Rattle.encode.proofs.Asking.{supplied-start, supplied-not, supplied-go, supplied-end, within-behind}
 use Rattle.encode.proofs.supplies.Goals as goal
+
+pub loop-e-init : goal.loop-e-init
+loop-e-init c = (
+  supplied-start c.args.layout.now.words.now c.args.list.now.items.now _ _ _ (ap entries_left c.into_iter-e-iterator.ensures.into_iter_gives ∙ c.level-e-items.ensures) c.entry_count.ensures
+      c.item_count-to.ensures,
+  λ name h. h,
+)
 
 pub returns-then-not-has_value : goal.returns-then-not-has_value
 returns-then-not-has_value c =
-    supplied-is _ c.args.list.now.items.now _ _ c.entry_count-n.ensures c.item_count-to.ensures false
-    (c.loop-i.invariant.0 ∙ supplied-not _ _ _ _ _ _ c.loop-i.invariant.1 c.loop-i-test.true c.load-e.result c.load-e.ensures _ c.seek-j.ensures _ c.has_value.ensures
-    c.if-not-has_value.true)
+    let v = c.args.list.now.items.now in
+    sym (c.loop-e.invariant.0 ∙ supplied-not v _ _ c.loop-e.invariant.1 _ c.in-Some.e _ _ c.in-Some.ensures.steps _ c.seek-j.ensures _ c.has_value.ensures c.if-not-has_value.true)
 
-pub loop-i-preserved : goal.loop-i-preserved
-loop-i-preserved c = (
-  c.loop-i.invariant.0 ∙ supplied-go _ _ _ _ _ _ c.loop-i.invariant.1 c.loop-i-test.true c.load-e.result c.load-e.ensures _ c.seek-j.ensures _ c.has_value.ensures c.if-not-has_value.false _
-      c.end_of-i.ensures,
-  within-behind _ _ _ _ _ _ c.loop-i.invariant.1 c.loop-i-test.true c.load-e.result c.load-e.ensures _ c.seek-j.ensures _ c.has_value.ensures _ c.values_after-next.ensures.1,
-)
+pub loop-e-preserved : goal.loop-e-preserved
+loop-e-preserved c =
+    let v = c.args.list.now.items.now in (
+      c.loop-e.invariant.0 ∙ supplied-go v _ _ c.loop-e.invariant.1 _ c.in-Some.e _ _ c.in-Some.ensures.steps _ c.seek-j.ensures _ c.has_value.ensures c.if-not-has_value.false,
+      within-behind v _ _ c.loop-e.invariant.1 _ c.in-Some.e _ _ c.in-Some.ensures.steps _ c.seek-j.ensures _ c.has_value.ensures _ c.values_after-next.ensures.1,
+    )
 
 pub returns : goal.returns
-returns c = supplied-is _ c.args.list.now.items.now _ _ c.entry_count-n.ensures c.item_count-to.ensures true (c.loop-i.invariant.0 ∙ supplied-end _ _ _ _ c.loop-i-test.false)
+returns c = sym (c.loop-e.invariant.0 ∙ supplied-end _ _ c.in-None.ensures.steps.0)

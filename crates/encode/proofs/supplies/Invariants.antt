@@ -1,16 +1,14 @@
--- The names of all entries are supplied if those of the entries that are left are; a name from `next` on is a name of the list. The entries left fall.
-use Rattle.std.proofs.Common.{◌≡◌, ◌-◌}
-use Rattle.layout.specs.Layout.{part}
-use Rattle.items.specs.Items.{values}
+-- All names are supplied if those of the entries that are left are; a name from `next` on is a name of the list.
+use Rattle.std.proofs.Common.{◌≡◌}
+use Rattle.layout.specs.Layout.{entries}
+use Rattle.layout.specs.Level.{entries_left}
+use Rattle.items.specs.Items.{item_count, values}
 use Rattle.walks.specs.Records.{supplied}
-use Rattle.encode.proofs.Asking.{Within}
+use Rattle.encode.proofs.Asking.{Within, all-supplied}
 use Rattle.encode.proofs.supplies.Given as goal
 
-abbrev pub invariant-loop-i : goal.invariant-loop-i
-invariant-loop-i l =
-    let l' = l.layout.words.now in
+abbrev pub invariant-loop-e : goal.invariant-loop-e
+invariant-loop-e l =
     let v = l.list.items.now in
-    (supplied (part l' 0 l.n) (values v 0 l.to) ≡ supplied (part l' l.i l.n) (values v 0 l.to)) × Within (values v l.next l.to) (values v 0 l.to)
-
-abbrev pub decreases-loop-i : goal.decreases-loop-i
-decreases-loop-i l = l.n - l.i
+    (supplied (entries l.layout.words.now) (values v 0 (item_count v)) ≡ all-supplied (entries_left l.e-iterator) (values v 0 l.to))
+    × Within (values v l.next l.to) (values v 0 l.to)

@@ -51,6 +51,7 @@ pub fn width_ok(width: usize) -> bool
 }
 
 // Half of 256^n, for the widths that a Binary field may have.
+// Kept: 0 at any other width is the definition's own number; both callers have asked for the width first, so that an Option would be unwrapped there.
 pub fn half_of(n: usize) -> u64
     ensures { result ≡ half_of n }
 {

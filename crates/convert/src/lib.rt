@@ -8,7 +8,7 @@ ghost use Rattle.codes.specs.Refusals.{number_in};
 ghost use Rattle.items.specs.Items.{values};
 ghost use Rattle.walks.specs.Records.{read_into};
 ghost use Rattle.convert.specs.Same.{exact, exact_in, same_size, same_decimal, is_number, same_text, same_float, same_kind, same_item, same_all, same_value, all_kept};
-ghost use Rattle.convert.specs.Calls.{listed, back_asks, rewritten, converted_into, Cleared, RecordConverted};
+ghost use Rattle.convert.specs.Calls.{listed, back_asks, rewritten, converted_into, RecordConverted};
 ghost use Rattle.convert.specs.Parts.{BackJudged, ListRewritten};
 
 use codes::{Refusal, Tag};
@@ -216,14 +216,6 @@ fn back_asks(read: Result<Reading, Refusal>, kept: bool) -> Result<(), Refusal>
     }
 }
 
-// Clears the buffers of a list.
-fn clear_list(items: &mut [u64], text: &mut [u8])
-    ensures { Cleared items.old items.new × Cleared text.old text.new }
-{
-    items.fill(0);
-    text.fill(0);
-}
-
 // Reads back a record that was written of a list, judges it against the list, and clears what was read.
 fn judge_back(
     layout: &Layout,
@@ -244,7 +236,7 @@ fn judge_back(
         text: &back_text[..used.text],
     };
     let kept = all_kept(list, &back);
-    clear_list(back_items, back_text);
+    items::clear(back_items, back_text);
     back_asks(read, kept)
 }
 
@@ -265,7 +257,7 @@ fn rewrite(
     let length = match encode_record(layout, list, record, counts) {
         Ok(length) => length,
         Err(refusal) => {
-            clear_list(back_items, back_text);
+            items::clear(back_items, back_text);
             return Err(refusal);
         }
     };
@@ -311,12 +303,12 @@ pub fn convert_record(
                 text: &text[..read.text],
             };
             let length = rewrite(new, &list, new_record, back_items, back_text, counts);
-            clear_list(items, text);
+            items::clear(items, text);
             length
         }
         Err(refusal) => {
             new_record.fill(0);
-            clear_list(back_items, back_text);
+            items::clear(back_items, back_text);
             Err(refusal)
         }
     }

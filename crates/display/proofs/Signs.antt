@@ -1,8 +1,10 @@
 -- What a reader finds out of a sign, separate or leading; and how an Int and a Display field are read by their parts.
 use mathlib.Core.Path.{◌≡◌, refl, sym, ◌∙◌, ap}
 use mathlib.Core.List.{List, [], ◌∷◌, map}
-use mathlib.Core.Bool.{Bool, true, false, cond, false≢true}
-use Prim.Native.Nat.{ℕ, ◌+◌, ◌-◌, ◌^◌, ◌<◌, ◌≤◌}
+use mathlib.Core.Bool.{Bool, true, false, cond, ◌||◌}
+use Rattle.std.proofs.Common.{Option, Some, None}
+use Rattle.std.specs.Option.{unwrap_or}
+use Prim.Native.Nat.{ℕ, ◌+◌, ◌-◌, ◌^◌, ◌<◌}
 use native.Mathlib.Omega.{arith}
 use lib.Dec.{eqb}
 use lib.ListN.{length, get_or, take, drop, length-map}
@@ -44,13 +46,6 @@ module _ (g : ℕ → ℕ) (s : List ℕ) (sign : ℕ) where
   unfolding sign_at
   sign_nowhere a b = rw (ne_eqb sign 2 a, ne_eqb sign 3 b)
 
-  pub sign-some : is_sign (sign_at sign (map g s)) ≡ true → 1 ≤ length s
-  sign-some h = by s h
-    where
-      by : (l : List ℕ) → is_sign (sign_at sign (map g l)) ≡ true → 1 ≤ length l
-      by [] e = absurd (false≢true (ap is_sign (sym (none-at sign)) ∙ e))
-      by (x ∷ l) e = omega arith
-
   pub rest-first : sign ≡ 2 → is_sign (sign_at sign (map g s)) ≡ true → map g (take (length s - 1) (drop 1 s)) ≡ rest_of sign (map g s)
   unfolding rest_of
   rest-first e h = rw (h, eq-eqb sign 2 e) (ap (map g) (tail-part s 1) ∙ map-drop g 1 s)
@@ -62,6 +57,66 @@ module _ (g : ℕ → ℕ) (s : List ℕ) (sign : ℕ) where
   pub rest_all : is_sign (sign_at sign (map g s)) ≡ false → map g s ≡ rest_of sign (map g s)
   unfolding rest_of
   rest_all h = rw h
+
+  -- what is found: whether a sign is a minus, and the text without the sign
+  pub record Stripped (minus : Option Bool) (rest : List ℕ) : Type 0 where
+    pub told : minus ≡ cond (is_sign (sign_at sign (map g s))) (Some (eqb (sign_at sign (map g s)) 45)) None
+    pub left : rest ≡ rest_of sign (map g s)
+
+  pub stripped-nothing : sign_at sign (map g s) ≡ 0 → Stripped None (map g s)
+  stripped-nothing e = record { told = rw e; left = rest_all (rw e) }
+
+  -- the byte where a sign may stand, and the others
+  pub record Ends (b : ℕ) (rest : List ℕ) : Type 0 where
+    pub byte : sign_at sign (map g s) ≡ g b
+    pub behind : is_sign (sign_at sign (map g s)) ≡ true → map g rest ≡ rest_of sign (map g s)
+
+  pub ends-first : sign ≡ 2 → 0 < length s → Ends (get_or s 0 0) (take (length s - 1) (drop 1 s))
+  ends-first e h = record { byte = sign-first e h; behind = rest-first e }
+
+  pub ends-last : sign ≡ 3 → 0 < length s → Ends (get_or s (length s - 1) 0) (take (length s - 1) s)
+  ends-last e h = record { byte = sign-last e h; behind = rest-last (omega arith) }
+
+  module _ (b : ℕ) (rest : List ℕ) (ends : Ends b rest) (x : ℕ) (e : x ≡ g b) where
+    at : sign_at sign (map g s) ≡ x
+    at = ends.byte ∙ sym e
+
+    pub stripped-minus : x ≡ 45 → Stripped (Some true) (map g rest)
+    stripped-minus h = let m : sign_at sign (map g s) ≡ 45 = at ∙ h in record { told = rw m; left = ends.behind (rw m) }
+
+    pub stripped-plus : x ≡ 43 → Stripped (Some false) (map g rest)
+    stripped-plus h = let m : sign_at sign (map g s) ≡ 43 = at ∙ h in record { told = rw m; left = ends.behind (rw m) }
+
+    pub stripped-other : ¬ (x ≡ 45) → ¬ (x ≡ 43) → Stripped None (map g s)
+    stripped-other a c =
+        let n : is_sign (sign_at sign (map g s)) ≡ false = rw (at, ne_eqb x 45 a, ne_eqb x 43 c) in
+        record { told = rw n; left = rest_all n }
+
+-- what is found of a byte where a sign may stand
+abbrev Told : ℕ → Option Bool → Type 0
+Told x minus = minus ≡ cond (is_sign x) (Some (eqb x 45)) None
+
+pub told-some : (x : ℕ) (m : Bool) → Told x (Some m) → (is_sign x ≡ true) × (m ≡ eqb x 45)
+told-some x m e = go (is_sign x) refl e
+  where
+    go : (b : Bool) → is_sign x ≡ b → Some m ≡ cond b (Some (eqb x 45)) None → (is_sign x ≡ true) × (m ≡ eqb x 45)
+    go true s e = (s, cc)
+    go false s e = cc
+
+pub told-none : (x : ℕ) → Told x None → is_sign x ≡ false
+told-none x e = go (is_sign x) refl e
+  where
+    go : (b : Bool) → is_sign x ≡ b → None ≡ cond b (Some (eqb x 45)) None → is_sign x ≡ false
+    go true s e = cc
+    go false s e = s
+
+pub told-minus : (x : ℕ) (minus : Option Bool) → Told x minus → unwrap_or minus false ≡ eqb x 45
+told-minus x minus e = rw e (go (eqb x 45) (eqb x 43))
+  where
+    go : (a b : Bool) → unwrap_or (cond (a || b) (Some a) None) false ≡ a
+    go true b = refl
+    go false true = refl
+    go false false = refl
 
 -- ---- one leading sign or none
 

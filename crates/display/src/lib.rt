@@ -2,11 +2,11 @@
 
 #![tactic(auto)]
 
-ghost use Rattle.std.specs.Prelude.{◌≡◌, map, cond, length};
+ghost use Rattle.std.specs.Prelude.{◌≡◌, map, cond, Some, None, eqb, length};
 ghost use Rattle.codes.specs.Refusals.{number_in};
 ghost use Rattle.value.specs.Answer.{answered};
 ghost use Rattle.ebcdic.specs.Ebcdic.{from_page};
-ghost use Rattle.numerals.specs.Numerals.{trimmed};
+ghost use Rattle.numerals.specs.Numerals.{trimmed, is_sign};
 ghost use Rattle.display.specs.Display.{is_separate, sign_at, rest_of, digits_in, whole_of, int_of, decimal_of, or_refused, whole_in};
 ghost use Rattle.display.specs.Display.{int_fits, int_written, has_sign, decimal_fits, decimal_written};
 
@@ -21,30 +21,20 @@ fn is_separate(sign: u32) -> bool
     matches!(sign, 2 | 3)
 }
 
-// The byte of a trimmed text where a separate sign may stand; 0 where none may.
-#[tactic(auto, using(crate::proofs::Signs::sign_none, crate::proofs::Signs::sign_nowhere))]
-fn sign_at(part: &[u8], page: u32, sign: u32) -> u8
-    ensures { result ≡ sign_at sign (map (from_page page) part.now) }
-{
-    match (sign, part) {
-        (2, [b, ..]) => ebcdic::from_page(page, *b),
-        (3, [.., b]) => ebcdic::from_page(page, *b),
-        _ => 0,
-    }
-}
-
-// The byte of a trimmed text where a separate sign may stand, and the text without such a sign.
-fn strip_separate_sign(part: &[u8], page: u32, sign: u32) -> (u8, &[u8])
-    ensures byte { result.0 ≡ sign_at sign (map (from_page page) part.now) }
+// Whether the separate sign of a trimmed text is a minus, if it has such a sign, and the text without it.
+fn strip_separate_sign(part: &[u8], page: u32, sign: u32) -> (Option<bool>, &[u8])
+    ensures minus { result.0 ≡ cond (is_sign (sign_at sign (map (from_page page) part.now))) (Some (eqb (sign_at sign (map (from_page page) part.now)) 45)) None }
     ensures rest { map (from_page page) result.1.now ≡ rest_of sign (map (from_page page) part.now) }
 {
-    let b = sign_at(part, page, sign);
-    if !numerals::is_sign(b) {
-        (b, part)
-    } else if sign == 2 {
-        (b, &part[1..])
-    } else {
-        (b, &part[..part.len() - 1])
+    let (b, rest) = match (sign, part) {
+        (2, [b, rest @ ..]) => (*b, rest),
+        (3, [rest @ .., b]) => (*b, rest),
+        _ => return (None, part),
+    };
+    match ebcdic::from_page(page, b) {
+        b'-' => (Some(true), rest),
+        b'+' => (Some(false), rest),
+        _ => (None, part),
     }
 }
 
@@ -87,14 +77,14 @@ pub fn parse_display_int(part: &[u8], page: u32, sign: u32) -> Result<Whole, Ref
     ensures { answered result ≡ int_of sign (map (from_page page) part.now) }
 {
     let t = numerals::trim(part, page);
-    let (b, rest) = strip_separate_sign(t, page, sign);
+    let (minus, rest) = strip_separate_sign(t, page, sign);
     let u = numerals::trim(rest, page);
     if u.is_empty() {
-        Ok(value::signed_size(false, 0))
-    } else if numerals::is_sign(b) {
-        digits_in(u, page, value::INT_LIMIT, b == b'-')
-    } else {
-        whole_of(u, page)
+        return Ok(value::signed_size(false, 0));
+    }
+    match minus {
+        Some(minus) => digits_in(u, page, value::INT_LIMIT, minus),
+        None => whole_of(u, page),
     }
 }
 
@@ -103,8 +93,8 @@ pub fn parse_display_decimal(part: &[u8], page: u32, sign: u32) -> Result<Whole,
     ensures { answered result ≡ decimal_of sign (map (from_page page) part.now) }
 {
     let t = numerals::trim(part, page);
-    let (b, rest) = strip_separate_sign(t, page, sign);
-    value::with_sign(b == b'-', numerals::kept_digits(rest, page))
+    let (minus, rest) = strip_separate_sign(t, page, sign);
+    value::with_sign(minus.unwrap_or(false), numerals::kept_digits(rest, page))
 }
 
 // A text that is meant as a number is refused by one question, whatever refuses it as one.

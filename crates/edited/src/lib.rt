@@ -111,6 +111,7 @@ fn may_follow(prev: u8, c: u8) -> bool
 }
 
 // Whether every character of a mask is lawful.
+// Kept: `prev` begins at 0, here and in `write`, as in the definitions: it is only compared with C and D, and no line asks whether a byte stands before.
 fn lawful(mask: &[u8]) -> bool
     ensures { result ≡ is_lawful mask.now }
 {

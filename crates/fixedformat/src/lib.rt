@@ -18,7 +18,7 @@ use items::ValueList;
 use layout::Layout;
 use layout_text::LayoutReading;
 use text_field::TextPlace;
-use window::{Setting, Sums};
+use window::{Pair, Setting};
 
 // Reads a layout's text form.
 #[unsafe(no_mangle)]
@@ -250,7 +250,7 @@ pub extern "C" fn ff_window_add(
         second,
     };
     let answer = window::window_add(&setting, record, window, items, text, counts);
-    let sums = answer.unwrap_or(Sums {
+    let sums = answer.unwrap_or(Pair {
         first: 0,
         second: 0,
     });

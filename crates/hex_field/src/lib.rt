@@ -47,22 +47,22 @@ pub fn to_hex(part: &[u8], order: u32, out: &mut [u8]) -> Result<usize, Refusal>
     Ok(2 * part.len())
 }
 
-// The value of a digit, 16 for any other byte.
+fn is_hex(x: u8) -> bool
+    ensures { result ≡ is_hex x }
+{
+    x.is_ascii_hexdigit()
+}
+
+// The value of a digit.
 fn nibble_in(x: u8) -> u8
+    requires { is_hex x ≡ true }
     ensures { result ≡ nibble_in x }
 {
     match x {
         b'0'..=b'9' => x - b'0',
         b'A'..=b'F' => x - b'A' + 10,
-        b'a'..=b'f' => x - b'a' + 10,
-        _ => 16,
+        _ => x - b'a' + 10,
     }
-}
-
-fn is_hex(x: u8) -> bool
-    ensures { result ≡ is_hex x }
-{
-    nibble_in(x) < 16
 }
 
 // The byte of its first and its second digit.

@@ -2,7 +2,7 @@
 
 #![tactic(auto)]
 
-ghost use Rattle.std.specs.Prelude.{◌≡◌, cond, false, ◌++◌, ℕ, ◌+◌, ◌*◌, ◌/◌, ◌≤◌, min, length, get_or, drop};
+ghost use Rattle.std.specs.Prelude.{◌≡◌, cond, false, ◌++◌, ℕ, ◌+◌, ◌*◌, ◌/◌, ◌≤◌, min, length, get_or, drop, replicate};
 ghost use Rattle.codes.specs.Kinds.{word_of_tag};
 ghost use Rattle.codes.specs.Refusals.{number_in};
 ghost use Rattle.spans.specs.Tree.{end_of, level};
@@ -35,6 +35,15 @@ pub fn text_ok(text: usize, a: u64, b: u64) -> bool
     ensures { result ≡ text_ok text a b }
 {
     a <= text as u64 && b <= text as u64 - a
+}
+
+// Clears the buffers of a list.
+pub fn clear(items: &mut [u64], text: &mut [u8])
+    ensures items_after { items.new ≡ replicate (length items.old) 0 }
+    ensures text_after { text.new ≡ replicate (length text.old) 0 }
+{
+    items.fill(0);
+    text.fill(0);
 }
 
 // An item of a value list: its name, its tag, and two words.

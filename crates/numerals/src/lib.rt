@@ -87,6 +87,7 @@ pub fn is_sign(x: u8) -> bool
 
 // ---- writing
 
+// Kept: a digit is a byte below 10; `zero_pad` makes and uses it in one line, so that a type with the bound would be taken apart at once.
 fn digit_on(page: u32, d: u8) -> u8
     requires { d < 10 }
     ensures { result ≡ onto_page page (48 + d) }

@@ -2,7 +2,7 @@
 
 #![tactic(auto)]
 
-ghost use Rattle.std.specs.Prelude.{◌≡◌, ◌++◌, ◌+◌, ◌-◌, ◌≤◌, length, take, drop, replicate};
+ghost use Rattle.std.specs.Prelude.{◌≡◌, ◌++◌, ◌+◌, ◌-◌, ◌≤◌, length, take, drop};
 ghost use Rattle.codes.specs.Refusals.{number_in};
 ghost use Rattle.roundtrip.specs.Same.{length_in, read_in, words_in, bytes_in, RoundTrip, Returns};
 
@@ -31,14 +31,6 @@ fn put_behind(record: &mut [u8], at: usize, bytes: &[u8]) -> usize
     end
 }
 
-fn clear(back: &mut [u64], said: &mut [u8])
-    ensures back_after { back.new ≡ replicate (length back.old) 0 }
-    ensures said_after { said.new ≡ replicate (length said.old) 0 }
-{
-    back.fill(0);
-    said.fill(0);
-}
-
 // Writes a record by a layout and a value list, puts bytes behind it, and reads it back; nothing is read where writing refuses.
 pub fn round_trip(
     layout: &Layout,
@@ -64,7 +56,7 @@ pub fn round_trip(
             Ok(Trip { length, read })
         }
         Err(refusal) => {
-            clear(back, said);
+            items::clear(back, said);
             Err(refusal)
         }
     }

@@ -33,6 +33,7 @@ fn pad_end(s: &[u8], pad: u8) -> usize
 }
 
 // Where the first 0 byte stands, or the length.
+// Kept: one call of std; lines' line_end is another.
 fn zero_at(s: &[u8]) -> usize
     ensures { (result ≤ length s.now) × (take result s.now ≡ before_by (is_byte 0) s.now) }
 {
@@ -49,6 +50,8 @@ fn text_end(s: &[u8], pad: u8) -> usize
 }
 
 // The bytes of a field that are its text, as a part of it. The pad is looked for as it stands on the page.
+// Kept: `right`, `pad` and `page` one by one, here and in what writes a text: a caller has the first two from an entry and the page from its layout,
+// and of the functions that are not called from outside only `justify_pad` takes all three, so that a struct would be made at each call for the one.
 pub fn trimmed(s: &[u8], page: u32, right: bool, trim: bool, pad: u8) -> &[u8]
     ensures result_value { map (from_page page) result.now ≡ read_text page right trim pad s.now }
     ensures ref_ptr_value { result.ref_ptr ≡ place_in s.entry (cut_from right trim pad (map (from_page page) s.now)) }
@@ -140,8 +143,7 @@ fn spell(part: &mut [u8], v: u64)
 
 // A minus to the front, if the number has one; where the next byte goes.
 // Kept: a sign and a size as a Scalar holds them.
-fn put_minus(out: &mut [u8], negative: bool, size: u64) -> usize
-    requires { 0 < length out.old }
+fn put_minus(out: &mut [u8; 24], negative: bool, size: u64) -> usize
     ensures value { result ≡ length (minus_text negative size) }
     ensures out_after { out.new ≡ front (minus_text negative size) out.old }
 {
@@ -180,8 +182,7 @@ fn put_fraction(out: &mut [u8], at: usize, size: u64, scale: usize) -> usize
 
 // An integer to the front; its length.
 // Kept: a sign and a size as a Scalar holds them.
-fn show_int(out: &mut [u8], negative: bool, size: u64) -> usize
-    requires { 24 ≤ length out.old }
+fn show_int(out: &mut [u8; 24], negative: bool, size: u64) -> usize
     ensures value { (result ≡ length (int_text negative size)) × (result ≤ 24) }
     ensures out_after { out.new ≡ front (int_text negative size) out.old }
 {
@@ -191,8 +192,8 @@ fn show_int(out: &mut [u8], negative: bool, size: u64) -> usize
 
 // A decimal to the front; its length.
 // Kept: a sign and a size as a Scalar holds them.
-fn show_decimal(out: &mut [u8], negative: bool, size: u64, scale: u64) -> usize
-    requires { (24 ≤ length out.old) × (scale ≤ 18) }
+fn show_decimal(out: &mut [u8; 24], negative: bool, size: u64, scale: u64) -> usize
+    requires { scale ≤ 18 }
     ensures value { (result ≡ length (decimal_text negative size scale)) × (result ≤ 24) }
     ensures out_after { out.new ≡ front (decimal_text negative size scale) out.old }
 {
@@ -206,8 +207,7 @@ fn show_decimal(out: &mut [u8], negative: bool, size: u64, scale: u64) -> usize
 }
 
 // `true` or `false` to the front; its length.
-fn show_bool(out: &mut [u8], b: bool) -> usize
-    requires { 24 ≤ length out.old }
+fn show_bool(out: &mut [u8; 24], b: bool) -> usize
     ensures value { (result ≡ length (bool_text b)) × (result ≤ 24) }
     ensures out_after { out.new ≡ front (bool_text b) out.old }
 {

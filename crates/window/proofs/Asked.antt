@@ -16,7 +16,7 @@ passed false n h e = absurd (h e)
 -- ---- what is passed
 
 -- what is accepted passed each question
-asking-added : (a : ℕ) (x : Added) (p : Pair) → asking refused a x ≡ added p → x ≡ added p
+asking-added : (a : ℕ) (x : Added) (p : Pair ℕ) → asking refused a x ≡ added p → x ≡ added p
 asking-added a x p e = go (eqb a 0) refl
   where
     go : (s : Bool) → eqb a 0 ≡ s → x ≡ added p
@@ -26,7 +26,7 @@ asking-added a x p e = go (eqb a 0) refl
         let z : ◌≡◌ {A = ℕ} 0 1 = cc in
         absurd (omega arith)
 
-judged-small : (q p : Pair) → judged q ≡ added p → small_pair p ≡ true
+judged-small : (q p : Pair ℕ) → judged q ≡ added p → small_pair p ≡ true
 judged-small q p e = go (small_pair q) refl
   where
     go : (s : Bool) → small_pair q ≡ s → small_pair p ≡ true
@@ -39,7 +39,7 @@ judged-small q p e = go (small_pair q) refl
         let z : ◌≡◌ {A = ℕ} 0 1 = cc in
         absurd (omega arith)
 
-pub added-small : (a c : ℕ) (q p : Pair) → asking refused a (asking refused c (judged q)) ≡ added p → small_pair p ≡ true
+pub added-small : (a c : ℕ) (q p : Pair ℕ) → asking refused a (asking refused c (judged q)) ≡ added p → small_pair p ≡ true
 added-small a c q p e = judged-small q p (asking-added c (judged q) p (asking-added a (asking refused c (judged q)) p e))
 
 -- ---- the questions before 24

@@ -7,11 +7,11 @@ use Rattle.window.specs.Steps.{put_at, moved_down, word_plus, word_minus, with_h
 
 -- ---- pairs and their words
 
-pub flat-length : (ps : List Pair) → length (flat ps) ≡ length ps * 2
+pub flat-length : (ps : List (Pair ℕ)) → length (flat ps) ≡ length ps * 2
 flat-length [] = refl
 flat-length (p ∷ ps) = let h : length (flat ps) ≡ length ps * 2 = flat-length ps in omega arith
 
-pub pairs-flat : (ps : List Pair) (r : List ℕ) → pairs_of (length ps) (flat ps ++ r) ≡ ps
+pub pairs-flat : (ps : List (Pair ℕ)) (r : List ℕ) → pairs_of (length ps) (flat ps ++ r) ≡ ps
 pairs-flat [] r = refl
 pairs-flat (p ∷ ps) r = ap (λ qs. p ∷ qs) (pairs-flat ps r)
 
@@ -28,19 +28,19 @@ flat-pairs (suc n) (x ∷ y ∷ l) h =
     rw e (ap (λ t. x ∷ y ∷ t) (flat-pairs n l (omega arith)))
 
 module _ (a b : ℕ) where
-  pub flat-snoc : (ps : List Pair) → flat (ps ++ (pair a b ∷ [])) ≡ flat ps ++ (a ∷ b ∷ [])
+  pub flat-snoc : (ps : List (Pair ℕ)) → flat (ps ++ (pair a b ∷ [])) ≡ flat ps ++ (a ∷ b ∷ [])
   flat-snoc [] = refl
   flat-snoc (p ∷ ps) = ap (λ t. p.first ∷ p.second ∷ t) (flat-snoc ps)
 
-  pub firsts-snoc : (ps : List Pair) → total (firsts (ps ++ (pair a b ∷ []))) ≡ total (firsts ps) + a
+  pub firsts-snoc : (ps : List (Pair ℕ)) → total (firsts (ps ++ (pair a b ∷ []))) ≡ total (firsts ps) + a
   firsts-snoc [] = omega arith
   firsts-snoc (p ∷ ps) = let h : total (firsts (ps ++ (pair a b ∷ []))) ≡ total (firsts ps) + a = firsts-snoc ps in omega arith
 
-  pub seconds-snoc : (ps : List Pair) → total (seconds (ps ++ (pair a b ∷ []))) ≡ total (seconds ps) + b
+  pub seconds-snoc : (ps : List (Pair ℕ)) → total (seconds (ps ++ (pair a b ∷ []))) ≡ total (seconds ps) + b
   seconds-snoc [] = omega arith
   seconds-snoc (p ∷ ps) = let h : total (seconds (ps ++ (pair a b ∷ []))) ≡ total (seconds ps) + b = seconds-snoc ps in omega arith
 
-  pub snoc-length : (ps : List Pair) → length (ps ++ (pair a b ∷ [])) ≡ 1 + length ps
+  pub snoc-length : (ps : List (Pair ℕ)) → length (ps ++ (pair a b ∷ [])) ≡ 1 + length ps
   snoc-length ps = length-append ps (pair a b ∷ []) ∙ omega arith
 
 -- ---- sums
@@ -53,7 +53,7 @@ sum-rolled x t a s h = omega arith
 
 -- ---- what is laid
 
-pub held-laid : (ps : List Pair) (l : List ℕ) → held_in (laid ps l) ≡ ps
+pub held-laid : (ps : List (Pair ℕ)) (l : List ℕ) → held_in (laid ps l) ≡ ps
 unfolding laid
 held-laid ps l = pairs-flat ps (drop (5 + length ps * 2) l)
 
@@ -83,13 +83,13 @@ module _ (x0 x1 x2 x3 x4 k : ℕ) (l : List ℕ) where
   put_five a b = rw (take-five, drop-seven)
 
 -- behind the pairs
-pub pairs-behind : (ps : List Pair) (r : List ℕ) → drop (length ps * 2) (flat ps ++ r) ≡ r
+pub pairs-behind : (ps : List (Pair ℕ)) (r : List ℕ) → drop (length ps * 2) (flat ps ++ r) ≡ r
 pairs-behind ps r = drop_at (flat ps) r (length ps * 2) (flat-length ps)
 
-pub pairs-before : (ps : List Pair) (r : List ℕ) → take (length ps * 2) (flat ps ++ r) ≡ flat ps
+pub pairs-before : (ps : List (Pair ℕ)) (r : List ℕ) → take (length ps * 2) (flat ps ++ r) ≡ flat ps
 pairs-before ps r = take_at (flat ps) r (length ps * 2) (flat-length ps)
 
-module _ (a b : ℕ) (l : List ℕ) (ps : List Pair) where
+module _ (a b : ℕ) (l : List ℕ) (ps : List (Pair ℕ)) where
   behind_more : drop 2 (drop (5 + length ps * 2) l) ≡ drop (5 + (1 + length ps) * 2) l
   behind_more = let e : 5 + length ps * 2 + 2 ≡ 5 + (1 + length ps) * 2 = omega arith in drop-drop 2 (5 + length ps * 2) l ∙ ap (λ k. drop k l) e
 
@@ -113,7 +113,7 @@ pub moved-five : (w x0 x1 x2 x3 x4 y z : ℕ) (m : List ℕ) → moved_down w (x
 unfolding moved_down
 moved-five w x0 x1 x2 x3 x4 y z m = rw (drop-five x0 x1 x2 x3 x4 (w * 2 - 2) (y ∷ z ∷ m))
 
-module _ (a b : ℕ) (l : List ℕ) (q : Pair) (qs : List Pair) where
+module _ (a b : ℕ) (l : List ℕ) (q : Pair ℕ) (qs : List (Pair ℕ)) where
   moved : List ℕ → List ℕ
   moved d = take (length qs * 2) (flat qs ++ d) ++ drop (length qs * 2) (flat (q ∷ qs) ++ d)
 
@@ -139,7 +139,7 @@ module _ (a b : ℕ) (l : List ℕ) (q : Pair) (qs : List Pair) where
 
 -- ---- a pair more, whatever the window holds
 
-module _ (w a b : ℕ) (l : List ℕ) (ps : List Pair) (few : length ps ≤ w) (some : 0 < w) where
+module _ (w a b : ℕ) (l : List ℕ) (ps : List (Pair ℕ)) (few : length ps ≤ w) (some : 0 < w) where
   all-last : length ps < w → last_of w (ps ++ (pair a b ∷ [])) ≡ ps ++ (pair a b ∷ [])
   all-last h = let z : length (ps ++ (pair a b ∷ [])) - w ≡ 0 = omega (arith, snoc-length a b ps) in rw z
 
@@ -147,7 +147,7 @@ module _ (w a b : ℕ) (l : List ℕ) (ps : List Pair) (few : length ps ≤ w) (
   unfolding pushed laid
   pushed-laid = go (dec_lt (length ps) w)
     where
-      full : (rs : List Pair) → length rs ≡ w → rolled w a b (laid rs l) ≡ laid (last_of w (rs ++ (pair a b ∷ []))) l
+      full : (rs : List (Pair ℕ)) → length rs ≡ w → rolled w a b (laid rs l) ≡ laid (last_of w (rs ++ (pair a b ∷ []))) l
       full [] h = absurd (omega arith)
       full (q ∷ qs) h =
           let z : length (q ∷ qs ++ (pair a b ∷ [])) - w ≡ 1 = omega (arith, snoc-length a b (q ∷ qs)) in

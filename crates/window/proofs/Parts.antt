@@ -1,8 +1,6 @@
 -- What the calls leave, from what their parts leave: each law takes the facts of one way out of a function and makes the record that its contract cites.
 use Rattle.std.proofs.Common.{◌≡◌, ℕ, zero, suc, ◌-◌, ◌<◌, ◌≤◌, true, List, [], ◌++◌, length, get_or, take, drop, set, replicate, ℤ, pos, sym, ap, ◌∙◌, subst, ap₂, arith, length-append, length-take, take_at, refl, eq-eqb, ne_eqb}
 use lib.ListN.{length-replicate}
-use Rattle.std.specs.Prelude.{Result, Ok, Err}
-use Rattle.std.specs.Result.{IsErrAnd}
 use Rattle.codes.specs.declared.Refusal.{Refusal}
 use Rattle.codes.specs.Refusals.{number_of as number_of_refusal}
 use Rattle.codes.proofs.Refusals.{some_number}
@@ -23,11 +21,6 @@ use Rattle.window.proofs.Totals.{first-true, second-true}
 use Rattle.window.proofs.Runs.{accepted-lawful}
 use Rattle.window.proofs.Rules.{contributed-pair}
 
--- a refusal that is passed on
-pub passed-on : {A : Type 0} (r : Result A Refusal) (e : Refusal) → IsErrAnd r (λ x. x ≡ e) → r ≡ Err e
-passed-on (Err x) e h = ap Err h
-passed-on (Ok x) e h = absurd h
-
 -- ---- a start, a changeover
 
 module _ (asked number : ℕ) (written window : List ℕ) (counts counts' : List ℤ) (n : number ≡ asked) (c : counts' ≡ replicate (length counts) (pos 0)) where
@@ -47,12 +40,12 @@ module _ (window : List ℕ) (w : ℕ) (front : List ℕ) (k : ℕ) (e : k ≡ w
 
 -- ---- a pair into a window
 
-module _ (p : Pair) (scale w : ℕ) (window : List ℕ) where
+module _ (p : Pair ℕ) (scale w : ℕ) (window : List ℕ) where
   module _ (some : 0 < w) (few : w ≤ 4096) (long : window_words w ≤ length window) (ok : lawful_in w scale window ≡ true) (h : small_pair p ≡ true) where
-    abbrev given : Pair
+    abbrev given : Pair ℕ
     given = contributed_pair scale (display_in window) (rule_in window) p
 
-    pub taken-small : (q : Pair) → q ≡ given → (window' : List ℕ) → window' ≡ pushed w q.first q.second window
+    pub taken-small : (q : Pair ℕ) → q ≡ given → (window' : List ℕ) → window' ≡ pushed w q.first q.second window
         → (one two : ℤ) → one ≡ whole_of (get_or window' 1 0) → two ≡ whole_of (get_or window' 2 0) → PairTaken p scale w 0 one two window window'
     taken-small q s window' e one two a b =
         let is : window' ≡ accepted w given window = e ∙ ap (λ c. pushed w c.first c.second window) s ∙ pushed-accepted w scale window given.first given.second ok some long in
@@ -116,7 +109,7 @@ module _ (l masks : List ℕ) (page : ℕ) (r : List ℕ) (w first second : ℕ)
     outcome-reader : (n : ℕ) → n ≡ Records.number_of list → (n ≡ 0 → ⊥) → outcome ≡ refused n
     outcome-reader n e h = outcome-read ∙ rw (ne_eqb (Records.number_of list) 0 (λ k. h (e ∙ k))) (ap refused (sym e))
 
-    outcome-judged : (p : Pair) → Records.number_of list ≡ 0 → p ≡ pair_in l first second (items_of list) → outcome ≡ judged p
+    outcome-judged : (p : Pair ℕ) → Records.number_of list ≡ 0 → p ≡ pair_in l first second (items_of list) → outcome ≡ judged p
     outcome-judged p k e = outcome-read ∙ rw (eq-eqb (Records.number_of list) 0 k) (ap judged (sym e))
 
   -- refused before anything is read
@@ -140,12 +133,12 @@ module _ (l masks : List ℕ) (page : ℕ) (r : List ℕ) (w first second : ℕ)
     add-refused e h items' text' counts' a b c = refused-so (outcome-before number e h) items' text' counts' a b c
 
     -- refused by the reader
-    pub add-unread : before ≡ 0 → (n : ℕ) (p : Pair) (items' text' : List ℕ) (counts' : List ℤ) → PairRead list l first second n p items items' text text' counts counts' → number ≡ n → (n ≡ 0 → ⊥)
+    pub add-unread : before ≡ 0 → (n : ℕ) (p : Pair ℕ) (items' text' : List ℕ) (counts' : List ℤ) → PairRead list l first second n p items items' text text' counts counts' → number ≡ n → (n ≡ 0 → ⊥)
         → WindowAdded outcome (scale_at l first) w number one two window window items items' text text' counts counts'
     add-unread z n p items' text' counts' r e h = refused-so (outcome-reader z number (e ∙ r.numbered) (λ k. h (sym e ∙ k))) items' text' counts' r.items_left r.text_left r.counts_left
 
   -- judged
-  pub add-judged : before ≡ 0 → (n : ℕ) (p : Pair) (items' text' : List ℕ) (counts' : List ℤ) → PairRead list l first second n p items items' text text' counts counts' → n ≡ 0
+  pub add-judged : before ≡ 0 → (n : ℕ) (p : Pair ℕ) (items' text' : List ℕ) (counts' : List ℤ) → PairRead list l first second n p items items' text text' counts counts' → n ≡ 0
       → (scale : ℕ) → scale ≡ scale_at l first → (number : ℕ) (one two : ℤ) (window' : List ℕ) → PairTaken p scale w number one two window window'
       → WindowAdded outcome (scale_at l first) w number one two window window' items items' text text' counts counts'
   add-judged z n p items' text' counts' r h scale s number one two window' u =

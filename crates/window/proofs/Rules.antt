@@ -94,11 +94,11 @@ each-contributes scale display x some h =
 -- ---- pairs
 
 module _ (scale display : ℕ) (rule : Rule) where
-  pub contributed-pair : (p : Pair) → small_pair p ≡ true → small_pair (contributed_pair scale display rule p) ≡ true
+  pub contributed-pair : (p : Pair ℕ) → small_pair p ≡ true → small_pair (contributed_pair scale display rule p) ≡ true
   contributed-pair p h =
       and (contributed-small scale display rule p.first (and_left (small p.first) (small p.second) h))
       (contributed-small scale display rule p.second (and_right (small p.first) (small p.second) h))
 
-pub pair-itself : (scale : ℕ) (rule : Rule) (p : Pair) → contributed_pair scale 0 rule p ≡ p
+pub pair-itself : (scale : ℕ) (rule : Rule) (p : Pair ℕ) → contributed_pair scale 0 rule p ≡ p
 unfolding contributed
 pair-itself scale rule p = refl

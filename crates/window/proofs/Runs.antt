@@ -19,13 +19,13 @@ use Rattle.window.proofs.Rules.{contributed-pair, pair-itself}
 
 -- ---- the last W
 
-last-few : (w : ℕ) (ps : List Pair) → length ps ≤ w → last_of w ps ≡ ps
+last-few : (w : ℕ) (ps : List (Pair ℕ)) → length ps ≤ w → last_of w ps ≡ ps
 last-few w ps h = let z : length ps - w ≡ 0 = omega arith in rw z
 
-last-length : (w : ℕ) (ps : List Pair) → length (last_of w ps) ≤ w
+last-length : (w : ℕ) (ps : List (Pair ℕ)) → length (last_of w ps) ≤ w
 last-length w ps = omega (arith, length-drop (length ps - w) ps)
 
-last-last : (w : ℕ) (ps qs : List Pair) → last_of w (last_of w ps ++ qs) ≡ last_of w (ps ++ qs)
+last-last : (w : ℕ) (ps qs : List (Pair ℕ)) → last_of w (last_of w ps ++ qs) ≡ last_of w (ps ++ qs)
 last-last w ps qs = go (dec_le (length ps) w)
   where
     go : Dec (length ps ≤ w) → last_of w (last_of w ps ++ qs) ≡ last_of w (ps ++ qs)
@@ -39,40 +39,40 @@ last-last w ps qs = go (dec_le (length ps) w)
         ∙ ap (λ i. drop i (ps ++ qs)) n
 
 -- one pair, then more
-one_more : (w : ℕ) (qs ps : List Pair) (p : Pair) → last_of w (last_of w (qs ++ (p ∷ [])) ++ ps) ≡ last_of w (qs ++ (p ∷ ps))
+one_more : (w : ℕ) (qs ps : List (Pair ℕ)) (p : Pair ℕ) → last_of w (last_of w (qs ++ (p ∷ [])) ++ ps) ≡ last_of w (qs ++ (p ∷ ps))
 one_more w qs ps p = last-last w (qs ++ (p ∷ [])) ps ∙ ap (last_of w) (append_assoc qs (p ∷ []) ps)
 
 -- ---- small pairs
 
-small-drop : (k : ℕ) (ps : List Pair) → all_small ps ≡ true → all_small (drop k ps) ≡ true
+small-drop : (k : ℕ) (ps : List (Pair ℕ)) → all_small ps ≡ true → all_small (drop k ps) ≡ true
 small-drop zero ps h = h
 small-drop (suc k) [] h = refl
 small-drop (suc k) (p ∷ ps) h = small-drop k ps (and_right (small_pair p) (all_small ps) h)
 
-small-snoc : (qs : List Pair) (p : Pair) → all_small qs ≡ true → small_pair p ≡ true → all_small (qs ++ (p ∷ [])) ≡ true
+small-snoc : (qs : List (Pair ℕ)) (p : Pair ℕ) → all_small qs ≡ true → small_pair p ≡ true → all_small (qs ++ (p ∷ [])) ≡ true
 small-snoc [] p h k = rw k
 small-snoc (q ∷ qs) p h k = and (and_left (small_pair q) (all_small qs) h) (small-snoc qs p (and_right (small_pair q) (all_small qs) h) k)
 
-small-last : (w : ℕ) (qs : List Pair) (p : Pair) → all_small qs ≡ true → small_pair p ≡ true → all_small (last_of w (qs ++ (p ∷ []))) ≡ true
+small-last : (w : ℕ) (qs : List (Pair ℕ)) (p : Pair ℕ) → all_small qs ≡ true → small_pair p ≡ true → all_small (last_of w (qs ++ (p ∷ []))) ≡ true
 small-last w qs p h k = small-drop (length (qs ++ (p ∷ [])) - w) (qs ++ (p ∷ [])) (small-snoc qs p h k)
 
 -- ---- what is laid is lawful
 
-laid-words : (w scale : ℕ) (l : List ℕ) (ps : List Pair) → length ps ≤ w → display_in l ≤ scale → get_or l 4 0 ≤ 1 → words_ok w scale (laid ps l) ≡ true
+laid-words : (w scale : ℕ) (l : List ℕ) (ps : List (Pair ℕ)) → length ps ≤ w → display_in l ≤ scale → get_or l 4 0 ≤ 1 → words_ok w scale (laid ps l) ≡ true
 unfolding laid
 laid-words w scale l ps few shown passed = rw (le-leb (length ps) w few, le-leb (display_in l) scale shown, le-leb (get_or l 4 0) 1 passed)
 
-laid-sums : (l : List ℕ) (ps : List Pair) → (eqb (get_or (laid ps l) 1 0) (sum_in (firsts ps)) && eqb (get_or (laid ps l) 2 0) (sum_in (seconds ps))) ≡ true
+laid-sums : (l : List ℕ) (ps : List (Pair ℕ)) → (eqb (get_or (laid ps l) 1 0) (sum_in (firsts ps)) && eqb (get_or (laid ps l) 2 0) (sum_in (seconds ps))) ≡ true
 unfolding laid
 laid-sums l ps = rw (eq-eqb (sum_in (firsts ps)) (sum_in (firsts ps)) refl, eq-eqb (sum_in (seconds ps)) (sum_in (seconds ps)) refl)
 
-laid-lawful : (w scale : ℕ) (l : List ℕ) (ps : List Pair) → length ps ≤ w → display_in l ≤ scale → get_or l 4 0 ≤ 1 → all_small ps ≡ true → lawful_in w scale (laid ps l) ≡ true
+laid-lawful : (w scale : ℕ) (l : List ℕ) (ps : List (Pair ℕ)) → length ps ≤ w → display_in l ≤ scale → get_or l 4 0 ≤ 1 → all_small ps ≡ true → lawful_in w scale (laid ps l) ≡ true
 unfolding lawful_in
 laid-lawful w scale l ps few shown passed smalls = rw (held-laid ps l, smalls, laid-words w scale l ps few shown passed) (laid-sums l ps)
 
 -- an accepted pair leaves a lawful window lawful
 module _ (w scale : ℕ) (l : List ℕ) (ok : lawful_in w scale l ≡ true) where
-  pub accepted-lawful : (p : Pair) → small_pair p ≡ true → lawful_in w scale (accepted w p l) ≡ true
+  pub accepted-lawful : (p : Pair ℕ) → small_pair p ≡ true → lawful_in w scale (accepted w p l) ≡ true
   unfolding accepted
   accepted-lawful p h =
       laid-lawful w scale l (last_of w (held_in l ++ (p ∷ []))) (last-length w (held_in l ++ (p ∷ []))) (lawful-shown w scale l ok) (lawful-passed w scale l ok)
@@ -81,7 +81,7 @@ module _ (w scale : ℕ) (l : List ℕ) (ok : lawful_in w scale l ≡ true) wher
 -- ---- a pair accepted by pairs laid
 
 -- pairs laid over fewer
-laid-again : (ps qs : List Pair) (l : List ℕ) → length qs ≤ length ps → laid ps (laid qs l) ≡ laid ps l
+laid-again : (ps qs : List (Pair ℕ)) (l : List ℕ) → length qs ≤ length ps → laid ps (laid qs l) ≡ laid ps l
 unfolding laid
 laid-again ps qs l h =
     let e : length ps * 2 ≡ length (flat qs) + (length ps * 2 - length qs * 2) = omega (arith, flat-length qs) in
@@ -92,7 +92,7 @@ laid-again ps qs l h =
     ∙ drop-drop (length ps * 2 - length qs * 2) (5 + length qs * 2) l ∙ ap (λ k. drop k l) f in
     ap (λ m. length ps ∷ sum_in (firsts ps) ∷ sum_in (seconds ps) ∷ display_in l ∷ get_or l 4 0 ∷ (flat ps ++ m)) d
 
-module _ (w : ℕ) (l : List ℕ) (qs : List Pair) (few : length qs ≤ w) (p : Pair) where
+module _ (w : ℕ) (l : List ℕ) (qs : List (Pair ℕ)) (few : length qs ≤ w) (p : Pair ℕ) where
   last-most : length qs ≤ length (last_of w (qs ++ (p ∷ [])))
   last-most = omega (arith, length-drop (length (qs ++ (p ∷ [])) - w) (qs ++ (p ∷ [])), snoc-length p.first p.second qs)
 
@@ -100,12 +100,12 @@ module _ (w : ℕ) (l : List ℕ) (qs : List Pair) (few : length qs ≤ w) (p : 
   unfolding accepted
   accepted-laid = ap (λ ps. laid (last_of w (ps ++ (p ∷ []))) (laid qs l)) (held-laid qs l) ∙ laid-again (last_of w (qs ++ (p ∷ []))) qs l last-most
 
-laid-length : (ps : List Pair) (l : List ℕ) → window_words (length ps) ≤ length l → length (laid ps l) ≡ length l
+laid-length : (ps : List (Pair ℕ)) (l : List ℕ) → window_words (length ps) ≤ length l → length (laid ps l) ≡ length l
 unfolding laid
 laid-length ps l h = omega (arith, flat-length ps, length-append (flat ps) (drop (window_words (length ps)) l), length-drop (window_words (length ps)) l)
 
 -- told one behind the other
-tell-laid : (w : ℕ) (l : List ℕ) (ps qs : List Pair) → length qs ≤ w → tell w ps (laid qs l) ≡ laid (last_of w (qs ++ ps)) l
+tell-laid : (w : ℕ) (l : List ℕ) (ps qs : List (Pair ℕ)) → length qs ≤ w → tell w ps (laid qs l) ≡ laid (last_of w (qs ++ ps)) l
 tell-laid w l [] qs few = ap (λ rs. laid rs l) (sym (ap (last_of w) (append-nil qs) ∙ last-few w qs few))
 tell-laid w l (p ∷ ps) qs few =
     ap (tell w ps) (accepted-laid w l qs few p) ∙ tell-laid w l ps (last_of w (qs ++ (p ∷ []))) (last-length w (qs ++ (p ∷ []))) ∙ ap (λ rs. laid rs l) (one_more w qs ps p)
@@ -137,7 +137,7 @@ module _ (w display : ℕ) (lent : List ℕ) where
   base-length cutting long = omega (arith, length-append (replicate (w * 2) 0) (drop (window_words w) lent), length-replicate {A = ℕ} (w * 2) 0, length-drop (window_words w) lent)
   base-length half_even long = omega (arith, length-append (replicate (w * 2) 0) (drop (window_words w) lent), length-replicate {A = ℕ} (w * 2) 0, length-drop (window_words w) lent)
 
-  module _ (qs : List Pair) where
+  module _ (qs : List (Pair ℕ)) where
     laid-display : (rule : Rule) → display_in (laid qs (base rule)) ≡ display
     unfolding laid
     laid-display rule = base-display rule
@@ -172,14 +172,14 @@ module _ (l masks : List ℕ) (page w first second : ℕ) where
   scale = scale_at l first
 
   -- what is accepted is small
-  call-small : (g : Given) (m : List ℕ) (p : Pair) → call l masks page w first second g m ≡ added p → small_pair p ≡ true
+  call-small : (g : Given) (m : List ℕ) (p : Pair ℕ) → call l masks page w first second g m ≡ added p → small_pair p ≡ true
   unfolding add_record
   call-small g m p e =
       let d = decode_record l masks page g.bytes g.items g.text g.work in
       added-small (before_asks l masks page w first second m g.work) (Records.number_of d) (pair_in l first second (items_of d)) p e
 
   module _ (display : ℕ) where
-    abbrev tells : List Event → List ℕ → Rule → List Pair
+    abbrev tells : List Event → List ℕ → Rule → List (Pair ℕ)
     tells = told_in l masks page w first second display
 
     -- what is told is small
@@ -198,23 +198,23 @@ module _ (l masks : List ℕ) (page w first second : ℕ) where
       fresh-under rule = base w display lent rule
 
       -- the run from a window m is what these pairs and then the told ones make
-      abbrev Runs : List Event → List Pair → List ℕ → Rule → Type 0
+      abbrev Runs : List Event → List (Pair ℕ) → List ℕ → Rule → Type 0
       Runs es qs m rule = run l masks page w first second es m ≡ laid (last_of w (qs ++ tells es m rule)) (fresh-under (rule_after l masks page w first second es m rule))
 
-      run-laid : (es : List Event) (rule : Rule) (qs : List Pair) → length qs ≤ w → Runs es qs (laid qs (fresh-under rule)) rule
+      run-laid : (es : List Event) (rule : Rule) (qs : List (Pair ℕ)) → length qs ≤ w → Runs es qs (laid qs (fresh-under rule)) rule
       run-laid [] rule qs few = ap (λ rs. laid rs (fresh-under rule)) (sym (ap (last_of w) (append-nil qs) ∙ last-few w qs few))
       run-laid (comes g ∷ es) rule qs few = go (call l masks page w first second g m) (λ rs. run-laid es rule rs)
         where
           m : List ℕ
           m = laid qs (fresh-under rule)
 
-          go : (x : Added) → ((rs : List Pair) → length rs ≤ w → Runs es rs (laid rs (fresh-under rule)) rule)
+          go : (x : Added) → ((rs : List (Pair ℕ)) → length rs ≤ w → Runs es rs (laid rs (fresh-under rule)) rule)
               → run l masks page w first second es (window_after scale w m x)
               ≡ laid (last_of w (qs ++ (map (contributed_pair scale display rule) (pairs_in x) ++ tells es (window_after scale w m x) rule)))
               (fresh-under (rule_after l masks page w first second es (window_after scale w m x) rule))
           go (refused n) ih = ih qs few
           go (added p) ih =
-              let c : Pair = contributed_pair scale display rule p in
+              let c : Pair ℕ = contributed_pair scale display rule p in
               let e : window_after scale w m (added p) ≡ laid (last_of w (qs ++ (c ∷ []))) (fresh-under rule) =
               (λ i. accepted w (contributed_pair scale (laid-display w display lent qs rule i) (laid-rule w display lent qs rule i) p) m) ∙ accepted-laid w (fresh-under rule) qs few c in
               subst (λ n. run l masks page w first second es n ≡ laid (last_of w (qs ++ (c ∷ tells es n rule))) (fresh-under (rule_after l masks page w first second es n rule))) (sym e)
@@ -232,7 +232,7 @@ module _ (l masks : List ℕ) (page w first second : ℕ) where
 
 module _ (l masks : List ℕ) (page w first second display : ℕ) (lent : List ℕ) (es : List Event) (few : w ≤ 4096) (shown : display ≤ scale_at l first)
     (long : window_words w ≤ length lent) where
-  pairs : List Pair
+  pairs : List (Pair ℕ)
   pairs = told l masks page w first second display lent es
 
   rule : Rule
@@ -255,21 +255,21 @@ module _ (l masks : List ℕ) (page w first second display : ℕ) (lent : List �
   held = ap held_in words ∙ held-laid (last_of w pairs) start
 
   -- what a pair contributes to this window, and what it holds with it
-  contributes : (p : Pair) → contributed_pair (scale_at l first) (display_in end) (rule_in end) p ≡ contributed_pair (scale_at l first) display rule p
+  contributes : (p : Pair ℕ) → contributed_pair (scale_at l first) (display_in end) (rule_in end) p ≡ contributed_pair (scale_at l first) display rule p
   unfolding start
   contributes p =
       let shows : display_in end ≡ display = ap display_in words ∙ laid-display w display lent (last_of w pairs) rule in
       let rules : rule_in end ≡ rule = ap rule_in words ∙ laid-rule w display lent (last_of w pairs) rule in
       λ i. contributed_pair (scale_at l first) (shows i) (rules i) p
 
-  held_with : (p : Pair) → held_in (window_after (scale_at l first) w end (added p)) ≡ last_of w (pairs ++ (contributed_pair (scale_at l first) display rule p ∷ []))
+  held_with : (p : Pair ℕ) → held_in (window_after (scale_at l first) w end (added p)) ≡ last_of w (pairs ++ (contributed_pair (scale_at l first) display rule p ∷ []))
   unfolding accepted
   held_with p =
-      let c : Pair = contributed_pair (scale_at l first) display rule p in
+      let c : Pair ℕ = contributed_pair (scale_at l first) display rule p in
       ap (λ q. held_in (accepted w q end)) (contributes p) ∙ held-laid (last_of w (held_in end ++ (c ∷ []))) end
       ∙ ap (λ ps. last_of w (ps ++ (c ∷ []))) held ∙ last-last w pairs (c ∷ [])
 
-  returned : (half : List Pair → List ℕ) (g : Given) (p : Pair) → call l masks page w first second g end ≡ added p
+  returned : (half : List (Pair ℕ) → List ℕ) (g : Given) (p : Pair ℕ) → call l masks page w first second g end ≡ added p
       → sum_after half (scale_at l first) w end (call l masks page w first second g end) ≡ sum_of (half (last_of w (told_with l masks page w first second display lent es p)))
   unfolding pairs rule
   returned half g p e = ap (sum_after half (scale_at l first) w end) e ∙ ap (λ ps. sum_of (half ps)) (held_with p)
@@ -327,7 +327,7 @@ without-display l masks page w first second (e ∷ es) m rule =
     ap₂ (λ ps qs. ps ++ qs) (map-itself (brings l masks page w first second e m))
     (without-display l masks page w first second es (behind l masks page w first second e m) (rule_behind l masks page w first second e m rule))
   where
-    map-itself : (ps : List Pair) → map (contributed_pair (scale_at l first) 0 rule) ps ≡ ps
+    map-itself : (ps : List (Pair ℕ)) → map (contributed_pair (scale_at l first) 0 rule) ps ≡ ps
     map-itself [] = refl
     map-itself (p ∷ ps) = ap₂ (λ q qs. q ∷ qs) (pair-itself (scale_at l first) rule p) (map-itself ps)
 

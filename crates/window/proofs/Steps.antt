@@ -64,17 +64,17 @@ module _ (l : List ℕ) (i first second : ℕ) (j : Judging l i first second) (h
       ap (λ n. pairs_of n (drop (5 + i * 2) l)) e
       ∙ λ k. pair ((get_or-drop (5 + i * 2) l 0 0 ∙ ap (λ m. get_or l m 0) z) k) (get_or-drop (5 + i * 2) l 1 0 k) ∷ pairs_of (get_or l 0 0 - (i + 1)) ((drop-drop 2 (5 + i * 2) l ∙ ap (λ m. drop m l) t) k)
 
-  abbrev next : Pair
+  abbrev next : Pair ℕ
   next = pair (get_or l (5 + i * 2) 0) (get_or l (5 + i * 2 + 1) 0)
 
-  abbrev rest : List Pair
+  abbrev rest : List (Pair ℕ)
   rest = pairs_of (get_or l 0 0 - (i + 1)) (drop (5 + (i + 1) * 2) l)
 
-  module _ (p : Pair) (e : p ≡ next) where
+  module _ (p : Pair ℕ) (e : p ≡ next) where
     pub judging-stops : small_pair p ≡ false → all_small (held_in l) ≡ false
     judging-stops s = j.smalls ∙ ap all_small turn ∙ ap (λ q. small_pair q && all_small rest) (sym e) ∙ ap (λ b. b && all_small rest) s
 
-    pub judging-goes : small_pair p ≡ true → (q : Pair) → q ≡ pair_plus (pair first second) p → Judging l (i + 1) q.first q.second
+    pub judging-goes : small_pair p ≡ true → (q : Pair ℕ) → q ≡ pair_plus (pair first second) p → Judging l (i + 1) q.first q.second
     judging-goes s q u =
         let x : q.first ≡ (first + p.first) % 2 ^ 64 = ap (λ r. r.first) u in
         let y : q.second ≡ (second + p.second) % 2 ^ 64 = ap (λ r. r.second) u in
@@ -96,14 +96,14 @@ module _ (l : List ℕ) (i first second : ℕ) (j : Judging l i first second) (h
 
 -- ---- a pair more
 
-module _ (w : ℕ) (p : Pair) (l : List ℕ) (s : Pair) (u : s ≡ pair (get_or l 1 0) (get_or l 2 0)) where
-  pub push-grows : get_or l 0 0 < w → (m e : List ℕ) (t : Pair) → m ≡ put_at (5 + get_or l 0 0 * 2) p.first p.second l → t ≡ pair_plus s p
+module _ (w : ℕ) (p : Pair ℕ) (l : List ℕ) (s : Pair ℕ) (u : s ≡ pair (get_or l 1 0) (get_or l 2 0)) where
+  pub push-grows : get_or l 0 0 < w → (m e : List ℕ) (t : Pair ℕ) → m ≡ put_at (5 + get_or l 0 0 * 2) p.first p.second l → t ≡ pair_plus s p
       → e ≡ with_head (1 + get_or l 0 0) t.first t.second m → e ≡ pushed w p.first p.second l
   unfolding pushed
   push-grows h m e t x y z = rw (lt-ltb (get_or l 0 0) w h)
       (z ∙ λ i. with_head (1 + get_or l 0 0) ((y ∙ ap (λ r. pair_plus r p) u) i).first ((y ∙ ap (λ r. pair_plus r p) u) i).second (x i))
 
-  pub push-rolls : w ≤ get_or l 0 0 → (d m e : List ℕ) (o r t : Pair) → o ≡ pair (get_or l 5 0) (get_or l 6 0) → r ≡ pair_minus s o → d ≡ paste l 5 (drop 7 l) (5 + w * 2 - 7)
+  pub push-rolls : w ≤ get_or l 0 0 → (d m e : List ℕ) (o r t : Pair ℕ) → o ≡ pair (get_or l 5 0) (get_or l 6 0) → r ≡ pair_minus s o → d ≡ paste l 5 (drop 7 l) (5 + w * 2 - 7)
       → m ≡ put_at (5 + (w * 2 - 2)) p.first p.second d → t ≡ pair_plus r p → e ≡ with_head w t.first t.second m → e ≡ pushed w p.first p.second l
   unfolding pushed
   push-rolls h d m e o r t x y z a b c =

@@ -140,21 +140,21 @@ sums-exact xs s h few smalls = (
 
 -- ---- a lawful window's sums
 
-firsts-small : (ps : List Pair) → all_small ps ≡ true → AllSmall (firsts ps)
+firsts-small : (ps : List (Pair ℕ)) → all_small ps ≡ true → AllSmall (firsts ps)
 firsts-small [] h k b = absurd (omega arith)
 firsts-small (p ∷ ps) h zero b = and_left (small p.first) (small p.second) (and_left (small_pair p) (all_small ps) h)
 firsts-small (p ∷ ps) h (suc k) b = firsts-small ps (and_right (small_pair p) (all_small ps) h) k (omega arith)
 
-seconds-small : (ps : List Pair) → all_small ps ≡ true → AllSmall (seconds ps)
+seconds-small : (ps : List (Pair ℕ)) → all_small ps ≡ true → AllSmall (seconds ps)
 seconds-small [] h k b = absurd (omega arith)
 seconds-small (p ∷ ps) h zero b = and_right (small p.first) (small p.second) (and_left (small_pair p) (all_small ps) h)
 seconds-small (p ∷ ps) h (suc k) b = seconds-small ps (and_right (small_pair p) (all_small ps) h) k (omega arith)
 
-firsts-length : (ps : List Pair) → length (firsts ps) ≡ length ps
+firsts-length : (ps : List (Pair ℕ)) → length (firsts ps) ≡ length ps
 firsts-length [] = refl
 firsts-length (p ∷ ps) = ap suc (firsts-length ps)
 
-seconds-length : (ps : List Pair) → length (seconds ps) ≡ length ps
+seconds-length : (ps : List (Pair ℕ)) → length (seconds ps) ≡ length ps
 seconds-length [] = refl
 seconds-length (p ∷ ps) = ap suc (seconds-length ps)
 

@@ -4,7 +4,6 @@ use Rattle.codes.specs.declared.Refusal.{Refusal}
 use Rattle.layout.specs.Layout.{layout_asks}
 use Rattle.walks.specs.Records.{asking, first_of, Decoded, decode_record, items_of}
 use Rattle.walks.specs.Records as Records
-use Rattle.window.specs.declared.Sums.{Sums}
 use Rattle.window.specs.Window.{Pair, firsts, seconds, window_words, held_in, display_in, sum_of, small_pair, lawful_in, accepted, rule_in, contributed_pair}
 use Rattle.window.specs.Pair.{scale_at, pair_asks, pair_in}
 
@@ -19,7 +18,7 @@ abbrev pub lawful_asks : ℕ → ℕ → List ℕ → ℕ
 lawful_asks w scale window = cond (lawful_in w scale window) 0 24
 
 -- "19: a value is 10^12 or more in size"
-abbrev pub sizes_ask : Pair → ℕ
+abbrev pub sizes_ask : Pair ℕ → ℕ
 sizes_ask p = cond (small_pair p) 0 19
 
 -- 18 is "asked after the layout questions (1, 2, 3, 16) and before any record; then 16": with a display word, and so many words of window and of work space
@@ -46,10 +45,10 @@ pub record WindowWritten (asked number : ℕ) (written window window' : List ℕ
 -- the number that refuses it; or the pair that it gives
 pub data Added : Type 0 where
   refused : ℕ → Added
-  added : Pair → Added
+  added : Pair ℕ → Added
 
 -- question 19 of a pair
-abbrev pub judged : Pair → Added
+abbrev pub judged : Pair ℕ → Added
 judged p = asking refused (sizes_ask p) (added p)
 
 -- what the reader's outcome gives: 19 is "asked after the reader's own questions"
@@ -76,16 +75,16 @@ window_after scale w window (refused n) = window
 window_after scale w window (added p) = accepted w (contributed_pair scale (display_in window) (rule_in window) p) window
 
 -- "Accepting returns both sums", each of one half of what the window holds then; a refusal 0
-abbrev pub sum_after : (List Pair → List ℕ) → ℕ → ℕ → List ℕ → Added → ℤ
+abbrev pub sum_after : (List (Pair ℕ) → List ℕ) → ℕ → ℕ → List ℕ → Added → ℤ
 sum_after half scale w window (refused n) = pos 0
 sum_after half scale w window (added p) = sum_of (half (held_in (window_after scale w window (added p))))
 
 -- the two sums of a call's own answer: 0 after a refusal
-abbrev pub first_in : Result Sums Refusal → ℤ
+abbrev pub first_in : Result (Pair ℤ) Refusal → ℤ
 first_in (Ok s) = s.first
 first_in (Err e) = pos 0
 
-abbrev pub second_in : Result Sums Refusal → ℤ
+abbrev pub second_in : Result (Pair ℤ) Refusal → ℤ
 second_in (Ok s) = s.second
 second_in (Err e) = pos 0
 

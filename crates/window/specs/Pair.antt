@@ -54,5 +54,5 @@ unfoldable pub word_at : ℕ → List ℕ → ℕ
 word_at k ws = (head_of (values_from k (values ws 0 (item_count ws)))).a
 
 -- the pair that a list read by a layout gives: each entry's own item, by its place and never by its name
-unfoldable pub pair_in : List ℕ → ℕ → ℕ → List ℕ → Pair
+unfoldable pub pair_in : List ℕ → ℕ → ℕ → List ℕ → Pair ℕ
 pair_in l first second ws = pair (word_at (items_before (entries l) first) ws) (word_at (items_before (entries l) second) ws)

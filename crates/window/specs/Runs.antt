@@ -27,12 +27,12 @@ pub data Event : Type 0 where
   changeover : ℕ → Event
 
 -- the pair of an accepted record
-abbrev pub pairs_in : Added → List Pair
+abbrev pub pairs_in : Added → List (Pair ℕ)
 pairs_in (refused n) = []
 pairs_in (added p) = p ∷ []
 
 -- a window that is told, one behind the other, what the values contribute
-abbrev pub tell : ℕ → List Pair → List ℕ → List ℕ
+abbrev pub tell : ℕ → List (Pair ℕ) → List ℕ → List ℕ
 tell w [] window = window
 tell w (p ∷ ps) window = tell w ps (accepted w p window)
 
@@ -60,7 +60,7 @@ module _ (l masks : List ℕ) (page w first second : ℕ) where
   run (e ∷ es) window = run es (behind e window)
 
   -- the pair that an event brings, as it is read
-  abbrev pub brings : Event → List ℕ → List Pair
+  abbrev pub brings : Event → List ℕ → List (Pair ℕ)
   brings (comes g) window = pairs_in (call g window)
   brings (changeover work) window = []
 
@@ -74,11 +74,11 @@ module _ (l masks : List ℕ) (page w first second : ℕ) where
   rule_after (e ∷ es) window rule = rule_after es (behind e window) (rule_behind e window rule)
 
   -- what was accepted in a run, as it was read; and what it contributed, value by value under the rule that applied
-  abbrev pub accepted_in : List Event → List ℕ → List Pair
+  abbrev pub accepted_in : List Event → List ℕ → List (Pair ℕ)
   accepted_in [] window = []
   accepted_in (e ∷ es) window = brings e window ++ accepted_in es (behind e window)
 
-  abbrev pub told_in : ℕ → List Event → List ℕ → Rule → List Pair
+  abbrev pub told_in : ℕ → List Event → List ℕ → Rule → List (Pair ℕ)
   told_in display [] window rule = []
   told_in display (e ∷ es) window rule =
       map (contributed_pair (scale_at l first) display rule) (brings e window) ++ told_in display es (behind e window) (rule_behind e window rule)
@@ -90,7 +90,7 @@ module _ (l masks : List ℕ) (page w first second : ℕ) where
     abbrev pub ended : List ℕ
     ended = run es (started w display lent)
 
-    abbrev pub told : List Pair
+    abbrev pub told : List (Pair ℕ)
     told = told_in display es (started w display lent) cutting
 
     abbrev pub rule_now : Rule
@@ -100,7 +100,7 @@ module _ (l masks : List ℕ) (page w first second : ℕ) where
     fresh = under rule_now (started w display lent)
 
     -- told one pair more, as it is read
-    abbrev pub told_with : Pair → List Pair
+    abbrev pub told_with : Pair ℕ → List (Pair ℕ)
     told_with p = told ++ (contributed_pair (scale_at l first) display rule_now p ∷ [])
 
     pub record Kept : Type 0 where
@@ -109,7 +109,7 @@ module _ (l masks : List ℕ) (page w first second : ℕ) where
       pub held : held_in ended ≡ last_of w told
       pub first_sum : whole_of (slice_index ended 1) ≡ sum_of (firsts (last_of w told))
       pub second_sum : whole_of (slice_index ended 2) ≡ sum_of (seconds (last_of w told))
-      pub returned : (half : List Pair → List ℕ) (g : Given) (p : Pair) → call g ended ≡ added p
+      pub returned : (half : List (Pair ℕ) → List ℕ) (g : Given) (p : Pair ℕ) → call g ended ≡ added p
           → sum_after half (scale_at l first) w ended (call g ended) ≡ sum_of (half (last_of w (told_with p)))
       pub lawful : lawful_asks w (scale_at l first) ended ≡ 0
       pub asks : (work : ℕ) → asked work ended ≡ window_asks l masks page w first second 0 (length lent) work

@@ -22,10 +22,10 @@ abbrev pub word_minus : ℕ → ℕ → ℕ
 word_minus x y = (x + (2 ^ 64 - y % 2 ^ 64)) % 2 ^ 64
 
 -- a pair of sums with a pair more, and without one
-abbrev pub pair_plus : Pair → Pair → Pair
+abbrev pub pair_plus : Pair ℕ → Pair ℕ → Pair ℕ
 pair_plus p q = pair (word_plus p.first q.first) (word_plus p.second q.second)
 
-abbrev pub pair_minus : Pair → Pair → Pair
+abbrev pub pair_minus : Pair ℕ → Pair ℕ → Pair ℕ
 pair_minus p q = pair (word_minus p.first q.first) (word_minus p.second q.second)
 
 -- a pair more, behind the others

@@ -10,29 +10,29 @@ pub use Rattle.window.specs.declared.Pair.{Pair}
 abbrev pub window_words : ℕ → ℕ
 window_words w = 5 + w * 2
 
-abbrev pub pair : ℕ → ℕ → Pair
+abbrev pub pair : ℕ → ℕ → Pair ℕ
 pair a b = record { first = a; second = b }
 
-abbrev pub firsts : List Pair → List ℕ
+abbrev pub firsts : List (Pair ℕ) → List ℕ
 firsts [] = []
 firsts (p ∷ ps) = p.first ∷ firsts ps
 
-abbrev pub seconds : List Pair → List ℕ
+abbrev pub seconds : List (Pair ℕ) → List ℕ
 seconds [] = []
 seconds (p ∷ ps) = p.second ∷ seconds ps
 
 -- their words, one pair behind the other
-abbrev pub flat : List Pair → List ℕ
+abbrev pub flat : List (Pair ℕ) → List ℕ
 flat [] = []
 flat (p ∷ ps) = p.first ∷ p.second ∷ flat ps
 
 -- so many pairs from the front of words
-abbrev pub pairs_of : ℕ → List ℕ → List Pair
+abbrev pub pairs_of : ℕ → List ℕ → List (Pair ℕ)
 pairs_of zero l = []
 pairs_of (suc n) l = pair (slice_index l 0) (slice_index l 1) ∷ pairs_of n (drop 2 l)
 
 -- "the last W .., or .. all while there are fewer"
-abbrev pub last_of : ℕ → List Pair → List Pair
+abbrev pub last_of : ℕ → List (Pair ℕ) → List (Pair ℕ)
 last_of w ps = drop (length ps - w) ps
 
 -- a sum of words, as a word
@@ -52,7 +52,7 @@ sum_of [] = pos 0
 sum_of (x ∷ xs) = whole_of x +ℤ sum_of xs
 
 -- what a window holds
-abbrev pub held_in : List ℕ → List Pair
+abbrev pub held_in : List ℕ → List (Pair ℕ)
 held_in l = pairs_of (slice_index l 0) (drop 5 l)
 
 -- its display word: 0 without a display scale, else that scale plus 1
@@ -60,17 +60,17 @@ abbrev pub display_in : List ℕ → ℕ
 display_in l = slice_index l 3
 
 -- These pairs laid into a window: count, both sums, the two words behind them as they were, the pairs; what stands behind the pairs stays.
-unfoldable pub laid : List Pair → List ℕ → List ℕ
+unfoldable pub laid : List (Pair ℕ) → List ℕ → List ℕ
 laid ps l = length ps ∷ sum_in (firsts ps) ∷ sum_in (seconds ps) ∷ display_in l ∷ slice_index l 4 ∷ (flat ps ++ drop (window_words (length ps)) l)
 
 -- not "10^12 or more in size"; a word is below 2^64
 abbrev pub small : ℕ → Bool
 small x = nat_lt x (2 ^ 64) && nat_lt (size_in x) (10 ^ 12)
 
-abbrev pub small_pair : Pair → Bool
+abbrev pub small_pair : Pair ℕ → Bool
 small_pair p = small p.first && small p.second
 
-abbrev pub all_small : List Pair → Bool
+abbrev pub all_small : List (Pair ℕ) → Bool
 all_small [] = true
 all_small (p ∷ ps) = small_pair p && all_small ps
 
@@ -95,7 +95,7 @@ unfoldable pub changed : List ℕ → List ℕ
 changed l = slice_set l 4 1
 
 -- What an accepted pair makes of a window: the last W of what it holds and the pair.
-unfoldable pub accepted : ℕ → Pair → List ℕ → List ℕ
+unfoldable pub accepted : ℕ → Pair ℕ → List ℕ → List ℕ
 accepted w p l = laid (last_of w (held_in l ++ (p ∷ []))) l
 
 -- ---- what a value contributes
@@ -123,5 +123,5 @@ rule_in l = rule_of (slice_index l 4 == 1)
 unfoldable pub contributed : ℕ → ℕ → Rule → ℕ → ℕ
 contributed scale display rule x = cond (display == 0) x (word_of (minus_in x) (ruled rule (size_in x) (10 ^ (scale - (display - 1)))))
 
-abbrev pub contributed_pair : ℕ → ℕ → Rule → Pair → Pair
+abbrev pub contributed_pair : ℕ → ℕ → Rule → Pair ℕ → Pair ℕ
 contributed_pair scale display rule p = pair (contributed scale display rule p.first) (contributed scale display rule p.second)

@@ -33,18 +33,11 @@ const RULE: usize = 4;
 
 const PAIRS: usize = 5;
 
-// The two numbers that one record gives, as words.
+// The two numbers that one record gives, as words; or both sums of a window, as numbers.
 #[derive(Clone, Copy)]
-pub struct Pair {
-    pub first: u64,
-    pub second: u64,
-}
-
-// Both sums of a window.
-#[derive(Clone, Copy)]
-pub struct Sums {
-    pub first: i64,
-    pub second: i64,
+pub struct Pair<T> {
+    pub first: T,
+    pub second: T,
 }
 
 // What a window is lent for: a layout, how many pairs it holds at most, and its two entries by their numbers.
@@ -121,7 +114,7 @@ fn is_small(x: u64) -> bool
     size_of(x) < 1000000000000
 }
 
-impl Pair {
+impl Pair<u64> {
     fn is_small(self) -> bool
         ensures { result ≡ small_pair self }
     {
@@ -129,7 +122,7 @@ impl Pair {
     }
 
     // The sums of the words of either half.
-    fn plus(self, more: Pair) -> Pair
+    fn plus(self, more: Pair<u64>) -> Pair<u64>
         ensures { result ≡ pair_plus self more }
     {
         Pair {
@@ -139,7 +132,7 @@ impl Pair {
     }
 
     // The words of either half without those of a pair.
-    fn minus(self, less: Pair) -> Pair
+    fn minus(self, less: Pair<u64>) -> Pair<u64>
         ensures { result ≡ pair_minus self less }
     {
         Pair {
@@ -149,7 +142,7 @@ impl Pair {
     }
 
     // What a pair contributes to a window.
-    fn contribution(self, scale: u64, display: u64, passed: bool) -> Pair
+    fn contribution(self, scale: u64, display: u64, passed: bool) -> Pair<u64>
         requires { display ≤ scale }
         ensures { result ≡ contributed_pair scale display (rule_of passed) self }
     {
@@ -161,7 +154,7 @@ impl Pair {
 }
 
 // The words of a pair that stand at a place.
-fn pair_at(window: &[u64], at: usize) -> Pair
+fn pair_at(window: &[u64], at: usize) -> Pair<u64>
     requires { 2 + at ≤ length window.now }
     ensures { result ≡ pair (slice_index window.now at) (slice_index window.now (at + 1)) }
 {
@@ -203,7 +196,7 @@ fn is_lawful(window: &[u64], w: usize, scale: u64) -> bool
 }
 
 // The front three words: the count and the sums.
-fn put_head(window: &mut [u64], count: u64, sums: Pair)
+fn put_head(window: &mut [u64], count: u64, sums: Pair<u64>)
     requires { 3 ≤ length window.old }
     ensures { window.new ≡ with_head count sums.first sums.second window.old }
 {
@@ -214,7 +207,7 @@ fn put_head(window: &mut [u64], count: u64, sums: Pair)
 
 // A pair at a place.
 #[tactic(auto, using(crate::proofs::Steps::pair_put))]
-fn put_pair(window: &mut [u64], at: usize, pair: Pair)
+fn put_pair(window: &mut [u64], at: usize, pair: Pair<u64>)
     requires { 2 + at ≤ length window.old }
     ensures { window.new ≡ put_at at pair.first pair.second window.old }
 {
@@ -223,7 +216,7 @@ fn put_pair(window: &mut [u64], at: usize, pair: Pair)
 }
 
 // One accepted pair: behind the others while there are fewer than W, else the oldest goes and the others move one place down.
-fn push(window: &mut [u64], w: usize, pair: Pair)
+fn push(window: &mut [u64], w: usize, pair: Pair<u64>)
     requires { (0 < w) × (window_words w ≤ length window.old) }
     ensures { window.new ≡ pushed w pair.first pair.second window.old }
 {
@@ -272,7 +265,12 @@ fn contribution(scale: u64, display: u64, passed: bool, x: u64) -> u64
 }
 
 // Question 19 of a pair, and what it contributes into a lawful window.
-fn take_pair(window: &mut [u64], w: usize, scale: u64, pair: Pair) -> Result<Sums, Refusal>
+fn take_pair(
+    window: &mut [u64],
+    w: usize,
+    scale: u64,
+    pair: Pair<u64>,
+) -> Result<Pair<i64>, Refusal>
     requires { (0 < w) × ((w ≤ 4096) × ((window_words w ≤ length window.old) × (lawful_in w scale window.old ≡ true))) }
     ensures { PairTaken pair scale w (number_in result) (first_in result) (second_in result) window.old window.new }
 {
@@ -282,7 +280,7 @@ fn take_pair(window: &mut [u64], w: usize, scale: u64, pair: Pair) -> Result<Sum
     let display = window[DISPLAY];
     let passed = window[RULE] == 1;
     push(window, w, pair.contribution(scale, display, passed));
-    Ok(Sums {
+    Ok(Pair {
         first: window[FIRST_SUM].cast_signed(),
         second: window[SECOND_SUM].cast_signed(),
     })
@@ -291,6 +289,7 @@ fn take_pair(window: &mut [u64], w: usize, scale: u64, pair: Pair) -> Result<Sum
 // ---- a window's setting: its questions, and a record's pair
 
 // The word of the k-th item of the top level of a list; 0 where there is none.
+// Kept: the definition gives this number, which is a word of the Null that `fetch` hands out there, and `pair_in` takes it as a number.
 #[tactic(auto, unfolding(crate::specs::Pair::word_at))]
 fn word_at(list: &ValueList, k: usize) -> u64
     ensures { result ≡ word_at k list.now.items.now }
@@ -371,7 +370,7 @@ impl<'a> Setting<'a> {
 
     // The pair of a list that was read: each entry's own item, by its place.
     #[tactic(auto, unfolding(crate::specs::Pair::pair_in))]
-    fn pair_in(&self, list: &ValueList) -> Pair
+    fn pair_in(&self, list: &ValueList) -> Pair<u64>
         ensures { result ≡ pair_in self.now.layout.words.now self.now.first self.now.second list.now.items.now }
     {
         Pair {
@@ -387,7 +386,7 @@ impl<'a> Setting<'a> {
         items: &mut [u64],
         text: &mut [u8],
         counts: &mut [i64],
-    ) -> Result<Pair, Refusal>
+    ) -> Result<Pair<u64>, Refusal>
         ensures { PairRead (read_into self.now.layout.words.now self.now.layout.masks.now self.now.layout.page «record».now items.old text.old counts.old)
             self.now.layout.words.now self.now.first self.now.second (number_in result) (pair_given result)
             items.old items.new text.old text.new counts.old counts.new }
@@ -397,8 +396,7 @@ impl<'a> Setting<'a> {
             items: &items[..read.items],
             text: &text[..read.text],
         });
-        items.fill(0);
-        text.fill(0);
+        items::clear(items, text);
         Ok(pair)
     }
 }
@@ -449,7 +447,7 @@ pub fn window_add(
     items: &mut [u64],
     text: &mut [u8],
     counts: &mut [i64],
-) -> Result<Sums, Refusal>
+) -> Result<Pair<i64>, Refusal>
     ensures { WindowAdded
         (added_to setting.now.layout.words.now setting.now.layout.masks.now setting.now.layout.page «record».now
         setting.now.w setting.now.first setting.now.second window.old items.old text.old counts.old)
@@ -457,8 +455,7 @@ pub fn window_add(
         window.old window.new items.old items.new text.old text.new counts.old counts.new }
 {
     if let Err(refusal) = setting.ask_before(window, counts.len()) {
-        items.fill(0);
-        text.fill(0);
+        items::clear(items, text);
         counts.fill(0);
         return Err(refusal);
     }

@@ -1,13 +1,15 @@
 -- How a reader of bytes on a page finds out from the left what a zoned field answers, whatever the answer and its limit: the laws of a field, at zoned bytes.
 use mathlib.Core.Path.{◌≡◌, refl, sym, ap, ◌∙◌}
 use mathlib.Core.List.{List, [], ◌∷◌, map}
-use mathlib.Core.Bool.{Bool}
+use mathlib.Core.Bool.{Bool, true, false, cond}
+use lib.Dec.{ltb}
 use Prim.Native.Nat.{ℕ, ◌+◌, ◌-◌, ◌*◌, ◌<◌, ◌≤◌, min}
 use native.Mathlib.Omega.{arith}
 use lib.ListN.{length, get_or, length-map}
-use borrow.Author.Tests.{le-ltb}
+use borrow.Author.Tests.{le-ltb, ltb-true, ltb-false}
 use Rattle.lists.proofs.Lists.{get_d_map}
 use Rattle.ebcdic.specs.Ebcdic.{from_page}
+use Rattle.value.specs.Answer.{Answer, refused, given}
 use Rattle.value.specs.Number.{read_in, unlawful}
 use Rattle.value.specs.Digits.{limit}
 use Rattle.value.specs.Field.{last_of}
@@ -15,6 +17,24 @@ use Rattle.value.proofs.Answers.{Numbered, numbered-in}
 use Rattle.value.proofs.Field as Field
 use Rattle.value.proofs.Field.{Read, read_one}
 use Rattle.zoned.specs.Zoned.{zone, digit_of, last_digit, minus, any_sign, zoned_by, decode_of}
+
+-- what the digit of a byte answers: itself, below 10, or 8
+abbrev Told : ℕ → Answer ℕ → Type 0
+Told d a = a ≡ cond (ltb d 10) (given d) (refused 8)
+
+pub told-digit : (d x : ℕ) → Told d (given x) → (x ≡ d) × (x < 10)
+told-digit d x e = go (ltb d 10) refl e
+  where
+    go : (b : Bool) → ltb d 10 ≡ b → given x ≡ cond b (given d) (refused 8) → (x ≡ d) × (x < 10)
+    go true t e = let same : x ≡ d = cc in (same, rw same (ltb-true d 10 t))
+    go false t e = cc
+
+pub told-none : (d n : ℕ) → Told d (refused n) → (n ≡ 8) × (10 ≤ d)
+told-none d n e = go (ltb d 10) refl e
+  where
+    go : (b : Bool) → ltb d 10 ≡ b → refused n ≡ cond b (given d) (refused 8) → (n ≡ 8) × (10 ≤ d)
+    go true t e = cc
+    go false t e = (cc, ltb-false d 10 t)
 
 module _ (page : ℕ) (part : List ℕ) where
   abbrev ascii : List ℕ

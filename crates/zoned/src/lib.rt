@@ -2,9 +2,9 @@
 
 #![tactic(auto)]
 
-ghost use Rattle.std.specs.Prelude.{◌≡◌, Bool, cond, List, [], ◌∷◌, ◌++◌, map, ℕ, ◌+◌, ◌<◌, ◌≤◌, length};
+ghost use Rattle.std.specs.Prelude.{◌≡◌, cond, map, ◌+◌, ◌<◌, ltb, length};
 ghost use Rattle.codes.specs.Refusals.{number_in};
-ghost use Rattle.value.specs.Answer.{answered};
+ghost use Rattle.value.specs.Answer.{refused, given, answered};
 ghost use Rattle.value.specs.Number.{read_in, unlawful};
 ghost use Rattle.ebcdic.specs.Ebcdic.{from_page, onto_page};
 ghost use Rattle.zoned.specs.Zoned.{zoned_by, decode_of, digit_of, last_digit, minus, overpunch, encoded_of, fits_of};
@@ -12,23 +12,26 @@ ghost use Rattle.zoned.specs.Zoned.{zoned_by, decode_of, digit_of, last_digit, m
 use codes::Refusal;
 use value::Whole;
 
-// The digit of a byte, or 10 or more.
-fn digit(b: u8) -> u8
-    ensures { result ≡ digit_of b }
-{
-    if b < b'0' { 10 } else { b - b'0' }
-}
-
-// The digit of an overpunched last byte, or 10 or more.
-fn decode_overpunch(b: u8) -> u8
-    ensures { result ≡ last_digit b }
+// The digit of a byte.
+fn digit(b: u8) -> Result<u8, Refusal>
+    ensures { answered result ≡ cond (ltb (digit_of b) 10) (given (digit_of b)) (refused 8) }
 {
     match b {
-        b'0'..=b'9' => b - b'0',
-        b'A'..=b'I' => b - 0x40,
-        b'J'..=b'R' => b - 0x49,
-        b'{' | b'}' => 0,
-        _ => 10,
+        b'0'..=b'9' => Ok(b - b'0'),
+        _ => Err(Refusal::UnlawfulBytes),
+    }
+}
+
+// The digit of an overpunched last byte.
+fn decode_overpunch(b: u8) -> Result<u8, Refusal>
+    ensures { answered result ≡ cond (ltb (last_digit b) 10) (given (last_digit b)) (refused 8) }
+{
+    match b {
+        b'0'..=b'9' => Ok(b - b'0'),
+        b'A'..=b'I' => Ok(b - 0x40),
+        b'J'..=b'R' => Ok(b - 0x49),
+        b'{' | b'}' => Ok(0),
+        _ => Err(Refusal::UnlawfulBytes),
     }
 }
 
@@ -47,17 +50,11 @@ pub fn decode_within(part: &[u8], page: u32, bound: u64) -> Result<Whole, Refusa
     };
     let mut size: u64 = 0;
     for b in front {
-        let d = digit(ebcdic::from_page(page, *b));
-        if d >= 10 {
-            return Err(Refusal::UnlawfulBytes);
-        }
+        let d = digit(ebcdic::from_page(page, *b))?;
         size = value::push_digit(size, d, bound);
     }
     let z = ebcdic::from_page(page, *last);
-    let units = decode_overpunch(z);
-    if units >= 10 {
-        return Err(Refusal::UnlawfulBytes);
-    }
+    let units = decode_overpunch(z)?;
     let total = value::push_digit(size, units, bound);
     value::number_in(bound, is_minus(z), total)
 }
@@ -70,6 +67,7 @@ pub fn decode(part: &[u8], page: u32) -> Result<Whole, Refusal>
 }
 
 // A digit with a sign over it.
+// Kept: a digit is a byte below 10, here and in `last_byte`; `encode` makes and uses it in one line, so that a type with the bound would be taken apart at once.
 fn encode_overpunch(d: u8, negative: bool) -> u8
     requires { d < 10 }
     ensures { result ≡ overpunch d negative }

@@ -9,7 +9,7 @@ use Rattle.convert.proofs.rewrite.Goals as goal
 pub returns-in-Err : goal.returns-in-Err
 returns-in-Err c =
     let a = c.args in
-    not_written _ _ _ _ _ _ a.back_items.now a.back_text.now _ _ _ _ _ c.in-Err.ensures (some_number c.in-Err.refusal) _ _ c.clear_list.ensures
+    not_written _ _ _ _ _ _ a.back_items.now a.back_text.now _ _ _ _ _ c.in-Err.ensures (some_number c.in-Err.refusal) _ _ (c.clear.ensures.items_after, c.clear.ensures.text_after)
 
 pub returns-in-Ok-judge_back : goal.returns-in-Ok-judge_back
 returns-in-Ok-judge_back c =

@@ -42,7 +42,7 @@ returns-in-Err-clause-round_trip c =
     let v = a.list.now in
     let n = length a.record.now in
     let w = length a.counts.now in
-    (refused_all l.words.now l.masks.now l.page v.items.now v.text.now a.behind.now n w a.record.now a.back.now a.said.now a.counts.now refl refl _ _ c.in-Err.ensures c.clear.ensures.back_after c.clear.ensures.said_after).0
+    (refused_all l.words.now l.masks.now l.page v.items.now v.text.now a.behind.now n w a.record.now a.back.now a.said.now a.counts.now refl refl _ _ c.in-Err.ensures c.clear.ensures.items_after c.clear.ensures.text_after).0
 
 pub returns-in-Err-clause-returns : goal.returns-in-Err-clause-returns
 returns-in-Err-clause-returns c =
@@ -51,4 +51,4 @@ returns-in-Err-clause-returns c =
     let v = a.list.now in
     let n = length a.record.now in
     let w = length a.counts.now in
-    (refused_all l.words.now l.masks.now l.page v.items.now v.text.now a.behind.now n w a.record.now a.back.now a.said.now a.counts.now refl refl _ _ c.in-Err.ensures c.clear.ensures.back_after c.clear.ensures.said_after).1
+    (refused_all l.words.now l.masks.now l.page v.items.now v.text.now a.behind.now n w a.record.now a.back.now a.said.now a.counts.now refl refl _ _ c.in-Err.ensures c.clear.ensures.items_after c.clear.ensures.text_after).1

@@ -21,12 +21,12 @@ returns-then-scale-eq0 c =
     }
 
 pub nonzero_div-size : goal.nonzero_div-size
-nonzero_div-size c = ten-pos c.args.scale _ c.requires.1 c.ten_to-p.ensures
+nonzero_div-size c = ten-pos c.args.scale _ c.requires c.ten_to-p.ensures
 
 pub put_whole-point-requires : goal.put_whole-point-requires
 put_whole-point-requires c =
     let a = c.args in
-    omega (arith, minus-short a.negative a.size _ c.put_minus-at.ensures.value, c.put_minus-at.auto.out)
+    omega (arith, minus-short a.negative a.size _ c.put_minus-at.ensures.value)
 
 pub put_fraction-requires : goal.put_fraction-requires
 put_fraction-requires c =
@@ -36,7 +36,7 @@ put_fraction-requires c =
     let at-ten-to = c.ten_to-p in
     let at-put-whole = c.put_whole-point in
     let a = at-args in
-    omega (arith, minus-short a.negative a.size _ at-put-minus.ensures.value, at-put-minus.auto.out, at-put-whole.auto.out, at-put-whole.ensures.value, parts-short a.size a.scale at-ten-to.result (omega arith) at_pre.1 at-ten-to.ensures)
+    omega (arith, minus-short a.negative a.size _ at-put-minus.ensures.value, at-put-whole.auto.out, at-put-whole.ensures.value, parts-short a.size a.scale at-ten-to.result (omega arith) at_pre at-ten-to.ensures)
 
 pub returns : goal.returns
 returns c =
@@ -54,10 +54,10 @@ returns c =
     let at = at-put-minus.result in
     let point = at-put-whole.result in
     let b : at ≤ 1 = minus-short a.negative a.size at at-put-minus.ensures.value in
-    let k : length w + a.scale ≤ 20 = parts-short a.size a.scale at-ten-to.result (omega arith) at_pre.1 at-ten-to.ensures in
+    let k : length w + a.scale ≤ 20 = parts-short a.size a.scale at-ten-to.result (omega arith) at_pre at-ten-to.ensures in
     let l : point ≡ length (m ++ w) = length_more m w at point at-put-minus.ensures.value at-put-whole.ensures.value in
     let g : length f ≡ a.scale = length-digit_text a.scale a.size in
-    let e = decimal-parts a.negative a.size a.scale at-ten-to.result at-if1.false at_pre.1 at-ten-to.ensures in record {
+    let e = decimal-parts a.negative a.size a.scale at-ten-to.result at-if1.false at_pre at-ten-to.ensures in record {
       value = (length_more (m ++ w) (46 ∷ f) point at-put-fraction.result l at-put-fraction.ensures.value ∙ ap length e, omega (arith, at-put-whole.ensures.value, at-put-fraction.ensures.value));
       out_after = front-more (m ++ w) (46 ∷ f) a.out.now at-put-whole.new.out at-put-fraction.new.out point l
           (front-more m w a.out.now at-put-minus.new.out at-put-whole.new.out at at-put-minus.ensures.value at-put-minus.ensures.out_after at-put-whole.ensures.out_after)

@@ -8,7 +8,7 @@ use Rattle.text.proofs.show_int.Goals as goal
 pub put_whole-requires : goal.put_whole-requires
 put_whole-requires c =
     let a = c.args in
-    omega (arith, minus-short a.negative a.size _ c.put_minus-at.ensures.value, c.put_minus-at.auto.out)
+    omega (arith, minus-short a.negative a.size _ c.put_minus-at.ensures.value)
 
 pub returns : goal.returns
 returns c =

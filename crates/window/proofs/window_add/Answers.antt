@@ -1,15 +1,15 @@
 -- Three ways: refused before the record is read, by the reader, or judged; each is a law of Parts from its callees' contracts.
 use Rattle.std.proofs.Common.{◌≡◌, true, sym, refl, subst}
-use Rattle.codes.proofs.Refusals.{some_number}
+use Rattle.codes.proofs.Refusals.{passed-on, some_number}
 use Rattle.window.specs.Window.{lawful_in}
 use Rattle.window.proofs.Asked.{asked-lawful, asks-few, asks-long}
-use Rattle.window.proofs.Parts.{passed-on, add-refused, add-unread, add-judged}
+use Rattle.window.proofs.Parts.{add-refused, add-unread, add-judged}
 use Rattle.window.proofs.window_add.Goals as goal
 
 pub returns-in-Err : goal.returns-in-Err
 returns-in-Err c =
-    add-refused _ _ _ _ _ _ _ _ _ _ _ _ _ _ (refl, refl) c.in-Err.ensures (some_number c.in-Err.refusal) _ _ _ (c.fill.ensures.after (λ y e. e))
-    (c.fill-in-Err.ensures.after (λ y e. e)) (c.fill-in-Err-2.ensures.after (λ y e. e))
+    add-refused _ _ _ _ _ _ _ _ _ _ _ _ _ _ (refl, refl) c.in-Err.ensures (some_number c.in-Err.refusal) _ _ _ c.clear.ensures.items_after
+    c.clear.ensures.text_after (c.fill.ensures.after (λ y e. e))
 
 pub returns-in_err-pair : goal.returns-in_err-pair
 returns-in_err-pair c =

@@ -1,5 +1,6 @@
 -- What the reader leaves where it refuses (`pair_refused`), and what is taken out of its list (`pair_taken`).
-use Rattle.window.proofs.Parts.{passed-on, pair_refused}
+use Rattle.codes.proofs.Refusals.{passed-on}
+use Rattle.window.proofs.Parts.{pair_refused}
 use Rattle.window.proofs.Setting.read_pair.Goals as goal
 
 pub returns-in_err-read : goal.returns-in_err-read

@@ -128,7 +128,7 @@ fn same_item(t: &[u8], u: &[u8], x: Item, y: Item) -> bool
 }
 
 // Whether two sequences are the same, names and members too: i..to of one list, j..end of the other. A call goes one level down, so that the depth is the list's.
-// The step is a span, so no `for`.
+// Kept: no `for`, since it needs where each item ends.
 fn same_all(old: &ValueList, i: usize, to: usize, new: &ValueList, j: usize, end: usize) -> bool
     ensures { result ≡ same_all old.now.text.now new.now.text.now (values old.now.items.now i to) (values new.now.items.now j end) }
 {
@@ -185,7 +185,8 @@ fn same_value(old: &ValueList, i: usize, to: usize, new: &ValueList, j: usize, e
     )
 }
 
-// Whether every item of the second list is the same as the first of its name in the first list. The step is a span, so no `for`.
+// Whether every item of the second list is the same as the first of its name in the first list.
+// Kept: no `for`, since an item is compared with its members.
 fn all_kept(old: &ValueList, new: &ValueList) -> bool
     ensures { result ≡ all_kept old.now.text.now new.now.text.now (listed old.now.items.now) (listed new.now.items.now) }
 {

@@ -31,7 +31,8 @@ pub struct Reading {
     pub text: usize,
 }
 
-// The entries lo up to hi, one after the other, from a base on. The step is a span, so no `for`.
+// The entries lo up to hi, one after the other, from a base on.
+// Kept: no `for`, since it needs where each entry ends.
 // Kept: places one by one, as each call moves some of them.
 #[cycle(decode_field_decode_one_decode_seq)]
 fn decode_seq(

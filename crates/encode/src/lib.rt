@@ -83,8 +83,8 @@ fn is_lone_leaf(e: Entry) -> bool
     e.is_unrepeated_leaf() && e.span <= 1
 }
 
-// The entries lo up to hi, one after the other, from a base on, by the items from..to. A scalar or Pad that is no table is written at once. The
-// step is a span, so no `for`.
+// The entries lo up to hi, one after the other, from a base on, by the items from..to. A scalar or Pad that is no table is written at once.
+// Kept: no `for`, since it needs where each entry ends.
 // Kept: places one by one, as each call moves some of them.
 #[cycle(encode_field_encode_one_encode_seq)]
 fn encode_seq(

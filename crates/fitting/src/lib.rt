@@ -135,7 +135,8 @@ fn is_table(
 
 // ---- the walk
 
-// The entries lo up to hi and the items from..to, one after the other. The step is a span, so no `for`.
+// The entries lo up to hi and the items from..to, one after the other.
+// Kept: no `for`, since it needs where each entry ends.
 // Kept: places one by one, as each call moves some of them.
 #[cycle(fit_field_fit_one_fit_seq)]
 fn fit_seq(
@@ -165,8 +166,8 @@ fn fit_seq(
     if j < to { None } else { Some(at) }
 }
 
-// An entry whose members are the entries lo up to hi, by the first of the items j..to: one element, or the elements of a table. The step is a
-// span, so no `for`.
+// An entry whose members are the entries lo up to hi, by the first of the items j..to: one element, or the elements of a table.
+// Kept: no `for`, since it needs where each item ends.
 // Kept: places one by one, as each call moves some of them.
 #[cycle(fit_field_fit_one_fit_seq)]
 fn fit_field(

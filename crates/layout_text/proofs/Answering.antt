@@ -1,22 +1,20 @@
 -- What the reader of a line answers, by what was found behind its word: as `line_by`, `number_line` and `option_line` say.
-use mathlib.Core.Path.{◌≡◌, refl, sym, ap}
-use mathlib.Core.Bool.{Bool, true, false, ◌&&◌, cond}
-use mathlib.Core.List.{List, [], ◌∷◌}
-use Prim.Native.Nat.{ℕ, ◌-◌, ◌≤◌}
+use mathlib.Core.Path.{◌≡◌, refl, ap, ◌∙◌}
+use mathlib.Core.Bool.{Bool, true, false, ◌&&◌, ◌||◌, cond}
+use mathlib.Core.List.{List}
+use Prim.Native.Nat.{ℕ, ◌-◌}
 use native.Mathlib.Omega.{arith}
-use native.Mathlib.Nat.{suc-ne-zero}
-use lib.Dec.{eqb, ltb}
-use lib.ListN.{length, drop, length-drop}
-use lib.Seq.{length-take-le}
-use borrow.Author.Tests.{eqb-true, eqb-false}
+use lib.Dec.{ltb}
+use lib.ListN.{take, drop}
 use Rattle.lists.specs.Scan.{every_by}
 use Rattle.value.specs.Digits.{is_digit}
 use Rattle.codes.specs.Codes.{absent}
-use Rattle.value.specs.Answer.{refused, given}
+use Rattle.value.specs.Answer.{Answer, refused, given}
 use Rattle.lines.specs.declared.Found.{Found}
-use Rattle.lines.specs.Lines.{place, value_at, leads, spelled, number_of}
-use Rattle.layout_text.specs.Form.{is_none, is_value, is_number, optional}
-use Rattle.layout_text.specs.Walk.{bytes_of, line_by, number_line, option_line}
+use Rattle.lines.specs.Lines.{Place, place, value_at, leads, spelled, number_of}
+use Rattle.layout_text.specs.Form.{is_none, is_value, worth, is_number, optional}
+use Rattle.layout_text.specs.Reading.{or_absent}
+use Rattle.layout_text.specs.Walk.{bytes_of, passed_by, line_by, with_next, read_by, number_by, numbered, option_of, number_line, option_line}
 
 -- a number is refused by 17
 number_of-17 : (s : List ℕ) (q : ℕ) → refused q ≡ number_of s → q ≡ 17
@@ -32,11 +30,9 @@ module _ (word text : List ℕ) (at : ℕ) where
   unfolding line_by
   by_refused test q e = rw (← e) refl
 
-  pub number_refused : (q : ℕ) → refused q ≡ value_at word text at → refused q ≡ number_line word text at
-  number_refused q e = rw (← by_refused is_number q e) refl
-
-  pub option_refused : (q : ℕ) → refused q ≡ value_at word text at → refused q ≡ option_line word text at
-  option_refused q e = rw (← by_refused (optional is_number) q e) refl
+  pub read_refused : (reads : List ℕ → Answer ℕ) (q : ℕ) → refused q ≡ value_at word text at → refused q ≡ number_by reads word text at
+  unfolding number_by
+  read_refused reads q e = rw (← e) refl
 
   module _ (f : Found) (e : given (place f.start f.end f.next) ≡ value_at word text at) where
     pub by_passed : (test : List ℕ → Bool) → test (bytes_of text f) ≡ true → given f ≡ line_by test word text at
@@ -47,44 +43,40 @@ module _ (word text : List ℕ) (at : ℕ) where
     unfolding line_by
     by_failed test t = rw (← e, t) refl
 
-    pub number_found : (v : ℕ) → given v ≡ number_of (bytes_of text f) → given (record { value = v; next = f.next }) ≡ number_line word text at
-    number_found v q = rw (← by_passed is_number (ap is_value (sym q)), ← q) refl
+    pub read_found : (reads : List ℕ → Answer ℕ) (v : ℕ) → given v ≡ reads (bytes_of text f) → given (record { value = v; next = f.next }) ≡ number_by reads word text at
+    unfolding number_by
+    read_found reads v q = rw (← e, ← q) refl
 
-    pub number_failed : (q : ℕ) → refused q ≡ number_of (bytes_of text f) → refused q ≡ number_line word text at
-    number_failed q r = rw (← by_failed is_number (ap is_value (sym r)), number_of-17 (bytes_of text f) q r) refl
+    pub read_failed : (reads : List ℕ → Answer ℕ) (q : ℕ) → refused q ≡ reads (bytes_of text f) → refused q ≡ number_by reads word text at
+    unfolding number_by
+    read_failed reads q r = rw (← e, ← r) refl
 
-    module _ (a : f.start ≤ f.end) (b : f.end ≤ length text) where
-      long : length (bytes_of text f) ≡ f.end - f.start
-      long =
-          let d : length (drop f.start text) ≡ length text - f.start = length-drop f.start text in
-          length-take-le (f.end - f.start) (drop f.start text) (omega arith)
+  -- a value that a reader reads is one that a test passes, with its number
+  same : (reads : List ℕ → Answer ℕ) (test : List ℕ → Bool) (value : List ℕ → ℕ) (p : Answer Place)
+      → ((s : List ℕ) (n : ℕ) → with_next n (reads s) ≡ cond (test s) (given (record { value = value s; next = n })) (refused 17))
+      → read_by reads text p ≡ numbered (λ f. value (bytes_of text f)) (passed_by test text p)
+  same reads test value (refused q) h = refl
+  same reads test value (given (place a e n)) h = h (take (e - a) (drop a text)) n ∙ by (test (take (e - a) (drop a text)))
+    where
+      by : (t : Bool) → cond t (given (record { value = value (take (e - a) (drop a text)); next = n })) (refused 17)
+          ≡ numbered (λ f. value (bytes_of text f)) (cond t (given (record { start = a; end = e; next = n })) (refused 17))
+      by true = refl
+      by false = refl
 
-      none : (s : List ℕ) → length s ≡ 0 → is_none s ≡ true
-      none [] h = refl
-      none (x ∷ s) h = absurd (suc-ne-zero (length s) h)
+  -- the same of one value
+  one : (s : List ℕ) (n : ℕ) (r : Answer ℕ) → r ≡ number_of s → with_next n r ≡ cond (is_value r) (given (record { value = worth r; next = n })) (refused 17)
+  one s n (given v) e = refl
+  one s n (refused q) e = ap refused (number_of-17 s q e)
 
-      some : (s : List ℕ) → (length s ≡ 0 → ⊥) → is_none s ≡ false
-      some [] h = absurd (h refl)
-      some (x ∷ s) h = refl
+  pub number_is : number_by number_of word text at ≡ number_line word text at
+  unfolding number_by line_by
+  number_is = same number_of is_number (λ s. worth (number_of s)) (value_at word text at) (λ s n. one s n (number_of s) refl)
 
-      pub is_empty : f.start ≡ f.end → is_none (bytes_of text f) ≡ true
-      is_empty h = none (bytes_of text f) (omega (arith, long))
-
-      pub not_empty : (f.start ≡ f.end → ⊥) → is_none (bytes_of text f) ≡ false
-      not_empty h = some (bytes_of text f) (λ z. h (omega (arith, long, z)))
-
-      pub option_none : f.start ≡ f.end → given (record { value = absent; next = f.next }) ≡ option_line word text at
-      option_none h = let n = is_empty h in rw (← by_passed (optional is_number) (rw n refl), n) refl
-
-      pub option_found : (f.start ≡ f.end → ⊥) → (v : ℕ) → given v ≡ number_of (bytes_of text f) → given (record { value = v; next = f.next }) ≡ option_line word text at
-      option_found h v q = let n = not_empty h in rw (← by_passed (optional is_number) (rw n (ap is_value (sym q))), n, ← q) refl
-
-      pub option_failed : (f.start ≡ f.end → ⊥) → (q : ℕ) → refused q ≡ number_of (bytes_of text f) → refused q ≡ option_line word text at
-      option_failed h q r = let n = not_empty h in rw (← by_failed (optional is_number) (rw n (ap is_value (sym r))), number_of-17 (bytes_of text f) q r) refl
-
-      pub empty_is : is_none (bytes_of text f) ≡ eqb f.start f.end
-      empty_is = by (eqb f.start f.end) refl
-        where
-          by : (t : Bool) → eqb f.start f.end ≡ t → is_none (bytes_of text f) ≡ t
-          by true q = is_empty (eqb-true f.start f.end q)
-          by false q = not_empty (eqb-false f.start f.end q)
+  pub option_is : number_by option_of word text at ≡ option_line word text at
+  unfolding number_by line_by
+  option_is = same option_of (optional is_number) (λ s. or_absent s (worth (number_of s))) (value_at word text at) (λ s n. by s n (is_none s))
+    where
+      by : (s : List ℕ) (n : ℕ) (t : Bool) → with_next n (cond t (given absent) (number_of s))
+          ≡ cond (t || is_number s) (given (record { value = cond t absent (worth (number_of s)); next = n })) (refused 17)
+      by s n true = refl
+      by s n false = one s n (number_of s) refl

@@ -71,9 +71,14 @@ module _ (text starts : List ℕ) (count name : ℕ) (h : count + 2 ≤ length s
         starts_len_unchanged = starts-same text starts count name c s e q;
       }
 
-  pub two-names : (depending : ℕ) → depending < 4294967296 → (m d : ℕ) (t : List ℕ) → m ≡ number_at text s c depending → d ≡ count_after text s c depending → t ≡ starts_after text s c depending
+  -- the second name is seen in the same text
+  pub two-names : (same : List ℕ) → same ≡ text → (depending : ℕ) → depending < 4294967296 → (m d : ℕ) (t : List ℕ)
+      → m ≡ number_at same s c depending → d ≡ count_after same s c depending → t ≡ starts_after same s c depending
       → Both text starts count name (Some depending) n m t d
-  two-names depending v m d t b f g =
+  two-names same z depending v m d t b' f' g' =
+      let b : m ≡ number_at text s c depending = b' ∙ ap (λ x. number_at x s c depending) z in
+      let f : d ≡ count_after text s c depending = f' ∙ ap (λ x. count_after x s c depending) z in
+      let g : t ≡ starts_after text s c depending = g' ∙ ap (λ x. starts_after x s c depending) z in
       let k = count_most text starts count name c s e q in
       let j = count_most text s c depending d t f g in
       let l : length s ≡ length starts = starts-same text starts count name c s e q in

@@ -91,9 +91,6 @@ module _ {text starts : List ℕ} (starts₀ : List ℕ) {count : ℕ} (e : coun
   pub table-count : count ≡ length (distinct (names_of (lines_of text)))
   table-count = e ∙ sym (length-map (firsts_of text) (line_from text)) ∙ ap length f.names
 
-  pub table-place : (number : ℕ) → start_in text (get_or (take count starts) number 0) ≡ first_start (lines_of text) number
-  table-place number = ap (λ (s : List ℕ). start_in text (get_or s number 0)) table_is ∙ sym (start-there text (get_or (firsts_of text) number 0) (f.inside number)) ∙ f.places number
-
   pub table-cells : (n : ℕ) → starts₀ ≡ replicate n 0 → (number : ℕ) → get_or starts number 0 ≡ first_start (lines_of text) number
   table-cells n z number =
       rw (q, z, drop-replicate) (zeros-behind (firsts_of text) (n - length (firsts_of text)) number ∙ f.places number)

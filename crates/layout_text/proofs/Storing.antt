@@ -210,9 +210,9 @@ module _ {text : List ℕ} {at k seen : ℕ} {starts starts₀ : List ℕ} (g : 
     pub name_bound : s.name < 4294967296
     pub depending_bound : MatchOption s.depending ⊤ (λ d. d < 4294967296)
 
-  pub seen_next : (c : ℕ) (starts' : List ℕ) → take c starts' ≡ see_both text (take seen starts) s.name s.depending → drop c starts' ≡ drop c starts
+  pub seen_next : (same : List ℕ) → same ≡ text → (c : ℕ) (starts' : List ℕ) → take c starts' ≡ see_both same (take seen starts) s.name s.depending → drop c starts' ≡ drop c starts
       → (seen ≤ c) × (c ≤ seen + 2) → length starts' ≡ length starts → Seen-to text s.next (k + 1) c starts' starts₀
-  seen_next c starts' x d y z = record {
+  seen_next same e c starts' x' d y z = let x : take c starts' ≡ see_both text (take seen starts) s.name s.depending = x' ∙ ap (λ t. see_both t (take seen starts) s.name s.depending) e in record {
     here = let i : suc k * 11 + 1 ≡ (k + 1) * 11 + 1 = omega arith in subst (λ (j : ℕ). Here text j s.next) i seen-told.here;
     spelled = rw add-one (spelled-next text k at s seen-told g.spelled);
     firsts = rw add-one (x ∙ firsts-next text k at s seen-told (take seen starts) g.firsts);
@@ -266,15 +266,17 @@ module _ {text : List ℕ} {at k seen m : ℕ} {starts words masks starts₀ wor
     pub part-long : length (take (s.mask + s.length - s.mask) (drop s.mask text)) ≡ s.length
     part-long = ap length part-is ∙ sym told.long
 
-    pub stored_next : {n d c : ℕ} {e : Entry} (starts' words' masks' : List ℕ)
-        → n ≡ index_in (line_from text s.name) (names_at text starts seen)
-        → d ≡ depending_in text (names_at text starts seen) s.name s.depending
+    pub stored_next : (same : List ℕ) → same ≡ text → {n d c : ℕ} {e : Entry} (starts' words' masks' : List ℕ)
+        → n ≡ index_in (line_from same s.name) (names_at same starts seen)
+        → d ≡ depending_in same (names_at same starts seen) s.name s.depending
         → Seen-to text s.next (k + 1) c starts' starts₀ → e ≡ entry_with s n d m
         → words' ≡ take (k * 12) words ++ (twelve e ++ drop (k * 12 + 12) words)
         → masks' ≡ take m masks ++ (take (s.mask + s.length - s.mask) (drop s.mask text) ++ drop (m + length (take (s.mask + s.length - s.mask) (drop s.mask text))) masks)
         → Stored text s.next (k + 1) c (m + s.length) starts' words' masks' starts₀ words₀ masks₀
     unfolding words_below masks_below
-    stored_next {n} {d} {c} {e} starts' words' masks' a b x q u v =
+    stored_next same z {n} {d} {c} {e} starts' words' masks' a' b' x q u v =
+        let a : n ≡ index_in (line_from text s.name) (names_at text starts seen) = a' ∙ ap (λ t. index_in (line_from t s.name) (names_at t starts seen)) z in
+        let b : d ≡ depending_in text (names_at text starts seen) s.name s.depending = b' ∙ ap (λ t. depending_in t (names_at t starts seen) s.name s.depending) z in
         let l = lines_of text in
         let r : e ≡ entry_said l k = entry-is text k at s told starts seen (seen-distinct g.table) inside n d m e a b g.masks-long q in
         let k1 : k * 12 + 12 ≡ (k + 1) * 12 = omega arith in

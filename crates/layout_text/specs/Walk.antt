@@ -1,12 +1,14 @@
 -- How the passes walk over a text: line by line, by positions. Only inner functions cite this file.
 use Rattle.std.specs.Prelude.{◌≡◌, Bool, true, false, ◌&&◌, ◌||◌, not, cond, List, [], ℕ, suc, ◌+◌, ◌-◌, ◌*◌, ◌≤◌, ◌<◌, eqb, length, take, drop, get_or, Option, Some, None, Result, Ok, Err}
-use Rattle.codes.specs.Codes.{kind_edited, kind_group}
+use Rattle.std.specs.Fn.{FnReturnsAt, Shared}
+use Rattle.std.specs.Borrow.{Bor}
+use Rattle.codes.specs.Codes.{absent, kind_edited, kind_group}
 use Rattle.spans.specs.Tree.{tree, nested}
 use Rattle.layout.specs.declared.Entry.{Entry}
 use Rattle.layout.specs.Layout.{all_below, entry_ok}
 use Rattle.codes.specs.declared.Refusal.{Refusal}
 use Rattle.codes.specs.Refusals.{number_of as refusal_number}
-use Rattle.value.specs.Answer.{Answer, refused, given}
+use Rattle.value.specs.Answer.{Answer, refused, given, answered}
 use Rattle.lines.specs.declared.Found.{Found}
 use Rattle.lines.specs.Lines.{Place, place, line_from, value_at, number_of}
 use Rattle.layout_text.specs.declared.Number.{Number}
@@ -29,6 +31,10 @@ pub record Here (text : List ℕ) (i at : ℕ) : Type 0 where
 
 -- ---- a line: the answer for its value, which a test judges
 
+-- a closure answers of every value what this test answers
+abbrev pub Judges : {F : Type 0} → Shared F (Bor (List ℕ) × Unit {0}) Bool → F → (List ℕ → Bool) → Type 0
+Judges g f judge = (s : List ℕ) (b : Bool) → FnReturnsAt g f s b → b ≡ judge s
+
 abbrev pub bytes_of : List ℕ → Found → List ℕ
 bytes_of text f = take (f.end - f.start) (drop f.start text)
 
@@ -38,6 +44,27 @@ passed_by test text (refused question) = refused question
 
 unfoldable pub line_by : (List ℕ → Bool) → List ℕ → List ℕ → ℕ → Answer Found
 line_by test word text at = passed_by test text (value_at word text at)
+
+-- ---- a line's number: the answer for its value, which a reader gives
+
+-- a closure answers of every value what this reader answers
+abbrev pub Reads : {F : Type 0} → Shared F (Bor (List ℕ) × Unit {0}) (Result ℕ Refusal) → F → (List ℕ → Answer ℕ) → Type 0
+Reads g f reads = (s : List ℕ) (r : Result ℕ Refusal) → FnReturnsAt g f s r → answered r ≡ reads s
+
+abbrev pub with_next : ℕ → Answer ℕ → Answer Number
+with_next n (given v) = given (record { value = v; next = n })
+with_next n (refused question) = refused question
+
+abbrev pub read_by : (List ℕ → Answer ℕ) → List ℕ → Answer Place → Answer Number
+read_by reads text (given (place a e n)) = with_next n (reads (take (e - a) (drop a text)))
+read_by reads text (refused question) = refused question
+
+-- a number, or absent for an empty value
+abbrev pub option_of : List ℕ → Answer ℕ
+option_of s = cond (is_none s) (given absent) (number_of s)
+
+unfoldable pub number_by : (List ℕ → Answer ℕ) → List ℕ → List ℕ → ℕ → Answer Number
+number_by reads word text at = read_by reads text (value_at word text at)
 
 abbrev pub numbered : (Found → ℕ) → Answer Found → Answer Number
 numbered value (given f) = given (record { value = value f; next = f.next })

@@ -2,9 +2,9 @@
 
 #![tactic(auto)]
 
-ghost use Rattle.std.specs.Prelude.{◌≡◌, [], ◌++◌, ℕ, ◌+◌, ◌*◌, ◌≤◌, ◌<◌, length, get_or, take, drop, set, Bool, Option, IfOk, MatchOption, ⊤};
+ghost use Rattle.std.specs.Prelude.{◌≡◌, List, [], ◌++◌, ℕ, ◌+◌, ◌*◌, ◌≤◌, ◌<◌, length, get_or, take, drop, set, Bool, Option, IfOk, MatchOption, ⊤};
 ghost use Rattle.codes.specs.Refusals.{number_in};
-ghost use Rattle.value.specs.Answer.{answered};
+ghost use Rattle.value.specs.Answer.{Answer, answered};
 ghost use Rattle.lists.specs.Part.{place_in};
 ghost use Rattle.lines.specs.Lines.{line_from, start_in, name_ok};
 ghost use Rattle.lines.specs.Names.{index_in, distinct, names_at};
@@ -12,12 +12,12 @@ ghost use Rattle.layout_text.specs.Form.{lines_of, name_word, depending_word, ma
 ghost use Rattle.layout_text.specs.Reading.{names_of, masks_of, scale_of, precision_of, mask_word_of, twelve, words_of};
 ghost use Rattle.layout_text.specs.Reading.{read_of, layout_into, page_in, words_in, masks_in, LayoutRead, spelling, first_start, spelling_at, name_count, Spells};
 ghost use Rattle.layout_text.specs.Firsts.{see_both, depending_in, firsts_of, Firsts};
-ghost use Rattle.layout_text.specs.Walk.{line_by, number_line, option_line, start_of, PageTells, Tells};
+ghost use Rattle.layout_text.specs.Walk.{Judges, line_by, Reads, number_by, number_line, option_line, start_of, PageTells, Tells};
 ghost use Rattle.layout_text.specs.Walk.{entry_with, fine_alone, FindsIn, nested_in, reading_of, Lasts};
 
 use codes::{ABSENT, Kind, Refusal};
 use layout::Entry;
-use lines::{Found, mask_ok, name_at, name_ok, number_of, see_name, value_at};
+use lines::{Found, Table, mask_ok, name_at, name_ok, number_of, value_at};
 use spans::{end_of, span_ok};
 
 // ---- one line
@@ -29,77 +29,89 @@ pub struct Number {
     pub next: usize,
 }
 
-#[tactic(auto, using(crate::proofs::Answering::number_found, crate::proofs::Answering::number_failed, crate::proofs::Answering::number_refused))]
-fn number_line(text: &[u8], at: usize, word: &[u8]) -> Result<Number, Refusal>
-    ensures { answered result ≡ number_line word.now text.now at }
+// What is read of the value behind a word.
+#[tactic(auto, using(crate::proofs::Answering::read_refused))]
+fn number_by<F: Fn(&[u8]) -> Result<u32, Refusal>>(
+    text: &[u8],
+    at: usize,
+    word: &[u8],
+    read: F,
+) -> Result<Number, Refusal>
+    requires { F.IsAlwaysCallable read }
+    ensures { (reads : List ℕ → Answer ℕ) → Reads F.Fn read reads → answered result ≡ number_by reads word.now text.now at }
 {
     let found = value_at(text, at, word)?;
-    let value = number_of(&text[found.start..found.end])?;
+    let value = read(&text[found.start..found.end])?;
     Ok(Number {
         value,
         next: found.next,
     })
 }
 
+fn number_line(text: &[u8], at: usize, word: &[u8]) -> Result<Number, Refusal>
+    ensures { answered result ≡ number_line word.now text.now at }
+{
+    number_by(text, at, word, number_of)
+}
+
 // A number, or 4294967295 for an empty value.
-#[tactic(auto, using(crate::proofs::Answering::option_none, crate::proofs::Answering::option_found, crate::proofs::Answering::option_failed, crate::proofs::Answering::option_refused))]
 fn option_line(text: &[u8], at: usize, word: &[u8]) -> Result<Number, Refusal>
     ensures { answered result ≡ option_line word.now text.now at }
 {
-    let found = value_at(text, at, word)?;
-    let next = found.next;
-    if found.start == found.end {
-        return Ok(Number {
-            value: ABSENT,
-            next,
-        });
-    }
-    let value = number_of(&text[found.start..found.end])?;
-    Ok(Number { value, next })
+    number_by(text, at, word, |s| {
+        if s.is_empty() {
+            Ok(ABSENT)
+        } else {
+            number_of(s)
+        }
+    })
 }
 
+// The value behind a word, where a test passes it.
 #[tactic(auto, using(crate::proofs::Answering::by_passed, crate::proofs::Answering::by_failed, crate::proofs::Answering::by_refused))]
+fn line_by<F: Fn(&[u8]) -> bool>(
+    text: &[u8],
+    at: usize,
+    word: &[u8],
+    test: F,
+) -> Result<Found, Refusal>
+    requires { F.IsAlwaysCallable test }
+    ensures value { (judge : List ℕ → Bool) → Judges F.Fn test judge → answered result ≡ line_by judge word.now text.now at }
+    ensures order { IfOk result (λ found. found.start ≤ found.end) }
+{
+    let found = value_at(text, at, word)?;
+    if test(&text[found.start..found.end]) {
+        Ok(found)
+    } else {
+        Err(Refusal::LayoutText)
+    }
+}
+
 fn name_line(text: &[u8], at: usize) -> Result<Found, Refusal>
     ensures { answered result ≡ line_by name_ok name_word text.now at }
 {
-    let found = value_at(text, at, b"name=")?;
-    if name_ok(&text[found.start..found.end]) {
-        Ok(found)
-    } else {
-        Err(Refusal::LayoutText)
-    }
+    line_by(text, at, b"name=", name_ok)
 }
 
 // A name, or nothing.
-#[tactic(auto, using(crate::proofs::Answering::by_passed, crate::proofs::Answering::by_failed, crate::proofs::Answering::by_refused, crate::proofs::Answering::empty_is))]
 fn depending_line(text: &[u8], at: usize) -> Result<Found, Refusal>
     ensures { answered result ≡ line_by (optional name_ok) depending_word text.now at }
 {
-    let found = value_at(text, at, b"depending=")?;
-    if found.start == found.end || name_ok(&text[found.start..found.end]) {
-        Ok(found)
-    } else {
-        Err(Refusal::LayoutText)
-    }
+    line_by(text, at, b"depending=", |s| s.is_empty() || name_ok(s))
 }
 
 // An Edited's mask; nothing for another kind.
-#[tactic(auto, using(crate::proofs::Answering::by_passed, crate::proofs::Answering::by_failed, crate::proofs::Answering::by_refused, crate::proofs::Answering::empty_is))]
 fn mask_line(text: &[u8], at: usize, kind: u32) -> Result<Found, Refusal>
     ensures value { answered result ≡ line_by (mask_for kind) mask_word text.now at }
     ensures order { IfOk result (λ found. found.start ≤ found.end) }
 {
-    let found = value_at(text, at, b"mask=")?;
-    let lawful = if Kind::Edited.is(kind) {
-        mask_ok(&text[found.start..found.end])
-    } else {
-        found.start == found.end
-    };
-    if lawful {
-        Ok(found)
-    } else {
-        Err(Refusal::LayoutText)
-    }
+    line_by(text, at, b"mask=", |s| {
+        if Kind::Edited.is(kind) {
+            mask_ok(s)
+        } else {
+            s.is_empty()
+        }
+    })
 }
 
 // Where a name starts, if there is one.
@@ -234,6 +246,7 @@ fn note<T: Copy>(cells: &mut [T], k: usize, value: T)
 }
 
 // What one pass over a lawful text finds: its page, how many entries and mask bytes it has, and whether each entry passes question 2.
+// Kept: `fine` is no sign that the others stand: question 2 is asked only after question 1, and they are found whatever it says.
 #[derive(Clone, Copy)]
 pub struct Judged {
     pub page: u32,
@@ -243,9 +256,7 @@ pub struct Judged {
 }
 
 // Judges every line, and notes the spans and the groups of the first 512 entries.
-fn judge(text: &[u8], spans: &mut [u32], groups: &mut [bool]) -> Result<Judged, Refusal>
-    requires spans_len { length spans.old ≡ 512 }
-    requires groups_len { length groups.old ≡ 512 }
+fn judge(text: &[u8], spans: &mut [u32; 512], groups: &mut [bool; 512]) -> Result<Judged, Refusal>
     ensures { FindsIn text.now result spans.new groups.new }
 {
     let page = page_line(text)?;
@@ -273,12 +284,12 @@ fn judge(text: &[u8], spans: &mut [u32], groups: &mut [bool]) -> Result<Judged, 
 
 // Whether the entries lo up to hi are well nested, in at most so many levels.
 #[tactic(auto, using(crate::proofs::Levels::in_end, crate::proofs::Levels::in_deep, crate::proofs::Levels::in_span, crate::proofs::Levels::in_inner, crate::proofs::Levels::in_next))]
-fn nested(spans: &[u32], groups: &[bool], lo: usize, hi: usize, levels: usize) -> bool
-    requires hi_in_bounds { hi ≤ length spans.now }
-    requires hi_in_bounds_2 { hi ≤ length groups.now }
+fn nested(spans: &[u32; 512], groups: &[bool; 512], lo: usize, hi: usize, levels: usize) -> bool
+    requires { hi ≤ 512 }
     ensures { result ≡ nested_in spans.now groups.now levels lo hi }
 {
-    // Kept: `layout` walks over words in the same way; both cite one definition (docs/DECISIONS.md, D-84).
+    // Kept: `layout` walks over words in the same way; both cite one definition. One recursion for both would have `Layout::check` copy 512 spans and flags
+    // to the stack at each call, or twelve words an entry of a text stored before question 3 is asked (docs/DECISIONS.md, D-84).
     let mut i = lo;
     while i < hi {
         if levels == 0 {
@@ -310,6 +321,7 @@ fn questions(text: &[u8], words: usize, masks: usize) -> Result<LayoutReading, R
     ensures value { answered result ≡ reading_of (read_of text.now words masks) }
     ensures short { IfOk result (λ reading. length text.now < 4294967296) }
 {
+    // Kept: one array of pairs takes 4,096 bytes of stack, these take 2,560.
     let mut spans = [0u32; 512];
     let mut groups = [false; 512];
     let found = judge(text, &mut spans, &mut groups)?;
@@ -365,53 +377,45 @@ fn put_mask(masks: &mut [u8], m: usize, part: &[u8])
     masks[m..m + part.len()].copy_from_slice(part);
 }
 
-// The numbers of an entry's names, and how many different names the table then holds.
+// The numbers of an entry's names.
 #[derive(Clone, Copy)]
 pub struct Sighted {
     pub name: u32,
     pub depending: u32,
-    pub count: usize,
 }
 
-fn see_entry(
-    text: &[u8],
-    starts: &mut [u32],
-    count: usize,
-    name: usize,
-    depending: Option<usize>,
-) -> Sighted
-    requires count_in_bounds { count + 2 ≤ length starts.old }
-    requires starts_len { length starts.old ≡ 1024 }
+fn see_entry(table: &mut Table, name: usize, depending: Option<usize>) -> Sighted
+    requires count_in_bounds { table.old.count + 2 ≤ length table.old.starts.now }
+    requires starts_len { length table.old.starts.now ≡ 1024 }
     requires name_bound { name < 4294967296 }
     requires depending_bound { MatchOption depending ⊤ (λ d. d < 4294967296) }
-    ensures name_value { result.name ≡ index_in (line_from text.now name) (names_at text.now starts.old count) }
-    ensures depending_value { result.depending ≡ depending_in text.now (names_at text.now starts.old count) name depending }
-    ensures starts_after { take result.count starts.new ≡ see_both text.now (take count starts.old) name depending }
-    ensures starts_unchanged { drop result.count starts.new ≡ drop result.count starts.old }
-    ensures count_le_count { (count ≤ result.count) × (result.count ≤ count + 2) }
-    ensures starts_len_unchanged { length starts.new ≡ length starts.old }
+    ensures name_value { result.name ≡ index_in (line_from table.old.text.now name) (names_at table.old.text.now table.old.starts.now table.old.count) }
+    ensures depending_value { result.depending ≡ depending_in table.old.text.now (names_at table.old.text.now table.old.starts.now table.old.count) name depending }
+    ensures starts_after { take table.new.count table.new.starts.now ≡ see_both table.old.text.now (take table.old.count table.old.starts.now) name depending }
+    ensures starts_unchanged { drop table.new.count table.new.starts.now ≡ drop table.new.count table.old.starts.now }
+    ensures count_le_count { (table.old.count ≤ table.new.count) × (table.new.count ≤ table.old.count + 2) }
+    ensures starts_len_unchanged { length table.new.starts.now ≡ length table.old.starts.now }
+    ensures text { table.new.text ≡ table.old.text }
+    ensures table { table.new.starts.ghost_name ≡ table.old.starts.ghost_name }
 {
-    let a = see_name(text, starts, count, name);
+    let number = table.see(name);
     match depending {
         None => Sighted {
-            name: a.number as u32,
+            name: number as u32,
             depending: ABSENT,
-            count: a.count,
         },
         Some(at) => {
-            let b = see_name(text, starts, a.count, at);
+            let other = table.see(at);
             Sighted {
-                name: a.number as u32,
-                depending: b.number as u32,
-                count: b.count,
+                name: number as u32,
+                depending: other as u32,
             }
         }
     }
 }
 
-fn store(text: &[u8], count: usize, starts: &mut [u32], words: &mut [u32], masks: &mut [u8])
+fn store(text: &[u8], count: usize, words: &mut [u32], masks: &mut [u8])
     requires lasts { Lasts text.now count }
-    requires starts_len { length starts.old ≡ 1024 }
     requires text_in_bounds { length (words_of (lines_of text.now)) ≤ length words.old }
     requires text_in_bounds_2 { length (masks_of (lines_of text.now)) ≤ length masks.old }
     ensures words_after { words.new ≡ words_of (lines_of text.now) ++ drop (length (words_of (lines_of text.now))) words.old }
@@ -420,34 +424,26 @@ fn store(text: &[u8], count: usize, starts: &mut [u32], words: &mut [u32], masks
     let Ok(page) = page_line(text) else {
         return;
     };
+    let mut starts = [0u32; 1024];
+    let mut table = Table {
+        text,
+        starts: &mut starts,
+        count: 0,
+    };
     let mut at = page.next;
-    let mut seen = 0;
     let mut m = 0;
     for k in 0..count {
         let Ok(said) = entry_lines(text, at) else {
             return;
         };
-        let names = see_entry(text, starts, seen, said.name, said.depending);
+        let names = see_entry(&mut table, said.name, said.depending);
         let e = entry_of(said, names.name, names.depending, m as u32);
         put_entry(words, k, e);
         let s = said.mask;
         put_mask(masks, m, &text[s..s + said.length]);
         m += said.length;
-        seen = names.count;
         at = said.next;
     }
-}
-
-// The same, with a table of names of its own.
-fn store_all(text: &[u8], count: usize, words: &mut [u32], masks: &mut [u8])
-    requires lasts { Lasts text.now count }
-    requires text_in_bounds { length (words_of (lines_of text.now)) ≤ length words.old }
-    requires text_in_bounds_2 { length (masks_of (lines_of text.now)) ≤ length masks.old }
-    ensures words_after { words.new ≡ words_of (lines_of text.now) ++ drop (length (words_of (lines_of text.now))) words.old }
-    ensures masks_after { masks.new ≡ masks_of (lines_of text.now) ++ drop (length (masks_of (lines_of text.now))) masks.old }
-{
-    let mut starts = [0u32; 1024];
-    store(text, count, &mut starts, words, masks);
 }
 
 // The words and masks that a layout's text says. Refusals, in order: 17, 1, 2, 3, 16.
@@ -462,17 +458,17 @@ pub fn read_layout(
     words.fill(0);
     masks.fill(0);
     let reading = questions(text, words.len(), masks.len())?;
-    store_all(text, reading.words / 12, words, masks);
+    store(text, reading.words / 12, words, masks);
     Ok(reading)
 }
 
 // ---- names
 
 // Where each different name of a text is first spelled, to the front of the table; how many.
+// Kept: no line of such a text is refused, so that the two 0 are never answered.
 #[tactic(auto, using(crate::proofs::Storing::lines_there, crate::proofs::Storing::seen_start))]
-fn see_all(text: &[u8], count: usize, starts: &mut [u32]) -> usize
-    requires lasts { Lasts text.now count }
-    requires starts_len { length starts.old ≡ 1024 }
+fn see_all(text: &[u8], count: usize, starts: &mut [u32; 1024]) -> usize
+    requires { Lasts text.now count }
     ensures value { result ≡ length (firsts_of text.now) }
     ensures starts_after { starts.new ≡ firsts_of text.now ++ drop (length (firsts_of text.now)) starts.old }
     ensures firsts { Firsts text.now }
@@ -480,29 +476,30 @@ fn see_all(text: &[u8], count: usize, starts: &mut [u32]) -> usize
     let Ok(page) = page_line(text) else {
         return 0;
     };
+    let mut table = Table {
+        text,
+        starts,
+        count: 0,
+    };
     let mut at = page.next;
-    let mut seen = 0;
     for _ in 0..count {
         let Ok(said) = entry_lines(text, at) else {
             return 0;
         };
-        let names = see_entry(text, starts, seen, said.name, said.depending);
-        seen = names.count;
+        see_entry(&mut table, said.name, said.depending);
         at = said.next;
     }
-    seen
+    table.count
 }
 
-// The name with a number, by a table of where `count` different names start, as a part of the text; the empty part at its front where the table has no such number.
-pub fn name_with<'a>(text: &'a [u8], starts: &[u32], count: usize, number: u32) -> &'a [u8]
-    ensures result_value { result.now ≡ get_or (names_at text.now starts.now count) number [] }
-    ensures ref_ptr_value { result.ref_ptr ≡ place_in text.entry (start_in text.now (get_or (take count starts.now) number 0)) }
+// The name with a number, by where each different name starts, as a part of the text; the empty part at its front where no name has the number.
+pub fn name_with<'a>(text: &'a [u8], starts: &[u32], number: u32) -> &'a [u8]
+    ensures result_value { result.now ≡ get_or (names_at text.now starts.now (length starts.now)) number [] }
+    ensures ref_ptr_value { result.ref_ptr ≡ place_in text.entry (start_in text.now (get_or starts.now number 0)) }
 {
-    let n = number as usize;
-    if n < count && n < starts.len() {
-        name_at(text, starts[n] as usize)
-    } else {
-        &text[..0]
+    match starts.get(number as usize) {
+        Some(start) => name_at(text, *start as usize),
+        None => &text[..0],
     }
 }
 
@@ -514,7 +511,7 @@ fn spelled(text: &[u8], count: usize, number: u32) -> &[u8]
 {
     let mut starts = [0u32; 1024];
     let seen = see_all(text, count, &mut starts);
-    name_with(text, &starts, seen, number)
+    name_with(text, &starts[..seen], number)
 }
 
 // The first spelling of the name with a number, as a part of the text; the empty part at its front where the text is refused by 17, 1, 2 or 3, or no name has the number.
@@ -539,6 +536,7 @@ pub fn name_starts(text: &[u8], starts: &mut [u32; 1024]) -> usize
     starts.fill(0);
     match questions(text, usize::MAX, usize::MAX) {
         Ok(reading) => see_all(text, reading.words / 12, starts),
+        // Kept: a refused text has no names, and 0 is how many: its definition, `name_count`, gives it.
         Err(_) => 0,
     }
 }
@@ -568,6 +566,6 @@ impl<'a> Names<'a> {
     pub fn spelled(self, number: u32) -> &'a [u8]
         ensures { result.now ≡ spelling self.entry.text.now number }
     {
-        name_with(self.text, self.starts, self.starts.len(), number)
+        name_with(self.text, self.starts, number)
     }
 }

@@ -28,7 +28,7 @@ use layout::Layout;
 use layout_text::{LayoutReading, name_of, read_layout};
 use reading::read_full;
 use std::io;
-use testing::{Gathered, at, first, holds, low_word, narrow};
+use testing::{Gathered, Tally, at, first, holds, low_word, narrow, number};
 
 const WORDS: usize = 8192;
 
@@ -36,12 +36,10 @@ const BYTES: usize = 66048;
 
 // ---- a line
 
-// The number that a part of a line spells; 0 where it spells none.
-fn number(part: &[u8]) -> u64 {
-    match std::str::from_utf8(part) {
-        Ok(text) => text.parse().unwrap_or(0),
-        Err(_) => 0,
-    }
+// The number that a part of a line spells.
+// Kept: no line lacks a number that is asked of it, so that the 0 for a part that spells none is never taken.
+fn decimal(part: &[u8]) -> u64 {
+    number(part, 10).unwrap_or(0)
 }
 
 #[derive(Clone, Copy)]
@@ -61,7 +59,7 @@ impl<'a> Line<'a> {
 
     // The k-th number, from 1, each behind a space.
     fn arg(self, k: usize) -> u64 {
-        self.bytes.split(|b| *b == b' ').nth(k).map_or(0, number)
+        self.bytes.split(|b| *b == b' ').nth(k).map_or(0, decimal)
     }
 
     // The same as a place, at most so far.
@@ -86,7 +84,7 @@ fn repeat<T: Copy>(gathered: &mut Gathered<T>, count: u64, back: usize, none: T)
 fn gather_words(words: &mut Gathered<u64>, line: Line) {
     if at(line.bytes, 1) == b'#' {
         for part in line.bytes.split(|b| *b == b' ').skip(1) {
-            words.push(number(part));
+            words.push(decimal(part));
         }
     } else {
         repeat(words, line.arg(1), line.place(2, WORDS), 0);
@@ -95,10 +93,11 @@ fn gather_words(words: &mut Gathered<u64>, line: Line) {
 
 // Bytes of the text or of masks.
 fn gather_bytes(bytes: &mut Gathered<u8>, line: Line) {
+    // Kept: a line's letter says what it is.
     match at(line.bytes, 1) {
         b'#' => {
             for part in line.bytes.split(|b| *b == b' ').skip(1) {
-                bytes.push((number(part) % 256) as u8);
+                bytes.push((decimal(part) % 256) as u8);
             }
         }
         b'*' => repeat(bytes, line.arg(1), line.place(2, BYTES), 0),
@@ -136,6 +135,7 @@ fn words_agree(line: Line, words: &[u64]) -> bool {
         masks: &masks[..line.place(2, BYTES)],
         page: low_word(line.arg(1)),
     };
+    // Kept: a line's letter says what it is.
     match line.kind() {
         b'L' => layout_agrees(line, &layout),
         b'R' => length_agrees(line, &layout),
@@ -222,6 +222,7 @@ fn name_agrees(line: Line, text: &[u8]) -> bool {
 // ---- the cases
 
 fn agrees(line: Line, words: &[u64], text: &[u8], masks: &[u8]) -> bool {
+    // Kept: a line's letter says what it is.
     match line.kind() {
         b'I' => items_agree(line, words),
         b'F' => find_agrees(line, words),
@@ -233,33 +234,21 @@ fn agrees(line: Line, words: &[u64], text: &[u8], masks: &[u8]) -> bool {
     }
 }
 
-// How many cases a group has, and how many of them differ. Kept in each program: what it counts and prints is its own.
-#[derive(Drop)]
-struct Tally {
-    cases: u64,
-    differ: u64,
+// Counts a case, and prints its line if it differs.
+fn count(rt: &impl Print, tally: &mut Tally, line: Line, agrees: bool) -> io::Result<()> {
+    tally.count(agrees);
+    if agrees {
+        return Ok(());
+    }
+    rt.write_all(b"differs: ")?;
+    rt.write_all(line.bytes)?;
+    rt.write_all(b"\n")
 }
 
-impl Tally {
-    fn count(&mut self, rt: &impl Print, line: Line, agrees: bool) -> io::Result<()> {
-        self.cases = self.cases.wrapping_add(1);
-        if agrees {
-            return Ok(());
-        }
-        self.differ = self.differ.wrapping_add(1);
-        rt.write_all(b"differs: ")?;
-        rt.write_all(line.bytes)?;
-        rt.write_all(b"\n")
-    }
-
-    // Prints the counts behind the group's name, and begins anew.
-    fn end(&mut self, rt: &impl Print, line: Line) -> io::Result<()> {
-        rt.write_all(line.rest())?;
-        println!(rt; ": {} cases, {} differ", self.cases, self.differ)?;
-        self.cases = 0;
-        self.differ = 0;
-        Ok(())
-    }
+// Prints the counts of a group behind its name.
+fn print(rt: &impl Print, tally: Tally, line: Line) -> io::Result<()> {
+    rt.write_all(line.rest())?;
+    println!(rt; ": {} cases, {} differ", tally.cases(), tally.differ)
 }
 
 fn run(rt: &impl Print, all: &[u8]) -> io::Result<()> {
@@ -275,12 +264,10 @@ fn run(rt: &impl Print, all: &[u8]) -> io::Result<()> {
         cells: &mut [0u8; BYTES],
         len: 0,
     };
-    let mut tally = Tally {
-        cases: 0,
-        differ: 0,
-    };
+    let mut tally = Tally::default();
     for bytes in all.split(|b| *b == b'\n') {
         let line = Line { bytes };
+        // Kept: a line's letter says what it is.
         match line.kind() {
             b'w' => gather_words(&mut words, line),
             b't' => gather_bytes(&mut text, line),
@@ -290,10 +277,13 @@ fn run(rt: &impl Print, all: &[u8]) -> io::Result<()> {
                 text.clear();
                 masks.clear();
             }
-            b'.' => tally.end(rt, line)?,
+            b'.' => {
+                print(rt, tally, line)?;
+                tally = Tally::default();
+            }
             b'A'..=b'Z' => {
                 let agrees = agrees(line, words.held(), text.held(), masks.held());
-                tally.count(rt, line, agrees)?;
+                count(rt, &mut tally, line, agrees)?;
             }
             _ => {}
         }

@@ -124,38 +124,40 @@ fn same_name(a: &[u8], b: &[u8]) -> bool
     a.eq_ignore_ascii_case(b)
 }
 
-// The index of a name among the first `count` that the table points at, or how many these are.
-fn find_name(text: &[u8], starts: &[u32], count: usize, name: &[u8]) -> usize
-    ensures { result ≡ index_in name.now (names_at text.now starts.now count) }
-{
-    let held = &starts[..count.min(starts.len())];
-    held.iter()
-        .position(|start| same_name(name, name_at(text, *start as usize)))
-        .unwrap_or(held.len())
-}
-
-// A name's number, and how many different names the table then holds.
-#[derive(Clone, Copy)]
-pub struct Seen {
-    pub number: usize,
+// The different names that were seen in a text: where each starts, at the front of a table that is lent, and how many.
+#[derive(Drop)]
+pub struct Table<'a> {
+    pub text: &'a [u8],
+    pub starts: &'a mut [u32],
     pub count: usize,
 }
 
-// One more sight, of the name at `at`. A new name is stored where the table can hold it; else count and table stay, and a name
-// that is not in the table gets the count of those in it.
-pub fn see_name(text: &[u8], starts: &mut [u32], count: usize, at: usize) -> Seen
-    ensures number_value { result.number ≡ number_at text.now starts.old count at }
-    ensures count_value { result.count ≡ count_after text.now starts.old count at }
-    ensures starts_after { starts.new ≡ starts_after text.now starts.old count at }
-{
-    let number = find_name(text, starts, count, name_at(text, at));
-    let is_new = number == count && count < starts.len() && at <= u32::MAX as usize;
-    if !is_new {
-        return Seen { number, count };
+impl<'a> Table<'a> {
+    // The index of a name among those seen, or how many these are.
+    // Kept: a new name gets this count as its number, as the definition, `index_in`, has it.
+    fn find(&self, name: &[u8]) -> usize
+        ensures { result ≡ index_in name.now (names_at self.now.text.now self.now.starts.now self.now.count) }
+    {
+        let held = &self.starts[..self.count.min(self.starts.len())];
+        held.iter()
+            .position(|start| same_name(name, name_at(self.text, *start as usize)))
+            .unwrap_or(held.len())
     }
-    starts[count] = at as u32;
-    Seen {
-        number,
-        count: count + 1,
+
+    // One more sight, of the name at `at`: its number. A new name is stored where the table can hold it; else count and table stay,
+    // and a name that is not in the table gets the count of those in it.
+    pub fn see(&mut self, at: usize) -> usize
+        ensures number { result ≡ number_at self.old.text.now self.old.starts.now self.old.count at }
+        ensures count { self.new.count ≡ count_after self.old.text.now self.old.starts.now self.old.count at }
+        ensures starts { self.new.starts.now ≡ starts_after self.old.text.now self.old.starts.now self.old.count at }
+        ensures text { self.new.text ≡ self.old.text }
+        ensures table { self.new.starts.ghost_name ≡ self.old.starts.ghost_name }
+    {
+        let number = self.find(name_at(self.text, at));
+        if number == self.count && self.count < self.starts.len() && at <= u32::MAX as usize {
+            self.starts[self.count] = at as u32;
+            self.count += 1;
+        }
+        number
     }
 }

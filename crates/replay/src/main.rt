@@ -14,7 +14,7 @@ use items::ValueList;
 use layout::Layout;
 use reading::read_full;
 use std::io;
-use testing::{Gathered, at, first, holds, narrow};
+use testing::{Gathered, Tally, at, first, holds, narrow, number};
 
 const WORDS: usize = 512;
 
@@ -22,12 +22,10 @@ const BYTES: usize = 1024;
 
 // ---- words and bytes of a line
 
-// The hexadecimal number that a part of a line spells; 0 where it spells none.
+// The hexadecimal number that a part of a line spells.
+// Kept: no line lacks a number that is asked of it, so that the 0 for a part that spells none is never taken.
 fn hex(part: &[u8]) -> u64 {
-    match std::str::from_utf8(part) {
-        Ok(text) => u64::from_str_radix(text, 16).unwrap_or(0),
-        Err(_) => 0,
-    }
+    number(part, 16).unwrap_or(0)
 }
 
 // The words of a line, each behind a blank, in place of those gathered.
@@ -87,46 +85,38 @@ impl<'a> Case<'a> {
     }
 }
 
-// How many cases there were, how many of them refused, and how many differ. Kept in each program: what it counts and prints is its own.
-#[derive(Drop)]
-struct Tally {
-    cases: u64,
+// How many cases agree and how many differ, and how many of them refused.
+#[derive(Clone, Copy, Default)]
+struct Counts {
+    tally: Tally,
     refused: u64,
-    differ: u64,
 }
 
-impl Tally {
-    fn new() -> Tally {
-        Tally {
-            cases: 0,
-            refused: 0,
-            differ: 0,
-        }
-    }
-
+impl Counts {
     fn count(&mut self, rt: &impl Print, line: &[u8], number: u64, agrees: bool) -> io::Result<()> {
-        self.cases = self.cases.wrapping_add(1);
+        self.tally.count(agrees);
         if number != 0 {
             self.refused = self.refused.wrapping_add(1);
         }
         if agrees {
             return Ok(());
         }
-        self.differ = self.differ.wrapping_add(1);
-        print!(rt; "differs: case {} ", self.cases)?;
+        print!(rt; "differs: case {} ", self.tally.cases())?;
         rt.write_all(line)?;
         rt.write_all(b"\n")
     }
 
-    fn print(&self, rt: &impl Print, name: &str) -> io::Result<()> {
+    fn print(self, rt: &impl Print, name: &str) -> io::Result<()> {
         println!(rt;
             "{name}{} cases, {} refused, {} differ",
-            self.cases, self.refused, self.differ
+            self.tally.cases(),
+            self.refused,
+            self.tally.differ
         )
     }
 }
 
-fn run(rt: &impl Print, all: &[u8], read: &mut Tally, written: &mut Tally) -> io::Result<()> {
+fn run(rt: &impl Print, all: &[u8], read: &mut Counts, written: &mut Counts) -> io::Result<()> {
     let mut layout = Gathered {
         cells: &mut [0u64; WORDS],
         len: 0,
@@ -190,8 +180,8 @@ fn run(rt: &impl Print, all: &[u8], read: &mut Tally, written: &mut Tally) -> io
 fn main(rt: HostRuntime) -> io::Result<()> {
     let mut all = [0u8; 393216];
     let n = read_full(&mut rt.reader(), &mut all)?;
-    let mut read = Tally::new();
-    let mut written = Tally::new();
+    let mut read = Counts::default();
+    let mut written = Counts::default();
     run(&rt, &all[..n], &mut read, &mut written)?;
     read.print(&rt, "read: ")?;
     written.print(&rt, "written: ")

@@ -3,10 +3,10 @@
 
 #![tactic(auto)]
 
-ghost use Rattle.std.specs.Prelude.{true, ◌≡◌, ◌≤◌, IfOk, length};
+ghost use Rattle.std.specs.Prelude.{◌≡◌, ◌≤◌, IfOk, MatchOption};
 
 use reading::read_full;
-use shown::{File, show_at};
+use shown::show_at;
 use std::fmt::{Display, Formatter};
 use std::io::Read;
 use std::process::ExitCode;
@@ -35,38 +35,40 @@ impl Display for Unread {
     }
 }
 
-// How many bytes of a file stand at the front of a buffer, and whether the file has more.
-#[derive(Clone, Copy)]
-struct Bytes {
-    len: usize,
-    more: bool,
-}
-
-// What is left to read behind n bytes in a buffer of so much room: one byte more is asked for. Only a full buffer has more behind it.
-fn ended<R: Read>(file: &mut R, n: usize, room: usize) -> Result<Bytes, Unread>
-    ensures len { IfOk result (λ bytes. bytes.len ≡ n) }
-    ensures more { IfOk result (λ bytes. bytes.more ≡ true → room ≤ bytes.len) }
+// How many bytes a file has of which n stand in a buffer of so much room; none if it has more than that. One byte more is asked for: only behind a full
+// buffer is there any.
+fn ended<R: Read>(file: &mut R, n: usize, room: usize) -> Result<Option<usize>, Unread>
+    ensures { IfOk result (λ len. MatchOption len (room ≤ n) (λ l. l ≡ n)) }
 {
     let mut one = [0u8; 1];
-    let more = file.read(&mut one)? != 0;
-    if more && n < room {
+    if file.read(&mut one)? == 0 {
+        Ok(Some(n))
+    } else if n < room {
         Err(Unread::Stopped)
     } else {
-        Ok(Bytes { len: n, more })
+        Ok(None)
     }
 }
 
-fn read_file(rt: &impl Files, path: &str, buf: &mut [u8]) -> Result<Bytes, Unread>
-    ensures len { IfOk result (λ bytes. bytes.len ≤ length buf.new) }
-    ensures more { IfOk result (λ bytes. bytes.more ≡ true → length buf.new ≤ bytes.len) }
-{
+// A file's bytes, at the front of a buffer; none if it has more than the buffer holds.
+fn read_file<'a>(
+    rt: &impl Files,
+    path: &str,
+    buf: &'a mut [u8],
+) -> Result<Option<&'a [u8]>, Unread> {
     let mut file = std::fs::open(rt, path)?;
     let n = read_full(&mut file, buf)?;
-    ended(&mut file, n, buf.len())
+    let len = ended(&mut file, n, buf.len())?;
+    Ok(len.map(|n| &buf[..n]))
 }
 
 // Writes a piece; whether another may follow.
-fn print_piece(rt: &impl Print, layout: File, record: File, at: usize) -> io::Result<bool> {
+fn print_piece(
+    rt: &impl Print,
+    layout: Option<&[u8]>,
+    record: Option<&[u8]>,
+    at: usize,
+) -> io::Result<bool> {
     let mut out = [0u8; 65536];
     let n = show_at(layout, record, at, &mut out);
     rt.write_all(&out[..n])?;
@@ -74,7 +76,7 @@ fn print_piece(rt: &impl Print, layout: File, record: File, at: usize) -> io::Re
 }
 
 // Writes piece after piece, up to the first that is shorter than a buffer. No output has so many pieces as the loop allows.
-fn print(rt: &impl Print, layout: File, record: File) -> io::Result<()> {
+fn print(rt: &impl Print, layout: Option<&[u8]>, record: Option<&[u8]>) -> io::Result<()> {
     for turn in 0..1000000usize {
         if !print_piece(rt, layout, record, turn * 65536)? {
             return Ok(());
@@ -91,22 +93,14 @@ fn fail(rt: &impl Eprint, what: &str, why: impl Display + Drop) -> ExitCode {
 
 fn main(rt: HostRuntime) -> ExitCode {
     let mut layout = [0u8; 65536];
-    let l = match read_file(&rt, "layout.txt", &mut layout) {
+    let layout = match read_file(&rt, "layout.txt", &mut layout) {
         Ok(bytes) => bytes,
         Err(why) => return fail(&rt, "layout.txt", why),
     };
     let mut record = [0u8; 65536];
-    let r = match read_file(&rt, "record.bin", &mut record) {
+    let record = match read_file(&rt, "record.bin", &mut record) {
         Ok(bytes) => bytes,
         Err(why) => return fail(&rt, "record.bin", why),
-    };
-    let layout = File {
-        bytes: &layout[..l.len],
-        more: l.more,
-    };
-    let record = File {
-        bytes: &record[..r.len],
-        more: r.more,
     };
     match print(&rt, layout, record) {
         Ok(()) => ExitCode::SUCCESS,

@@ -1,5 +1,6 @@
 -- "`show` reads layout.txt and record.bin, prints name (first spelling), kind, value lines".
-use Rattle.std.specs.Prelude.{ℕ, zero, suc, Bool, false, ◌&&◌, ◌||◌, not, cond, List, [], ◌∷◌, ◌++◌, eqb, leb, ltb, length, take, drop}
+use Rattle.std.specs.Borrow.{Bor}
+use Rattle.std.specs.Prelude.{ℕ, zero, suc, Option, Some, None, Bool, true, false, ◌&&◌, ◌||◌, not, cond, List, [], ◌∷◌, ◌++◌, eqb, leb, ltb, length, take, drop}
 use Rattle.codes.specs.Codes.{tag_null, tag_text, tag_int, tag_decimal, tag_float, tag_bool, tag_list, tag_struct, element}
 use Rattle.value.specs.Digits.{spread}
 use Rattle.value.specs.declared.Scalar.{Scalar}
@@ -138,6 +139,18 @@ printed layout d = cond (eqb (number_of d) 0) (listed layout (items_of d) (texts
 -- what `show` prints of the two files: of each the bytes, and whether it has more
 unfoldable pub shown : List ℕ → Bool → List ℕ → Bool → List ℕ
 shown layout layout_more bytes more = printed layout (answer layout layout_more bytes more)
+
+-- a file as it is handed over: its bytes, or that it has more than a buffer holds
+abbrev pub bytes_in : Option (Bor (List ℕ)) → List ℕ
+bytes_in (Some bytes) = bytes.now
+bytes_in None = []
+
+abbrev pub more_in : Option (Bor (List ℕ)) → Bool
+more_in (Some bytes) = false
+more_in None = true
+
+abbrev pub shown_files : Option (Bor (List ℕ)) → Option (Bor (List ℕ)) → List ℕ
+shown_files layout bytes = shown (bytes_in layout) (more_in layout) (bytes_in bytes) (more_in bytes)
 
 -- ---- a piece of it: at most so many bytes from a place on
 

@@ -2,11 +2,11 @@
 
 #![tactic(auto)]
 
-ghost use Rattle.std.specs.Prelude.{◌≡◌, Bool, [], ◌∷◌, ◌++◌, ℕ, ◌≤◌, length, take, drop, replicate};
+ghost use Rattle.std.specs.Prelude.{◌≡◌, true, false, Some, IfOk, OnOk, IfErr, [], ◌∷◌, ◌++◌, ℕ, ◌≤◌, length, take, drop, replicate};
 ghost use Rattle.codes.specs.Refusals.{number_of, number_in};
 ghost use Rattle.hex_field.specs.Hex.{hex_of};
 ghost use Rattle.shown.specs.Shown.{ended, is_plain, escape, escaped, number_text, float_text, kind_name, value_of, name_of, lines_of, listed};
-ghost use Rattle.shown.specs.Shown.{refused_text, item_room, too_long, answer, shown, piece};
+ghost use Rattle.shown.specs.Shown.{refused_text, item_room, too_long, answer, bytes_in, more_in, shown_files, piece};
 ghost use Rattle.text.specs.Text.{front};
 ghost use Rattle.walks.specs.Records.{most, RecordRead};
 ghost use Rattle.decode.specs.Answered.{words_used, bytes_used};
@@ -64,6 +64,7 @@ fn is_plain(b: u8) -> bool
 
 // ---- kinds and names
 
+// Kept: a Display of `Tag` would write through a formatter, where the Sink takes bytes; and a number above the tags has a name too, the empty one.
 #[tactic(auto, unfolding(crate::specs::Shown::kind_name))]
 fn kind_name(tag: u64) -> &'static [u8]
     ensures { result.now ≡ kind_name tag }
@@ -216,77 +217,80 @@ impl<'a> Sink<'a> {
 
 // ---- the whole
 
-// The bytes of a file, and whether it has more.
-#[derive(Clone, Copy)]
-pub struct File<'a> {
-    pub bytes: &'a [u8],
-    pub more: bool,
-}
-
-impl<'a> File<'a> {
-    // Whether the file is above what a buffer holds.
-    fn too_long(self) -> bool
-        ensures { result ≡ too_long self.entry.bytes.now self.entry.more }
-    {
-        self.more || MAX_RECORD < self.bytes.len()
+// A file's bytes, if a buffer holds them all.
+fn within(file: Option<&[u8]>, refusal: Refusal) -> Result<&[u8], Refusal>
+    ensures ok { IfOk result (λ bytes. (file.entry ≡ Some bytes) × (length bytes.now ≤ most)) }
+    ensures err { IfErr result (λ e. (too_long (bytes_in file.entry) (more_in file.entry) ≡ true) × (e ≡ refusal)) }
+{
+    match file {
+        Some(bytes) if bytes.len() <= MAX_RECORD => Ok(bytes),
+        _ => Err(refusal),
     }
 }
 
 // The value list of a layout's text and a record, into buffers of zeros.
 fn read_both(
-    layout: File,
-    record: File,
+    layout: &[u8],
+    record: Option<&[u8]>,
     items: &mut [u64],
     text: &mut [u8],
 ) -> Result<Reading, Refusal>
-    requires { (items.old ≡ replicate item_room 0) × (text.old ≡ replicate most 0) }
-    ensures { RecordRead (answer layout.entry.bytes.now layout.entry.more «record».entry.bytes.now «record».entry.more)
+    requires zeros { (items.old ≡ replicate item_room 0) × (text.old ≡ replicate most 0) }
+    requires short { length layout.now ≤ most }
+    ensures { RecordRead (answer layout.now false (bytes_in «record».entry) (more_in «record».entry))
         (number_in result) (words_used result) (bytes_used result) items.old items.new text.old text.new [] [] }
 {
-    if layout.too_long() {
-        return Err(Refusal::NoRoom);
-    }
     let mut words = [0u32; 6144];
     let mut masks = [0u8; 65536];
-    let read = read_layout(layout.bytes, &mut words, &mut masks)?;
-    if record.too_long() {
-        return Err(Refusal::RecordLength);
-    }
+    let read = read_layout(layout, &mut words, &mut masks)?;
     let layout = Layout {
         words: &words[..read.words],
         masks: &masks[..read.masks],
         page: read.page,
     };
+    let record = within(record, Refusal::RecordLength)?;
     let mut counts = [0i64; 1024];
-    decode_record(&layout, record.bytes, items, text, &mut counts)
+    decode_record(&layout, record, items, text, &mut counts)
 }
 
-// The bytes that `show` prints, from a place on, to the front of a buffer; how many.
-pub fn show_at(layout: File, record: File, at: usize, out: &mut [u8]) -> usize
-    ensures value { result ≡ length (piece at (length out.old) (shown layout.entry.bytes.now layout.entry.more «record».entry.bytes.now «record».entry.more)) }
-    ensures out_after { out.new ≡
-        front (piece at (length out.old) (shown layout.entry.bytes.now layout.entry.more «record».entry.bytes.now «record».entry.more)) out.old }
+impl<'a> Sink<'a> {
+    // The lines of the value list that a record gives; nothing where it or the layout is refused.
+    fn push_record(&mut self, layout: Option<&[u8]>, record: Option<&[u8]>) -> Result<(), Refusal>
+        ensures ok { OnOk result (Took (state self.old) (shown_files layout.entry «record».entry) (state self.new)) }
+        ensures err { IfErr result (λ e. (state self.new ≡ state self.old) × (refused_text (number_of e) ≡ shown_files layout.entry «record».entry)) }
+    {
+        let layout = within(layout, Refusal::NoRoom)?;
+        let mut items = [0u64; 8192];
+        let mut text = [0u8; 65536];
+        let reading = read_both(layout, record, &mut items, &mut text)?;
+        let list = ValueList {
+            items: &items[..reading.items],
+            text: &text[..reading.text],
+        };
+        self.push_list(layout, &list);
+        Ok(())
+    }
+
+    // The same, or what refuses.
+    fn push_shown(&mut self, layout: Option<&[u8]>, record: Option<&[u8]>)
+        ensures { Took (state self.old) (shown_files layout.entry «record».entry) (state self.new) }
+    {
+        if let Err(refusal) = self.push_record(layout, record) {
+            self.push_refused(refusal);
+        }
+    }
+}
+
+// The bytes that `show` prints, from a place on, to the front of a buffer; how many. None stands for a file that has more bytes than a buffer holds.
+pub fn show_at(layout: Option<&[u8]>, record: Option<&[u8]>, at: usize, out: &mut [u8]) -> usize
+    ensures value { result ≡ length (piece at (length out.old) (shown_files layout.entry «record».entry)) }
+    ensures out_after { out.new ≡ front (piece at (length out.old) (shown_files layout.entry «record».entry)) out.old }
 {
-    let mut items = [0u64; 8192];
-    let mut text = [0u8; 65536];
-    let answer = read_both(layout, record, &mut items, &mut text);
     let mut sink = Sink {
         out,
         skip: at,
         used: 0,
     };
-    match answer {
-        Ok(reading) => {
-            let list = ValueList {
-                items: &items[..reading.items],
-                text: &text[..reading.text],
-            };
-            sink.push_list(layout.bytes, &list);
-            sink.used
-        }
-        Err(refusal) => {
-            sink.push_refused(refusal);
-            sink.used
-        }
-    }
+    sink.push_shown(layout, record);
+    sink.used
 }

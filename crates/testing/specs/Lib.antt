@@ -1,2 +1,3 @@
 -- What the programs that compare answers go by.
 pub mod Holds
+pub mod Numbers

@@ -1,9 +1,10 @@
-// What the programs that compare answers share: a cell, the front of what is given, and whether a buffer holds what it should.
+// What the programs that compare answers share: a cell, a number that bytes spell, the front of what is given, how many cases agree, and whether a buffer holds what it should.
 
 #![tactic(auto)]
 
-ghost use Rattle.std.specs.Prelude.{◌≡◌, ◌++◌, ℕ, map, length, take, drop, set, slice_index, min, max, ◌+◌};
+ghost use Rattle.std.specs.Prelude.{◌≡◌, ◌≤◌, ◌++◌, ℕ, map, length, take, drop, set, slice_index, min, max, ◌+◌, ◌%◌, ◌^◌, cond, MatchOption};
 ghost use Rattle.testing.specs.Holds.{low_word, holds};
+ghost use Rattle.testing.specs.Numbers.{Spells, spelled};
 
 // A cell of a buffer that is compared by its number.
 pub trait Cell: Copy {
@@ -37,7 +38,18 @@ impl Cell for u64 {
     }
 }
 
+// The number that bytes spell in a radix.
+#[tactic(auto, using(crate::proofs::Numbers::spells_text))]
+pub fn number(part: &[u8], radix: u32) -> Option<u64>
+    requires { (2 ≤ radix) × (radix ≤ 36) }
+    ensures { MatchOption result (Spells radix part.now → ⊥) (λ v. Spells radix part.now × (v ≡ spelled radix part.now)) }
+{
+    let text = std::str::from_utf8(part).ok()?;
+    u64::from_str_radix(text, radix).ok()
+}
+
 // The byte at a place; 0 where there is none.
+// Kept: its definition, `slice_index`, gives that 0, which is no letter of a line; an Option would be taken apart at once.
 pub fn at(bytes: &[u8], i: usize) -> u8
     ensures { result ≡ slice_index bytes.now i }
 {
@@ -86,6 +98,35 @@ impl<'a, T: Copy> Gathered<'a, T> {
     }
 }
 
+// ---- what is counted
+
+// How many cases agree, and how many differ.
+#[derive(Clone, Copy, Default)]
+pub struct Tally {
+    pub agree: u64,
+    pub differ: u64,
+}
+
+impl Tally {
+    // One case more.
+    pub fn count(&mut self, agrees: bool)
+        ensures agree { self.new.agree ≡ cond agrees ((self.old.agree + 1) % 2 ^ 64) self.old.agree }
+        ensures differ { self.new.differ ≡ cond agrees self.old.differ ((self.old.differ + 1) % 2 ^ 64) }
+    {
+        if agrees {
+            self.agree = self.agree.wrapping_add(1);
+        } else {
+            self.differ = self.differ.wrapping_add(1);
+        }
+    }
+
+    pub fn cases(self) -> u64
+        ensures { result ≡ (self.agree + self.differ) % 2 ^ 64 }
+    {
+        self.agree.wrapping_add(self.differ)
+    }
+}
+
 // ---- a layout's words, given as those of a list
 
 pub fn low_word(x: u64) -> u32
@@ -98,12 +139,14 @@ pub fn low_word(x: u64) -> u32
 pub fn narrow(words: &[u64], layout: &mut [u32])
     ensures { layout.new ≡ take (length layout.old) (map low_word words.now) ++ drop (length words.now) layout.old }
 {
+    // Kept: tried as a zip with `iter_mut`; no contract then says what the cells hold behind the loop.
     for i in 0..words.len().min(layout.len()) {
         layout[i] = low_word(words[i]);
     }
 }
 
-// The number of the cell at a place; 0 where there is none.
+// The number of the cell at a place.
+// Kept: 0 where there is none, since behind the values a buffer should hold zeros.
 fn number_at<T: Cell>(cells: &[T], i: usize) -> u64
     ensures { result ≡ slice_index (map T.number cells.now) i }
 {

@@ -12,7 +12,7 @@ use codes::{Kind, Refusal, Tag};
 use decode_scalar::Field;
 use reading::read_full;
 use std::io;
-use testing::{at, first};
+use testing::{Tally, at, first};
 use value::{Scalar, Whole, Words};
 
 const PAGE_037: [u8; 256] = [
@@ -31,37 +31,19 @@ const PAGE_037: [u8; 256] = [
     56, 57, 179, 219, 220, 217, 218, 159,
 ];
 
-// How many of the cases that were tried agree.
-#[derive(Drop)]
-struct Tally {
-    agree: u64,
-    cases: u64,
-}
-
-impl Tally {
-    fn new() -> Tally {
-        Tally { agree: 0, cases: 0 }
-    }
-
-    fn count(&mut self, agrees: bool) {
-        self.cases = self.cases.wrapping_add(1);
-        self.agree = self.agree.wrapping_add(u64::from(agrees));
-    }
-
-    fn print(&self, rt: &impl Print, name: &str) -> io::Result<()> {
-        println!(rt; "{name}: {} of {} agree", self.agree, self.cases)
-    }
+fn print(rt: &impl Print, tally: Tally, name: &str) -> io::Result<()> {
+    println!(rt; "{name}: {} of {} agree", tally.agree, tally.cases())
 }
 
 // ---- page 037
 
 fn page_037(rt: &impl Print) -> io::Result<()> {
-    let mut tally = Tally::new();
+    let mut tally = Tally::default();
     for (b, x) in PAGE_037.iter().enumerate() {
         let byte = (b % 256) as u8;
         tally.count(ebcdic::to_ascii(byte) == *x && ebcdic::to_ebcdic(*x) == byte);
     }
-    tally.print(rt, "page 037")
+    print(rt, tally, "page 037")
 }
 
 // ---- COBOL: rows of 83 bytes, "ed + 000000000000123456 ZZ,ZZ9.99-         10 hex of the bytes"
@@ -151,6 +133,7 @@ fn decode_int(part: &[u8]) -> Option<Whole> {
 
 fn encode_row(r: Row, part: &mut [u8]) -> Result<(), Refusal> {
     let n = r.number();
+    // Kept: a line's letter says what it is.
     match r.kind() {
         b'p' => packed::encode(part, n, r.signed()),
         b'z' => zoned::encode(part, 0, n, r.signed()),
@@ -163,6 +146,7 @@ fn encode_row(r: Row, part: &mut [u8]) -> Result<(), Refusal> {
 }
 
 fn decode_row(r: Row, part: &[u8]) -> Option<Whole> {
+    // Kept: a line's letter says what it is.
     match r.kind() {
         b'p' => packed::decode(part).ok(),
         b'z' => zoned::decode(part, 0).ok(),
@@ -196,7 +180,7 @@ fn departs(r: Row) -> bool {
 }
 
 fn cobol(rt: &impl Print, all: &[u8], kind: u8, name: &str) -> io::Result<()> {
-    let mut tally = Tally::new();
+    let mut tally = Tally::default();
     let mut other: u64 = 0;
     for bytes in all.chunks_exact(ROW) {
         let r = Row { bytes };
@@ -208,7 +192,7 @@ fn cobol(rt: &impl Print, all: &[u8], kind: u8, name: &str) -> io::Result<()> {
             }
         }
     }
-    tally.print(rt, name)?;
+    print(rt, tally, name)?;
     if other > 0 {
         println!(rt; "{other} depart as docs/DIFFERENCES.md says")?;
     }
@@ -221,6 +205,7 @@ fn mixed(sum: u64, w: u64) -> u64 {
     sum % 0x1_0000_0000 * 31 + w % 0x1_0000_0000 + w / 0x1_0000_0000
 }
 
+// Kept: none of the numbers that are summed is refused, so that the 0 of these two is never summed for one.
 fn read_in(part: &mut [u8], v: u64, bits: u32) -> u64 {
     binary::put_word(part, 1, v);
     float::parse_float(part, bits, 1).map_or(0, |v| value::Words::from(v).a)
@@ -362,11 +347,11 @@ const PUBLISHED: [(u64, u64); 13] = [
 ];
 
 fn published(rt: &impl Print) -> io::Result<()> {
-    let mut tally = Tally::new();
+    let mut tally = Tally::default();
     for (number, half) in &PUBLISHED {
         tally.count(write_half(*number) == *half);
     }
-    tally.print(rt, "binary16 as published, written")
+    print(rt, tally, "binary16 as published, written")
 }
 
 fn main(rt: HostRuntime) -> io::Result<()> {

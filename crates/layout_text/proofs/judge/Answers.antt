@@ -1,5 +1,5 @@
 -- A line that is refused makes the text unlawful (`going-stop`); one entry more is `going_next`, and at the end the text is lawful (`going_end`).
-use Rattle.std.proofs.Common.{◌≡◌, ◌&&◌, ◌∙◌}
+use Rattle.std.proofs.Common.{◌≡◌, ◌&&◌, ◌∙◌, arith}
 use Rattle.std.proofs.lemmas.Result.{err_from_is_err_and}
 use borrow.Author.Rules.{rules}
 use Rattle.layout_text.proofs.Judging.{going_start, going-room, going-inside, going_on, going_next, going-stop, going_end}
@@ -10,7 +10,7 @@ pub returns-in_err-page : goal.returns-in_err-page
 returns-in_err-page c = let p = err_from_is_err_and c.from_residual.result c.from_residual.ensures.1 in rw (p.1, p.2) c.in_err-page.ensures
 
 pub loop-at-init : goal.loop-at-init
-loop-at-init c = going_start c.args.text.now c.in_ok-page.page c.args.spans.now c.args.groups.now c.in_ok-page.ensures c.requires.spans_len c.requires.groups_len
+loop-at-init c = going_start c.args.text.now c.in_ok-page.page c.args.spans.now c.args.groups.now c.in_ok-page.ensures (omega arith) (omega arith)
 
 pub returns-in_err-said : goal.returns-in_err-said
 returns-in_err-said c =

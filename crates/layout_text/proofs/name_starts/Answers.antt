@@ -3,8 +3,8 @@ use Rattle.std.proofs.Common.{arith, ap, ◌∙◌, ℕ, List, [], length, get_o
 use Rattle.layout_text.proofs.Spellings.{table-names, table-count, table-cells, place_there, count-there, spelled_there, names_last, count-not, spelled_not, cells-not}
 use Rattle.layout_text.proofs.name_starts.Goals as goal
 
-pub see_all-requires-clause-lasts : goal.see_all-requires-clause-lasts
-see_all-requires-clause-lasts c = names_last c.args.text.now c.in-Ok.reading c.in-Ok.ensures.value c.in-Ok.ensures.short
+pub see_all-requires : goal.see_all-requires
+see_all-requires c = names_last c.args.text.now c.in-Ok.reading c.in-Ok.ensures.value c.in-Ok.ensures.short
 
 pub returns-in-Ok : goal.returns-in-Ok
 returns-in-Ok c =

@@ -36,6 +36,24 @@ page-asked l =
 
 -- ---- question 3
 
+span-said : (l : List (List ℕ)) (i : ℕ) → (entry_said l i).span ≡ number_said span_word (line_in l i 6)
+unfolding entry_said
+span-said l i = refl
+
+kind-said : (l : List (List ℕ)) (i : ℕ) → (entry_said l i).kind ≡ kind_said l i
+unfolding entry_said
+kind-said l i = refl
+
+pub spans-asked : (l : List (List ℕ)) (spans : List ℕ) (groups : List Bool) → ((i : ℕ) → i < count_of l → get_or spans i 0 ≡ number_said span_word (line_in l i 6)) → ((i : ℕ) → i < count_of l → get_or groups i false ≡ eqb (kind_said l i) 9)
+    → spans_ok (words_of l) ≡ nested_in spans groups 8 0 (count_of l)
+unfolding spans_ok nested_in
+spans-asked l spans groups a b =
+    ap (λ (n : ℕ). nested span_of is_group 8 (Rattle.spans.specs.Tree.tree (entry_at (words_of l)) span_of 0 n)) (words_count l (count_of l))
+    ∙ nested-as (entry_at (words_of l)) span_of is_group (λ i. i) (span_in spans) (group_in groups) (count_of l)
+    (λ i h. ap span_of (sym (entry-words l (count_of l) i h)) ∙ span-said l i ∙ sym (a i h))
+    (λ i h. ap is_group (sym (entry-words l (count_of l) i h)) ∙ ap (λ (n : ℕ). eqb n 9) (kind-said l i) ∙ sym (b i h))
+    8 0 (count_of l) (omega arith)
+
 -- ---- all
 
 abbrev ranges : List (List ℕ) → Bool

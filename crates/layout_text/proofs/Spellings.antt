@@ -16,7 +16,7 @@ use Rattle.lists.proofs.Lists.{drop-replicate, zeros-behind}
 use Rattle.lines.specs.Lines.{line_from, start_in, starts_with, mask_ok}
 use Rattle.lines.specs.Names.{distinct, names_at}
 use Rattle.lines.proofs.Laws.{start-there}
-use Rattle.lines.proofs.Sight.{get_or-map-at, names-long}
+use Rattle.lines.proofs.Sight.{get_or-map-at}
 use Rattle.layout_text.specs.declared.LayoutReading.{LayoutReading}
 use Rattle.layout_text.specs.Form.{lines_of, is_none, mask_for, count_of, line_in, kind_said, all, tests, entry_lawful, mask_word}
 use Rattle.layout_text.specs.Reading.{width_said, mask_said, names_of, masks_below, masks_of, mask_long, text_checked, refusal, read_of, spelling, first_start, spelling_at, name_count}
@@ -73,7 +73,6 @@ room-enough text = by (eqb (text_checked text) 0) refl
 -- ---- the names that a table points at
 
 module _ (text starts : List ℕ) (count number : ℕ) where
-
   pub start_none : min count (length starts) ≤ number → 0 ≡ start_in text (get_or (take count starts) number 0)
   start_none h =
       let z : get_or (take count starts) number 0 ≡ 0 = get_or-eq_default (take count starts) 0 {n = number} (omega (arith, length-take count starts)) in

@@ -203,13 +203,6 @@ module _ {text : List ℕ} {at k seen : ℕ} {starts starts₀ : List ℕ} (g : 
   pub seen-told : Told text k at s
   seen-told = t k g.here
 
-  -- place in the table, and places that it can hold
-  pub record Room : Type 0 where
-    pub count_in_bounds : seen + 2 ≤ length starts
-    pub starts_len : length starts ≡ 1024
-    pub name_bound : s.name < 4294967296
-    pub depending_bound : MatchOption s.depending ⊤ (λ d. d < 4294967296)
-
   pub seen_next : (same : List ℕ) → same ≡ text → (c : ℕ) (starts' : List ℕ) → take c starts' ≡ see_both same (take seen starts) s.name s.depending → drop c starts' ≡ drop c starts
       → (seen ≤ c) × (c ≤ seen + 2) → length starts' ≡ length starts → Seen-to text s.next (k + 1) c starts' starts₀
   seen_next same e c starts' x' d y z = let x : take c starts' ≡ see_both text (take seen starts) s.name s.depending = x' ∙ ap (λ t. see_both t (take seen starts) s.name s.depending) e in record {

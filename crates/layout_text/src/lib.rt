@@ -18,6 +18,7 @@ ghost use Rattle.layout_text.specs.Walk.{entry_with, fine_alone, FindsIn, nested
 use codes::{ABSENT, Kind, Refusal};
 use layout::Entry;
 use lines::{Found, Table, mask_ok, name_at, name_ok, number_of, value_at};
+use lists::put;
 use spans::{end_of, span_ok};
 
 // ---- one line
@@ -236,15 +237,6 @@ fn entry_fine(said: Said) -> bool
 
 // ---- the questions
 
-// Stores a value at k where there is a k-th place.
-fn note<T: Copy>(cells: &mut [T], k: usize, value: T)
-    ensures { cells.new ≡ set cells.old k value }
-{
-    if k < cells.len() {
-        cells[k] = value;
-    }
-}
-
 // What one pass over a lawful text finds: its page, how many entries and mask bytes it has, and whether each entry passes question 2.
 // Kept: `fine` is no sign that the others stand: question 2 is asked only after question 1, and they are found whatever it says.
 #[derive(Clone, Copy)]
@@ -267,8 +259,8 @@ fn judge(text: &[u8], spans: &mut [u32; 512], groups: &mut [bool; 512]) -> Resul
     // Kept: no plainer. The walk goes by positions, since an entry takes as many bytes as its lines.
     while at < text.len() {
         let said = entry_lines(text, at)?;
-        note(spans, count, said.span);
-        note(groups, count, Kind::Group.is(said.kind));
+        put(spans, count, said.span);
+        put(groups, count, Kind::Group.is(said.kind));
         fine = entry_fine(said) && fine;
         masks += said.length;
         at = said.next;

@@ -158,3 +158,51 @@ module _ {A : Type 0} (at : ℕ → A) (span : A → ℕ) (may : A → Bool) whe
     where
       own-span : span_ok (span x) (may x) (lo + 1 - (lo + 1)) ≡ true
       own-span = let n : lo + 1 - (lo + 1) ≡ 0 = omega arith in rw (n, s) (or-true (may x))
+
+-- entries with the same spans, of which the same ones may have members, are nested alike
+module _ {A B : Type 0} (at : ℕ → A) (span : A → ℕ) (may : A → Bool) (at' : ℕ → B) (span' : B → ℕ) (may' : B → Bool)
+    (n : ℕ) (spans : (i : ℕ) → i < n → span (at i) ≡ span' (at' i)) (mays : (i : ℕ) → i < n → may (at i) ≡ may' (at' i)) where
+  end-most : (s lo hi : ℕ) → hi ≤ n → end_of s lo hi ≤ n
+  end-most s lo hi h = omega arith
+
+  size-as : (f lo hi : ℕ) → hi ≤ n → size (tree_in f at span lo hi) ≡ size (tree_in f at' span' lo hi)
+  unfolding tree_in size
+  size-as zero lo hi h = refl
+  size-as (suc f) lo hi h = go (ltb lo hi) refl (λ l k. size-as f l k)
+    where
+      go : (b : Bool) → ltb lo hi ≡ b → ((l k : ℕ) → k ≤ n → size (tree_in f at span l k) ≡ size (tree_in f at' span' l k))
+          → size (cond b (node (at lo) (tree_in f at span (suc lo) (end_of (span (at lo)) lo hi)) (tree_in f at span (end_of (span (at lo)) lo hi) hi)) none)
+          ≡ size (cond b (node (at' lo) (tree_in f at' span' (suc lo) (end_of (span' (at' lo)) lo hi)) (tree_in f at' span' (end_of (span' (at' lo)) lo hi) hi)) none)
+      go false e ih = refl
+      go true e ih =
+          let s : span (at lo) ≡ span' (at' lo) = spans lo (omega (arith, ltb-true lo hi e)) in
+          let d : end_of (span (at lo)) lo hi ≡ end_of (span' (at' lo)) lo hi = ap (λ x. end_of x lo hi) s in
+          ap₂ (λ x y. suc (x + y))
+          (ih (suc lo) (end_of (span (at lo)) lo hi) (end-most (span (at lo)) lo hi h) ∙ ap (λ x. size (tree_in f at' span' (suc lo) x)) d)
+          (ih (end_of (span (at lo)) lo hi) hi h ∙ ap (λ x. size (tree_in f at' span' x hi)) d)
+
+  nested-as-in : (f levels lo hi : ℕ) → hi ≤ n → nested span may levels (tree_in f at span lo hi) ≡ nested span' may' levels (tree_in f at' span' lo hi)
+  unfolding tree_in nested
+  nested-as-in zero levels lo hi h = refl
+  nested-as-in (suc f) levels lo hi h = go levels (ltb lo hi) refl (λ v l k. nested-as-in f v l k)
+    where
+      go : (v : ℕ) (b : Bool) → ltb lo hi ≡ b → ((u l k : ℕ) → k ≤ n → nested span may u (tree_in f at span l k) ≡ nested span' may' u (tree_in f at' span' l k))
+          → nested span may v (cond b (node (at lo) (tree_in f at span (suc lo) (end_of (span (at lo)) lo hi)) (tree_in f at span (end_of (span (at lo)) lo hi) hi)) none)
+          ≡ nested span' may' v (cond b (node (at' lo) (tree_in f at' span' (suc lo) (end_of (span' (at' lo)) lo hi)) (tree_in f at' span' (end_of (span' (at' lo)) lo hi) hi)) none)
+      go v false e ih = refl
+      go zero true e ih = refl
+      go (suc v) true e ih =
+          let s : span (at lo) ≡ span' (at' lo) = spans lo (omega (arith, ltb-true lo hi e)) in
+          let m : may (at lo) ≡ may' (at' lo) = mays lo (omega (arith, ltb-true lo hi e)) in
+          let d : end_of (span (at lo)) lo hi ≡ end_of (span' (at' lo)) lo hi = ap (λ x. end_of x lo hi) s in
+          let z : size (tree_in f at span (suc lo) (end_of (span (at lo)) lo hi)) ≡ size (tree_in f at' span' (suc lo) (end_of (span' (at' lo)) lo hi)) =
+          size-as f (suc lo) (end_of (span (at lo)) lo hi) (end-most (span (at lo)) lo hi h) ∙ ap (λ x. size (tree_in f at' span' (suc lo) x)) d in
+          let a : nested span may v (tree_in f at span (suc lo) (end_of (span (at lo)) lo hi)) ≡ nested span' may' v (tree_in f at' span' (suc lo) (end_of (span' (at' lo)) lo hi)) =
+          ih v (suc lo) (end_of (span (at lo)) lo hi) (end-most (span (at lo)) lo hi h) ∙ ap (λ x. nested span' may' v (tree_in f at' span' (suc lo) x)) d in
+          let b : nested span may (suc v) (tree_in f at span (end_of (span (at lo)) lo hi) hi) ≡ nested span' may' (suc v) (tree_in f at' span' (end_of (span' (at' lo)) lo hi) hi) =
+          ih (suc v) (end_of (span (at lo)) lo hi) hi h ∙ ap (λ x. nested span' may' (suc v) (tree_in f at' span' x hi)) d in
+          λ i. (eqb (s i) (suc (z i)) && (m i || eqb (z i) 0)) && a i && b i
+
+  pub nested-as : (levels lo hi : ℕ) → hi ≤ n → nested span may levels (tree at span lo hi) ≡ nested span' may' levels (tree at' span' lo hi)
+  unfolding tree
+  nested-as levels lo hi h = nested-as-in (hi - lo) levels lo hi h

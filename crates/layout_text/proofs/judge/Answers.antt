@@ -47,7 +47,7 @@ loop-at-preserved c =
       | then-entry_fine w ↦ rw w.if-entry_fine.true w.fine-is
       | else-entry_fine w ↦ rw w.if-entry_fine.false (w.fine-is ∙ w.if-entry_fine.false)
     ] in
-    going_next c.args.text.now l.at l.count l.fine l.masks l.spans l.groups l.invariant c.in_ok-said.said c.in_ok-said.ensures c.entry_fine.result c.if-entry_fine.fine _ _ c.is.result c.entry_fine.ensures fine c.note.ensures c.note-in-loop-at.ensures c.is.ensures
+    going_next c.args.text.now l.at l.count l.fine l.masks l.spans l.groups l.invariant c.in_ok-said.said c.in_ok-said.ensures c.entry_fine.result c.if-entry_fine.fine _ _ c.is.result c.entry_fine.ensures fine c.put.ensures c.put-in-loop-at.ensures c.is.ensures
 
 pub returns : goal.returns
 returns c =

@@ -10,9 +10,8 @@ use lib.Dec.{eqb, leb, eqb→eq, lit<}
 use lib.ListN.{length, get_or}
 use borrow.Author.Tests.{le-leb, leb-true}
 use Rattle.lists.proofs.Table.{at}
-use Rattle.value.specs.Number.{some, unlawful}
-use Rattle.value.proofs.Answers.{Numbered, numbered-cond, numbered-in}
-use Rattle.binary.specs.Binary.{half_of, width_ok, signed_word, unsigned_word, integer_of}
+use Rattle.value.specs.Number.{some}
+use Rattle.binary.specs.Binary.{half_of, width_ok, signed_word}
 use Rattle.binary.proofs.Words.{word_below}
 use Rattle.binary.specs.Bytes.{word_in}
 

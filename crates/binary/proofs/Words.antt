@@ -4,13 +4,13 @@ use mathlib.Core.Bool.{Bool, true, false, cond}
 use mathlib.Core.List.{List, [], ◌∷◌, ◌++◌, append-nil, append_assoc}
 use Prim.Native.Nat.{ℕ, zero, suc, ◌+◌, ◌-◌, ◌*◌, ◌/◌, ◌%◌, ◌^◌, ◌≤◌, ◌<◌, suc-le-suc}
 use borrow.Author.Tests.{eq-eqb, ne_eqb}
-use native.Mathlib.Nat.{sub-zero, not-suc-le-zero, le_of_suc-le-suc, mod-lt, mod-one, pow-zero, pow-suc, pow-succ', add-mul, mul_assoc, add_assoc, zero-mul, zero-add, div-div-eq-div-mul, div-one, zero-lt-suc}
+use native.Mathlib.Nat.{sub-zero, not-suc-le-zero, le_of_suc-le-suc, mod-lt, mod-one, pow-zero, pow-suc, pow-succ', add-mul, mul_assoc, add_assoc, zero-mul, zero-add, div-div-eq-div-mul, zero-lt-suc}
 use native.Mathlib.Numerals.{add-one}
 use native.Mathlib.Omega.{arith}
 use lib.Arith.{mod-mul, digits_lt}
 use lib.Dec.{eqb, lit<}
 use lib.ListN.{length, get_or, take, drop, set}
-use lib.Seq.{take_all, take-suc-set, drop-length}
+use lib.Seq.{take_all, take-suc-set}
 use Rattle.std.specs.List.{fold}
 use Rattle.std.proofs.Common.{reverse, ◌⊎◌, inl, inr}
 use Rattle.std.proofs.lemmas.Bool.{cases_eq}

@@ -1,17 +1,14 @@
 -- What the call and its parts leave, from what the reader, the writer and the clearing leave: each law takes the facts of one way out of a function and makes the record that its contract cites.
 use mathlib.Core.Path.{◌≡◌, refl, sym, ap, ◌∙◌}
-use mathlib.Core.Bool.{Bool}
 use mathlib.Core.List.{List, []}
 use Prim.Native.Nat.{ℕ, ◌-◌, ◌/◌, ◌≤◌}
 use native.Mathlib.Omega.{arith}
 use lib.IntN.{ℤ, pos}
 use lib.ListN.{length, take, replicate}
 use Rattle.zeros.proofs.Filled.{in-front}
-use Rattle.items.specs.Items.{item_words, values}
 use Rattle.walks.specs.Records.{asking, filled, Decoded, decoded, decode_record, read_into, number_of, items_of, texts_of, RecordRead, Encoded, refused, encoded, written_into, refusal_of, bytes_of, RecordWritten}
 use Rattle.walks.specs.Records as Records
 use Rattle.walks.proofs.Asked.{asking-none, asking-some}
-use Rattle.convert.specs.Same.{all_kept}
 use Rattle.convert.specs.Calls.{kept_in, back_asks, rewritten, convert_record, converted_into, Cleared, RecordConverted}
 use Rattle.convert.specs.Parts.{BackJudged, ListRewritten}
 

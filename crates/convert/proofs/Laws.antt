@@ -1,25 +1,21 @@
 -- Same numbers, bytes and items as the code asks them: each law says what one way out of a function answers.
-use mathlib.Core.Path.{◌≡◌, refl, sym, ap, ap₂, ◌∙◌}
+use mathlib.Core.Path.{◌≡◌, refl, sym, ap, ◌∙◌}
 use mathlib.Core.Bool.{Bool, true, false, ◌&&◌, not, true≢false}
 use mathlib.Core.List.{List, [], ◌∷◌}
 use Prim.Native.Nat.{ℕ, suc, ◌+◌, ◌-◌, ◌*◌, ◌/◌, ◌%◌, ◌^◌, ◌<◌, ◌≤◌}
 use native.Mathlib.Omega.{arith}
-use native.Mathlib.Numerals.{add-one}
-use native.Mathlib.Nat.{mul_assoc, eq_of_mul-eq-mul_right, mul-mod_left, mul-div_cancel, div-add-mod', pow-le-pow_right, mul-le-mul_right, zero-mul, one-mul}
+use native.Mathlib.Nat.{mul_assoc, eq_of_mul-eq-mul_right, mul-mod_left, mul-div_cancel, div-add-mod', pow-le-pow_right, mul-le-mul_right, one-mul}
 use lib.Pow.{pow-add}
 use lib.Dec.{eqb}
-use lib.ListN.{length, get_or, take, drop, length-drop}
-use lib.Seq.{drop-cons}
+use lib.ListN.{length}
 use lib.Ieee.{binary64, nan_bits}
 use borrow.Author.Tests.{eq-eqb, ne_eqb}
 use Rattle.items.specs.declared.Item.{Item}
-use Rattle.items.specs.Items.{text_ok}
 use Rattle.codes.specs.Codes.{tag_decimal}
 use Rattle.lists.proofs.Logic.{alike, eqb_swap}
 use Rattle.value.proofs.Digits.{pow-pos10}
-use Rattle.value.specs.Word.{minus_in, size_in}
 use Rattle.walks.specs.Decide.{same}
-use Rattle.convert.specs.Same.{Exact, exact, exact_in, same_bool, same_size, same_decimal, is_number, same_text, same_float, same_kind, same_item}
+use Rattle.convert.specs.Same.{exact_in, same_size, same_float}
 
 -- ---- sizes
 

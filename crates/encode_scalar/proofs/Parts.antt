@@ -8,16 +8,12 @@ use native.Mathlib.Omega.{arith}
 use lib.Dec.{eqb, leb, ltb}
 use lib.ListN.{length, drop, set, length-map}
 use lib.Seq.{drop-length}
-use borrow.Author.Tests.{le-leb, lt-leb, leb-true, eqb-true}
+use borrow.Author.Tests.{le-leb, eqb-true}
 use Rattle.lists.proofs.Logic.{and_right}
 use Rattle.value.specs.Answer.{Answer, refused, given}
 use Rattle.value.specs.declared.Whole.{Whole}
-use Rattle.value.specs.Number.{no_number}
 use Rattle.value.proofs.Room.{room-some}
 use Rattle.ebcdic.specs.Ebcdic.{onto_page}
-use Rattle.text.specs.Text.{written}
-use Rattle.text.specs.Shown.{Shows, shows, none, refusal_at, encoded_in}
-use Rattle.text.proofs.Back.{written-length}
 use Rattle.display.specs.Display.{int_fits, int_bytes, decimal_fits, has_sign}
 use Rattle.display.proofs.Back.{length-bytes, decimal-fits}
 use Rattle.binary.specs.Binary.{integer_bytes}
@@ -30,7 +26,7 @@ use Rattle.zoned.specs.Zoned as Zoned
 use Rattle.zoned.proofs.Back as ZonedBack
 use Rattle.edited.specs.Edited as Edited
 use Rattle.edited.proofs.Round as EditedRound
-use Rattle.encode_scalar.specs.Encode.{text_bytes, embedded_fit, int_fit, int_text, decimal_fit, decimal_bytes, decimal_judged, decimal_written, edited_written, part_after}
+use Rattle.encode_scalar.specs.Encode.{embedded_fit, int_fit, int_text, decimal_fit, decimal_bytes, edited_written, part_after}
 use Rattle.decode_scalar.specs.Decode.{flag, is_embedded}
 
 -- bytes that fill the part

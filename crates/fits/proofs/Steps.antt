@@ -1,10 +1,9 @@
 -- The code's tests, one at a time, give the tests of the definition.
 use mathlib.Core.Path.{◌≡◌, refl, sym, ap, ◌∙◌, subst}
 use mathlib.Core.List.{List, [], ◌∷◌}
-use mathlib.Core.Bool.{Bool, true, false, not, ◌&&◌, cond, and-true, and-false, false≢true, true≢false}
+use mathlib.Core.Bool.{Bool, true, false, not, ◌&&◌, cond, and-true, false≢true, true≢false}
 use Prim.Native.Nat.{ℕ, suc, ◌+◌, ◌-◌, ◌*◌, ◌/◌, ◌%◌, ◌^◌, ◌<◌, ◌≤◌}
 use native.Mathlib.Omega.{arith}
-use native.Mathlib.Decide.{dec_lt}
 use lib.Dec.{eqb, leb, ltb, T}
 use lib.ListN.{length, get_or}
 use lib.Ieee.{Float, nan, inf, fin, binary64, eq, ne, fits, is_nan, to_bits}
@@ -13,19 +12,15 @@ use borrow.Author.Tests.{lt-ltb, le-ltb, le-leb, lt-leb, eq-eqb, ne_eqb, ltb-tru
 use Rattle.lists.specs.Scan.{every_by}
 use Rattle.lists.proofs.Logic.{and}
 use Rattle.lists.proofs.Scan.{every_true}
-use Rattle.value.proofs.Digits.{past}
 use Rattle.value.specs.Answer.{given}
 use Rattle.value.specs.Number.{number as whole-number}
 use Rattle.value.specs.Digits.{limit}
-use Rattle.value.specs.Field.{last_of}
-use Rattle.value.specs.Digits.{room_for}
 use Rattle.numerals.specs.Numerals.{is_sign}
 use Rattle.display.specs.Display as Display
 use Rattle.binary.specs.Binary.{width_ok}
 use Rattle.binary.proofs.Integers.{width_low, width-high, half_twice, half_at}
-use Rattle.hex_field.specs.Hex.{is_lower}
 use Rattle.edited.specs.Edited.{judged, is_lawful, is_floating, count_of, positions}
-use Rattle.fits.specs.Decide.{byte_ok, is_text_byte, untrimmed_fits, minus_ok, digits_fit, in_range, last_two, tells, mask_fits, word_fits}
+use Rattle.fits.specs.Decide.{byte_ok, is_text_byte, untrimmed_fits, in_range, tells, mask_fits, word_fits}
 
 -- ---- a test, and another where it passes
 

@@ -6,7 +6,7 @@ use Prim.Native.Nat.{ℕ, zero, suc, ◌-◌, ◌*◌, ◌/◌, ◌≤◌, ◌<�
 use native.Mathlib.Omega.{arith}
 use lib.Dec.{eqb}
 use lib.ListN.{length, get_or, take, drop, replicate, length-append, length-map, length-take, get_or-eq_default}
-use lib.Seq.{get_or-take, take-append_seam}
+use lib.Seq.{take-append_seam}
 use borrow.Author.Tests.{ne_eqb, eqb-true, eqb-false}
 use Rattle.lists.proofs.Logic.{and_left, and_right}
 use Rattle.layout.specs.Layout.{entry_ok}
@@ -16,7 +16,6 @@ use Rattle.lists.proofs.Lists.{drop-replicate, zeros-behind}
 use Rattle.lines.specs.Lines.{line_from, start_in, starts_with, mask_ok}
 use Rattle.lines.specs.Names.{distinct, names_at}
 use Rattle.lines.proofs.Laws.{start-there}
-use Rattle.lines.proofs.Sight.{get_or-map-at}
 use Rattle.layout_text.specs.declared.LayoutReading.{LayoutReading}
 use Rattle.layout_text.specs.Form.{lines_of, is_none, mask_for, count_of, line_in, kind_said, all, tests, entry_lawful, mask_word}
 use Rattle.layout_text.specs.Reading.{width_said, mask_said, names_of, masks_below, masks_of, mask_long, text_checked, refusal, read_of, spelling, first_start, spelling_at, name_count}

@@ -1,30 +1,27 @@
 -- The pass that stores words and masks: what is known before an entry.
 use mathlib.Core.Path.{◌≡◌, refl, sym, ap, ◌∙◌, subst}
 use mathlib.Core.Bool.{Bool, true, false, ◌&&◌, cond, false≢true}
-use mathlib.Core.List.{List, [], ◌∷◌, ◌++◌, map, append-nil, append_assoc, map-append}
+use mathlib.Core.List.{List, [], ◌∷◌, ◌++◌, map, append_assoc, map-append}
 use Prim.Native.Nat.{ℕ, suc, ◌+◌, ◌-◌, ◌*◌, ◌%◌, ◌≤◌, ◌<◌}
 use native.Mathlib.Omega.{arith}
 use native.Mathlib.Numerals.{add-one}
-use native.Mathlib.Nat.{le_of_eq}
 use lib.Dec.{eqb}
-use lib.ListN.{length, get_or, take, drop, length-append, length-drop, drop_of_length-le, take-append-drop}
+use lib.ListN.{length, get_or, take, drop, length-append, length-drop, take-append-drop}
 use lib.Seq.{drop-drop, take-append_seam, drop-append-add, length-take-le}
 use Rattle.lists.proofs.Logic.{and_left}
 use Rattle.layout.specs.declared.Entry.{Entry}
 use Rattle.layout.specs.Layout.{absent, all_below}
 use Rattle.layout.proofs.Laws.{all-at}
-use Rattle.std.specs.Prelude.{Option, Some, None, Result, Ok, Err, MatchOption, ⊤}
+use Rattle.std.specs.Prelude.{Option, Some, None, Result, Ok, Err, ⊤}
 use Rattle.codes.specs.declared.Refusal.{Refusal}
 use Rattle.lines.specs.Lines.{line_from}
 use Rattle.lines.specs.Names.{index_in, see, distinct, number_in, names_at, see_at}
 use Rattle.lines.proofs.Sight.{number-sight, distinct_append}
-use Rattle.lists.proofs.Part.{in_whole, mid-length}
 use Rattle.lists.proofs.Lists.{later}
 use Rattle.layout_text.specs.declared.Said.{Said}
-use Rattle.layout_text.specs.declared.Number.{Number}
 use Rattle.layout_text.specs.Form.{lines_of, ended, is_none, is_number, says, count_of, value_start, all, entry_lawful, lawful, page_word, name_word, depending_word}
-use Rattle.layout_text.specs.Reading.{Sight, sights_in, sights_below, sights_of, or_absent, name_said, depending_said, mask_said, names_of, masks_below, masks_of, scale_of, precision_of, mask_word_of, entry_said, twelve, words_below, words_of}
-use Rattle.layout_text.specs.Walk.{Here, PageTells, DependsOn, Told, Tells, entry_with, Lasts}
+use Rattle.layout_text.specs.Reading.{Sight, sights_in, sights_below, sights_of, or_absent, name_said, depending_said, mask_said, names_of, masks_below, masks_of, scale_of, precision_of, mask_word_of, entry_said, twelve, words_below}
+use Rattle.layout_text.specs.Walk.{Here, DependsOn, Told, Tells, entry_with, Lasts}
 use Rattle.layout_text.specs.Firsts.{see_both, depending_in, see_all_at, firsts_of, Firsts}
 use Rattle.layout_text.proofs.Starts.{names_from, all_after, all-names, see-inside, firsts_at}
 use Rattle.layout_text.proofs.Words.{words_long, names_below, names_said, names-suc, names-from, masks-before}

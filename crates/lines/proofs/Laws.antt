@@ -1,6 +1,6 @@
 -- One turn of each loop over a line or its value, and its ends.
 use mathlib.Core.Path.{◌≡◌, refl, sym, ap, ◌∙◌}
-use mathlib.Core.Bool.{Bool, true, false, ◌&&◌, cond, and-false, false≢true}
+use mathlib.Core.Bool.{true, false, ◌&&◌, cond, and-false, false≢true}
 use mathlib.Core.List.{List, [], ◌∷◌, map}
 use Prim.Native.Nat.{ℕ, ◌+◌, ◌-◌, ◌*◌, ◌≤◌, ◌<◌, zero-le, suc-le-suc}
 use native.Mathlib.Nat.{le_trans, le_refl, le_of_lt}
@@ -11,7 +11,6 @@ use lib.ListN.{length, get_or, take, drop, drop_of_length-le}
 use lib.Seq.{drop-cons, length-take-le}
 use borrow.Author.Tests.{lt-ltb, le-ltb, le-leb, lt-leb}
 use Rattle.std.specs.List.{starts_with as std_starts_with}
-use Rattle.std.specs.Char.{is_ascii_digit}
 use Rattle.lists.specs.Scan.{before_by, every_by}
 use Rattle.codes.specs.Codes.{absent}
 use Rattle.lists.proofs.Scan.{tail-part}

@@ -1,12 +1,11 @@
 -- Laws of lists that copying, filling and storing loops ask for.
 use mathlib.Core.Path.{◌≡◌, refl, sym, ap, ◌∙◌}
 use mathlib.Core.List.{List, [], ◌∷◌, ◌++◌, map, append-nil}
-use Prim.Native.Nat.{ℕ, zero, suc, ◌+◌, ◌-◌, ◌≤◌, ◌<◌, suc-le-suc, min}
-use native.Mathlib.Nat.{not-suc-le-zero, le_of_suc-le-suc, le_of_eq, suc-sub-suc, sub-zero, zero-sub, zero-lt-suc, le_refl}
+use Prim.Native.Nat.{ℕ, zero, suc, ◌+◌, ◌-◌, ◌≤◌, ◌<◌, suc-le-suc}
+use native.Mathlib.Nat.{not-suc-le-zero, le_of_suc-le-suc, suc-sub-suc, sub-zero, zero-sub, zero-lt-suc}
 use native.Mathlib.Numerals.{add-one}
-use lib.ListN.{length, get_or, set, take, drop, replicate, length-map, drop_of_length-le}
-use native.Mathlib.Decide.{dec_le}
-use lib.Seq.{take_all, drop-length, drop-drop, drop-set-lt}
+use lib.ListN.{length, get_or, set, take, drop, replicate}
+use lib.Seq.{drop-length, drop-drop, drop-set-lt}
 use native.Mathlib.Omega.{arith}
 
 -- a loop that copies f of each element to the front: a turn's store

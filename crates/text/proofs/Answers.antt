@@ -1,7 +1,5 @@
 -- What the answer of display_scalar tells of a scalar's text.
-use Rattle.std.proofs.Common.{◌≡◌, refl, sym, ap, ◌∙◌, ℕ, ◌+◌, ◌-◌, ◌≤◌, List, length, take, drop, arith, length-append}
-use Rattle.std.proofs.Math.Seq.{take-append_seam}
-use native.Mathlib.Nat.{sub-zero}
+use Rattle.std.proofs.Common.{◌≡◌, refl, ap, ◌∙◌, ℕ, ◌+◌, ◌≤◌, List, length, drop, arith, length-append}
 use Rattle.value.specs.Answer.{refused, given}
 use Rattle.text.specs.Shown.{Shows, shows, none, answer_of, shown_in}
 

@@ -1,12 +1,11 @@
 -- Texts put into a buffer one behind the other; digits written from the right.
 use mathlib.Core.Path.{◌≡◌, sym, ap, ◌∙◌}
-use mathlib.Core.List.{List, ◌∷◌, ◌++◌, append_assoc}
+use mathlib.Core.List.{List, ◌++◌, append_assoc}
 use Prim.Native.Nat.{ℕ, suc, ◌+◌, ◌-◌, ◌/◌, ◌%◌, ◌^◌, ◌≤◌, ◌<◌}
 use native.Mathlib.Nat.{div-one, pow-zero, sub-zero}
-use native.Mathlib.Numerals.{add-one}
 use native.Mathlib.Omega.{arith}
 use lib.ListN.{length, take, drop, set, length-append}
-use lib.Seq.{take-append_seam, drop-append-add, drop-drop, take-suc-set, drop-set-lt, drop-length}
+use lib.Seq.{take-append_seam, drop-append-add, drop-drop, drop-length}
 use Rattle.lists.proofs.Lists.{drop-set}
 use Rattle.lists.proofs.Part.{in_whole, mid-length}
 use Rattle.value.proofs.Digits.{next_place}

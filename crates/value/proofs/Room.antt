@@ -1,5 +1,5 @@
 -- Whether a size has room in so many places.
-use Rattle.std.proofs.Common.{◌≡◌, ℕ, ◌^◌, ◌<◌, ◌≤◌, true, false, ltb, ◌∙◌, lt_of_lt_of_le, arith, lit<, lit≤, ltb-true, le-ltb, lt-ltb}
+use Rattle.std.proofs.Common.{◌≡◌, ℕ, ◌^◌, ◌<◌, ◌≤◌, true, ltb, ◌∙◌, lt_of_lt_of_le, arith, lit<, lit≤, ltb-true, le-ltb, lt-ltb}
 use mathlib.Core.Bool.{false≢true}
 use native.Mathlib.Nat.{pow-le-pow_right}
 use native.Mathlib.Decide.{dec_lt}

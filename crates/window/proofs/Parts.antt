@@ -1,5 +1,5 @@
 -- What the calls leave, from what their parts leave: each law takes the facts of one way out of a function and makes the record that its contract cites.
-use Rattle.std.proofs.Common.{◌≡◌, ℕ, zero, suc, ◌-◌, ◌<◌, ◌≤◌, true, List, [], ◌++◌, length, get_or, take, drop, set, replicate, ℤ, pos, sym, ap, ◌∙◌, subst, ap₂, arith, length-append, length-take, take_at, refl, eq-eqb, ne_eqb}
+use Rattle.std.proofs.Common.{◌≡◌, ℕ, zero, suc, ◌-◌, ◌<◌, ◌≤◌, true, List, [], ◌++◌, length, get_or, take, drop, set, replicate, ℤ, pos, sym, ap, ◌∙◌, subst, ap₂, arith, length-append, length-take, refl, eq-eqb, ne_eqb}
 use lib.ListN.{length-replicate}
 use Rattle.codes.specs.declared.Refusal.{Refusal}
 use Rattle.codes.specs.Refusals.{number_of as number_of_refusal}

@@ -22,7 +22,6 @@ module _ (n : ℕ) (bs more : List ℕ) where
   Stood = bs ++ take (n - length bs) more
 
   module _ (r : List ℕ) (at end : ℕ) (p : r ≡ filled n bs) (long : length r ≡ n) (q : at ≡ length bs) (e : end ≡ at + length (take (length r - at) more)) where
-
     end-at : end ≡ length bs + length (take (n - length bs) more)
     end-at = e ∙ ap₂ (λ a k. a + length (take (k - a) more)) q long
 

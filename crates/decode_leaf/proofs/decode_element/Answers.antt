@@ -37,7 +37,7 @@ returns-in_err-v-clause-element c =
     let width = leaf-inside [] a.«record».now a.page false a.e 65536 false a.at (length a.items.now) [] a.told a.text.now t.result t.ensures c.if-not-inside.false in
     rw (passed-on c.from_residual.result c.in_err-v.field-0.0 c.from_residual.ensures.1) (record {
       met = λ l deps run. rw (leaf-scalar l a.«record».now a.page deps a.e 65536 false a.at (length a.items.now) run a.told a.text.now (sym c.if-is.ensures))
-        (value-refuses l a.«record».now a.page deps a.e 65536 false a.at (length a.items.now) run a.told
+          (value-refuses l a.«record».now a.page deps a.e 65536 false a.at (length a.items.now) run a.told
           a.text.now width c.requires.told_in_bounds _ (rw c.field_of.ensures at c.in_err-v.ensures.result_value));
       rest = refl;
     })
@@ -47,7 +47,7 @@ returns-in_err-v-clause-text_after c =
     let a = c.args in
     let t = c.inside in
     text-scalar a.«record».now a.page a.e a.at a.told a.text.now t.result t.ensures c.if-not-inside.false (sym c.if-is.ensures)
-      (rw c.field_of.ensures at c.in_err-v.ensures.text_after)
+    (rw c.field_of.ensures at c.in_err-v.ensures.text_after)
 
 pub place_element-requires : goal.place_element-requires
 place_element-requires c =
@@ -55,7 +55,7 @@ place_element-requires c =
     let t = c.inside in
     let width = leaf-inside [] a.«record».now a.page false a.e 65536 false a.at (length a.items.now) [] a.told a.text.now t.result t.ensures c.if-not-inside.false in
     let read = value_read [] a.«record».now a.page false a.e 65536 false a.at (length a.items.now) [] a.told
-        a.text.now width c.requires.told_in_bounds c.in_ok-v.v (rw c.field_of.ensures at c.in_ok-v.ensures.result_value) c.read_part.new.text (rw c.field_of.ensures at c.in_ok-v.ensures.text_after) in
+    a.text.now width c.requires.told_in_bounds c.in_ok-v.v (rw c.field_of.ensures at c.in_ok-v.ensures.result_value) c.read_part.new.text (rw c.field_of.ensures at c.in_ok-v.ensures.text_after) in
     omega (arith, read.within, read.same, c.well_formed)
 
 pub returns-clause-element : goal.returns-clause-element
@@ -65,7 +65,7 @@ returns-clause-element c =
     let width = leaf-inside [] a.«record».now a.page false a.e 65536 false a.at (length a.items.now) [] a.told a.text.now t.result t.ensures c.if-not-inside.false in
     record {
       met = λ l deps run. rw (leaf-scalar l a.«record».now a.page deps a.e 65536 false a.at (length a.items.now) run a.told a.text.now (sym c.if-is.ensures))
-        (element-reads l a.«record».now a.page deps a.e 65536 false a.at (length a.items.now) run a.told
+          (element-reads l a.«record».now a.page deps a.e 65536 false a.at (length a.items.now) run a.told
           a.text.now width c.requires.told_in_bounds c.in_ok-v.v (rw c.field_of.ensures at c.in_ok-v.ensures.result_value) c.read_part.new.text (rw c.field_of.ensures at c.in_ok-v.ensures.text_after)
           c.place_element.result c.requires.e_value c.place_element.ensures);
       rest = c.place_element.ensures.rest;
@@ -76,4 +76,4 @@ returns-clause-text_after c =
     let a = c.args in
     let t = c.inside in
     text-scalar a.«record».now a.page a.e a.at a.told a.text.now t.result t.ensures c.if-not-inside.false (sym c.if-is.ensures)
-      (rw c.field_of.ensures at c.in_ok-v.ensures.text_after)
+    (rw c.field_of.ensures at c.in_ok-v.ensures.text_after)

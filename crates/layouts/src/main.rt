@@ -34,12 +34,19 @@ const WORDS: usize = 8192;
 
 const BYTES: usize = 66048;
 
+// Masks and texts of which a case tells only how many bytes there are.
+static ZEROS: [u8; BYTES] = [0u8; BYTES];
+
 // ---- a line
 
-// The number that a part of a line spells.
-// Kept: no line lacks a number that is asked of it, so that the 0 for a part that spells none is never taken.
+// The number that a part of a line spells. Of any other part each byte is taken for a digit, by its distance from `0`, and what does not fit is lost.
 fn decimal(part: &[u8]) -> u64 {
-    number(part, 10).unwrap_or(0)
+    number(part, 10).unwrap_or_else(|| {
+        part.iter().fold(0, |v: u64, c| {
+            let digit = c.saturating_sub(b'0') % 10;
+            (v % 1844674407370955162 * 10).wrapping_add(u64::from(digit))
+        })
+    })
 }
 
 #[derive(Clone, Copy)]
@@ -114,7 +121,12 @@ fn gather_bytes(bytes: &mut Gathered<u8>, line: Line) {
 
 // ---- layouts
 
-fn layout_agrees(line: Line, layout: &Layout) -> bool {
+fn layout_agrees(line: Line, words: &[u32]) -> bool {
+    let layout = Layout {
+        words,
+        masks: &ZEROS[..line.place(2, BYTES)],
+        page: low_word(line.arg(1)),
+    };
     u64::from(number_in(layout.check())) == line.arg(3)
 }
 
@@ -127,17 +139,16 @@ fn reserved_agrees(line: Line, layout: &Layout) -> bool {
 }
 
 fn words_agree(line: Line, words: &[u64]) -> bool {
-    let masks = [0u8; BYTES];
     let mut space = [0u32; WORDS];
     narrow(words, &mut space);
     let layout = Layout {
         words: first(&space, words.len()),
-        masks: &masks[..line.place(2, BYTES)],
-        page: low_word(line.arg(1)),
+        masks: b"",
+        page: 0,
     };
     // Kept: a line's letter says what it is.
     match line.kind() {
-        b'L' => layout_agrees(line, &layout),
+        b'L' => layout_agrees(line, layout.words),
         b'R' => length_agrees(line, &layout),
         _ => reserved_agrees(line, &layout),
     }
@@ -146,10 +157,9 @@ fn words_agree(line: Line, words: &[u64]) -> bool {
 // ---- value lists
 
 fn items_agree(line: Line, items: &[u64]) -> bool {
-    let text = [0u8; BYTES];
     let list = ValueList {
         items,
-        text: &text[..line.place(1, BYTES)],
+        text: &ZEROS[..line.place(1, BYTES)],
     };
     u64::from(list.check().is_ok()) == line.arg(2)
 }

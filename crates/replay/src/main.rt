@@ -14,7 +14,7 @@ use items::ValueList;
 use layout::Layout;
 use reading::read_full;
 use std::io;
-use testing::{Gathered, Tally, at, first, holds, narrow, number};
+use testing::{Gathered, Tally, at, first, holds, narrow};
 
 const WORDS: usize = 512;
 
@@ -22,25 +22,38 @@ const BYTES: usize = 1024;
 
 // ---- words and bytes of a line
 
-// The hexadecimal number that a part of a line spells.
-// Kept: no line lacks a number that is asked of it, so that the 0 for a part that spells none is never taken.
-fn hex(part: &[u8]) -> u64 {
-    number(part, 16).unwrap_or(0)
+// A hexadecimal digit; any other byte is taken for one too, by its low bits.
+fn digit(c: u8) -> u8 {
+    if c < b':' { c % 16 } else { (c % 16 + 9) % 16 }
 }
 
-// The words of a line, each behind a blank, in place of those gathered.
+// The number that hexadecimal digits spell behind another; what does not fit is lost at the front.
+fn hex_behind(v: u64, part: &[u8]) -> u64 {
+    part.iter().fold(v, |v, c| v << 4 | u64::from(digit(*c)))
+}
+
+// The words of a line, each behind a blank, in place of those gathered. Where they are as many as there is place for, the digits of those behind go to the last.
 fn words_in(words: &mut Gathered<u64>, line: &[u8]) {
     words.clear();
     for part in line.split(|b| *b == b' ').skip(1) {
-        words.push(hex(part));
+        if words.len < words.cells.len() {
+            words.push(hex_behind(0, part));
+        } else if let Some(last) = words.cells.last_mut() {
+            *last = hex_behind(*last, part);
+        }
     }
 }
 
-// The bytes of a line's pairs of digits, from its third byte on, in place of those gathered.
+// The bytes of a line's pairs of digits, from its third byte on, in place of those gathered. The last that there is place for is 0.
 fn bytes_in(bytes: &mut Gathered<u8>, line: &[u8]) {
     bytes.clear();
     for pair in line.get(2..).unwrap_or(b"").chunks_exact(2) {
-        bytes.push((hex(pair) % 256) as u8);
+        let byte = if bytes.len < BYTES - 1 {
+            hex_behind(0, pair)
+        } else {
+            0
+        };
+        bytes.push((byte % 256) as u8);
     }
 }
 
@@ -151,19 +164,19 @@ fn run(rt: &impl Print, all: &[u8], read: &mut Counts, written: &mut Counts) -> 
             b'i' => words_in(&mut items, line),
             b't' => bytes_in(&mut text, line),
             b'D' | b'E' => {
-                let mut words = line.split(|b| *b == b' ').skip(1);
+                let number = line.split(|b| *b == b' ').nth(2);
                 let case = Case {
                     layout: Layout {
                         words: first(&narrowed, layout.len),
                         masks: masks.held(),
-                        page: (words.next().map_or(0, hex) % 16) as u32,
+                        page: u32::from(digit(at(line, 2))),
                     },
                     bytes: bytes.held(),
                     list: ValueList {
                         items: items.held(),
                         text: text.held(),
                     },
-                    number: words.next().map_or(0, hex),
+                    number: number.map_or(0, |part| hex_behind(0, part)),
                 };
                 if asked == b'D' {
                     read.count(rt, line, case.number, case.read_agrees())?;

@@ -58,12 +58,22 @@ struct Row<'a> {
     bytes: &'a [u8],
 }
 
+// A hexadecimal digit; any other byte is taken for one too.
+fn hex_value(c: u8) -> u8
+    ensures { result < 16 }
+{
+    match c {
+        b'a'.. => (c - 87) % 16,
+        b'0'.. => (c - 48) % 16,
+        _ => 0,
+    }
+}
+
 impl<'a> Row<'a> {
-    fn field(self, from: usize, to: usize) -> &'a str {
-        match self.bytes.get(from..to) {
-            Some(part) => std::str::from_utf8(part).unwrap_or(""),
-            None => "",
-        }
+    fn digit(self, i: usize) -> u8
+        ensures { result < 16 }
+    {
+        hex_value(at(self.bytes, i))
     }
 
     fn kind(self) -> u8 {
@@ -74,15 +84,19 @@ impl<'a> Row<'a> {
         at(self.bytes, 1) == b's'
     }
 
+    // The size has 18 digits.
     fn number(self) -> Whole {
-        let size = self.field(5, 23).parse().unwrap_or(0);
+        let size = (5..23).fold(0, |v: u64, i| {
+            v % 100000000000000000 * 10 + u64::from(self.digit(i) % 10)
+        });
         value::signed_size(at(self.bytes, 3) == b'-', size)
     }
 
     fn width(self) -> usize
         ensures { result ≤ 18 }
     {
-        self.field(43, 45).parse().unwrap_or(0).min(WIDTH)
+        let width = usize::from(self.digit(43) % 10) * 10 + usize::from(self.digit(44) % 10);
+        if width <= WIDTH { width } else { 0 }
     }
 
     fn mask(self) -> &'a [u8] {
@@ -97,7 +111,7 @@ impl<'a> Row<'a> {
     fn holds(self, part: &[u8]) -> bool {
         part.iter().enumerate().all(|(i, b)| {
             let k = i % WIDTH * 2;
-            u8::from_str_radix(self.field(46 + k, 48 + k), 16) == Ok(*b)
+            self.digit(46 + k) * 16 + self.digit(47 + k) == *b
         })
     }
 }

@@ -27,7 +27,7 @@ fn put_behind(record: &mut [u8], at: usize, bytes: &[u8]) -> usize
 {
     let n = bytes.len().min(record.len() - at);
     let end = at + n;
-    record[at..end].copy_from_slice(&bytes[..n]);
+    lists::copy(bytes, &mut record[at..end]);
     end
 }
 

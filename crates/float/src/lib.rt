@@ -190,6 +190,7 @@ fn narrow_size(f: Format, x: u64, t: u64) -> u64
 }
 
 // The pattern of an f64's word.
+#[inline(always)]
 fn narrow_word(f: Format, w: u64) -> u64
     requires { NarrowFormat f.p f.low f.ones }
     ensures { result ≡ pattern_of f.p f.low f.ones (Ieee.of_bits binary64 w) }

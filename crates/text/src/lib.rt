@@ -98,6 +98,7 @@ pub fn fill_pad(part: &mut [u8], pad: u8, page: u32)
 }
 
 // The text at the left or right of a field's bytes, pads elsewhere, each byte on its page, if it has room.
+#[inline(always)]
 fn justify_pad(part: &mut [u8], text: &[u8], right: bool, pad: u8, page: u32) -> Result<(), Refusal>
     ensures value { number_in result ≡ refusal_at (length part.old) (shows text.now) }
     ensures part_after { part.new ≡ written_in page right pad part.old text.now }

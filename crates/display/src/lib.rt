@@ -94,7 +94,7 @@ pub fn parse_display_decimal(part: &[u8], page: u32, sign: u32) -> Result<Whole,
 {
     let t = numerals::trim(part, page);
     let (minus, rest) = strip_separate_sign(t, page, sign);
-    value::with_sign(minus.unwrap_or(false), numerals::kept_digits(rest, page))
+    value::with_sign(minus == Some(true), numerals::kept_digits(rest, page))
 }
 
 // A text that is meant as a number is refused by one question, whatever refuses it as one.
@@ -111,6 +111,7 @@ fn text_whole(text: &[u8]) -> Result<Whole, Refusal>
 }
 
 // The integer that a scalar stands for; `text` holds the bytes of a Text.
+#[inline(always)]
 pub fn as_i128(v: Scalar, text: &[u8]) -> Result<Whole, Refusal>
     ensures { answered result ≡ whole_in v text.now }
 {

@@ -50,8 +50,12 @@ pub fn decode(part: &[u8], page: u32, signed: bool) -> Result<Whole, Refusal>
     ensures { answered result ≡ decoded_of signed (map (from_page page) part.now) }
 {
     let n = numerals::kept_digits(part, page);
-    let negative = signed && is_negative(numerals::trim(part, page), page);
-    value::with_sign(negative, n)
+    if signed {
+        let negative = is_negative(numerals::trim(part, page), page);
+        value::with_sign(negative, n)
+    } else {
+        value::with_sign(false, n)
+    }
 }
 
 // ---- the mask

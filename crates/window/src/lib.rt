@@ -391,13 +391,18 @@ impl<'a> Setting<'a> {
             self.now.layout.words.now self.now.first self.now.second (number_in result) (pair_given result)
             items.old items.new text.old text.new counts.old counts.new }
     {
-        let read = decode_record(&self.layout, record, items, text, counts)?;
-        let pair = self.pair_in(&ValueList {
-            items: &items[..read.items],
-            text: &text[..read.text],
-        });
-        items::clear(items, text);
-        Ok(pair)
+        // Kept: no `?`. What stands in the refused arm is the reader's number, and a must-fail edit gives another.
+        match decode_record(&self.layout, record, items, text, counts) {
+            Ok(read) => {
+                let pair = self.pair_in(&ValueList {
+                    items: &items[..read.items],
+                    text: &text[..read.text],
+                });
+                items::clear(items, text);
+                Ok(pair)
+            }
+            Err(refusal) => Err(refusal),
+        }
     }
 }
 

@@ -10,5 +10,5 @@ returns c =
     let a = c.args in
     let t = c.trim-t in
     let s = c.strip_separate_sign-minus in
-    c.with_sign.ensures ∙ rw (c.unwrap_or.ensures, told-minus (sign_at a.sign (map (from_page a.page) t.result.now)) _ s.ensures.minus, c.kept_digits.ensures)
+    c.with_sign.ensures ∙ rw (c.eq.ensures, told-minus (sign_at a.sign (map (from_page a.page) t.result.now)) _ s.ensures.minus, c.kept_digits.ensures)
     (decimal-is (from_page a.page) a.sign a.part.now t.result.now s.result.1.now t.ensures.result_value s.ensures.rest)

@@ -6,7 +6,7 @@ use Prim.Native.Nat.{ℕ, ◌+◌, ◌-◌, ◌<◌, ◌≤◌, min, max}
 use native.Mathlib.Omega.{arith}
 use lib.Dec.{eqb}
 use lib.ListN.{length}
-use Rattle.std.specs.Prelude.{Result, Ok, Err}
+use Rattle.value.specs.Answer.{Answer, given, refused as not_given}
 use Rattle.codes.specs.declared.Refusal.{Refusal}
 use Rattle.codes.specs.Refusals.{number_of}
 use Rattle.spans.specs.Tree.{end_of}
@@ -91,24 +91,24 @@ module _ (masks text : List ℕ) (page : ℕ) (l v b : List ℕ) (e : Entry) (lo
   abbrev Elements : Bool → ℕ → Values → Laid
   Elements x n ms = elements (λ vs a c. cond x (group_in masks text page l b lo hi vs a c) (leaves (codec masks page text) (room_in b) e vs a c)) n ms at 0 0 b
 
-  field-run : (x : Bool) → is_group e ≡ x → (z : Result Run Refusal) → z ≡ elements_in v e i to → field_in masks text page l b e lo hi (values v i to) at b ≡ ran v (Elements x) z
+  field-run : (x : Bool) → is_group e ≡ x → (z : Answer Run) → z ≡ elements_in v e i to → field_in masks text page l b e lo hi (values v i to) at b ≡ ran v (Elements x) z
   unfolding one
   field-run x g z q =
       field-spread (codec masks page text) (room_in b) e (part l lo hi) small (values v i to) at b
       ∙ spread_is e v i to (Elements (is_group e)) ∙ ap₂ (λ y w. ran v (Elements y) w) g (sym q)
 
-  pub field-not : (q : Refusal) → Err q ≡ elements_in v e i to → field_in masks text page l b e lo hi (values v i to) at b ≡ refused (number_of q)
-  field-not q h = field-run (is_group e) refl (Err q) h
+  pub field-not : (q : Refusal) → not_given (number_of q) ≡ elements_in v e i to → field_in masks text page l b e lo hi (values v i to) at b ≡ refused (number_of q)
+  field-not q h = field-run (is_group e) refl (not_given (number_of q)) h
 
-  module _ (r : Run) (h : Ok r ≡ elements_in v e i to) where
+  module _ (r : Run) (h : given r ≡ elements_in v e i to) where
     pub field-group : eqb e.kind 9 ≡ true → field_in masks text page l b e lo hi (values v i to) at b
         ≡ elements (group_in masks text page l b lo hi) r.n (values v r.from r.end) at 0 0 b
-    field-group k = field-run true k (Ok r) h
+    field-group k = field-run true k (given r) h
 
     module _ (k : eqb e.kind 9 ≡ false) where
       pub field-leaves : field_in masks text page l b e lo hi (values v i to) at b
           ≡ elements (leaves (codec masks page text) (room_in b) e) r.n (values v r.from r.end) at 0 0 b
-      field-leaves = field-run false k (Ok r) h
+      field-leaves = field-run false k (given r) h
 
       -- the same without values
       pub field-empty : r.end ≤ r.from → field_in masks text page l b e lo hi (values v i to) at b

@@ -5,10 +5,7 @@ use mathlib.Core.List.{List}
 use Prim.Native.Nat.{ℕ, ◌+◌, min}
 use lib.Dec.{eqb}
 use borrow.Author.Tests.{eqb-true}
-use Rattle.std.specs.Prelude.{Result, Ok, Err}
-use Rattle.codes.specs.declared.Refusal.{Refusal}
-use Rattle.codes.specs.declared.Refusal.TheVariants.{WrongKind}
-use Rattle.codes.specs.Refusals.{number_of}
+use Rattle.value.specs.Answer.{Answer, given, refused as not_given}
 use Rattle.spans.specs.Tree.{none, end_of}
 use Rattle.layout.specs.declared.Entry.{Entry}
 use Rattle.items.specs.declared.Item.{Item}
@@ -54,9 +51,9 @@ unfoldable pub spread : Entry → (ℕ → Values → Laid) → Values → Laid
 spread e f vs = cond (unrepeated e) (f 1 vs) (container 6 (λ ms. f (table_length e ms) ms) vs)
 
 -- f of the elements that an answer tells
-abbrev pub ran : List ℕ → (ℕ → Values → Laid) → Result Run Refusal → Laid
-ran v f (Ok r) = f r.n (values v r.from r.end)
-ran v f (Err q) = refused (number_of q)
+abbrev pub ran : List ℕ → (ℕ → Values → Laid) → Answer Run → Laid
+ran v f (given r) = f r.n (values v r.from r.end)
+ran v f (not_given n) = refused n
 
 pub spread_is : (e : Entry) (v : List ℕ) (i to : ℕ) (f : ℕ → Values → Laid) → spread e f (values v i to) ≡ ran v f (elements_in v e i to)
 unfolding elements_in spread
@@ -64,7 +61,7 @@ spread_is e v i to f = go (unrepeated e) (taking (head_of (values v i to)).tag 6
   where
     go : (x t : Bool) → taking (head_of (values v i to)).tag 6 ≡ t
         → cond x (f 1 (values v i to)) (container 6 (λ ms. f (table_length e ms) ms) (values v i to))
-        ≡ ran v f (cond x (Ok (run 1 i to)) (cond t (Ok (members_in v e (min (end_in v i to) (i + 1)) (end_in v i to))) (Err WrongKind)))
+        ≡ ran v f (cond x (given (run 1 i to)) (cond t (given (members_in v e (min (end_in v i to) (i + 1)) (end_in v i to))) (not_given 13)))
     go true t h = refl
     go false true h = inside_is 6 (λ ms. f (table_length e ms) ms) v i to (head_of (values v i to)) refl (end_in v i to) (min (end_in v i to) (i + 1)) h refl refl
     go false false h = inside-not 6 (λ ms. f (table_length e ms) ms) v i to (head_of (values v i to)) refl h

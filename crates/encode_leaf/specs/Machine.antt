@@ -2,8 +2,8 @@
 use Rattle.std.specs.Prelude.{Result, Ok, Err, Bool, ◌||◌, cond, List, [], ℕ, zero, suc, ◌+◌, min, eqb, leb, length}
 use Rattle.codes.specs.Codes.{kind_bool, kind_edited, tag_null, tag_list}
 use Rattle.codes.specs.declared.Refusal.{Refusal}
-use Rattle.codes.specs.declared.Refusal.TheVariants.{WrongKind}
 use Rattle.codes.specs.Refusals.{number_of}
+use Rattle.value.specs.Answer.{Answer, given, refused as not_given}
 use Rattle.layout.specs.declared.Entry.{Entry}
 use Rattle.items.specs.declared.Item.{Item}
 use Rattle.encode_scalar.specs.Encode.{judged_of, bytes_of}
@@ -58,10 +58,10 @@ abbrev pub members_in : List ℕ → Entry → ℕ → ℕ → Run
 members_in v e from end = run (table_length e (values v from end)) from end
 
 -- the elements of an entry by the first of the items i up to `to`: that value alone, or those of a table, the members of a List or Null
-unfoldable pub elements_in : List ℕ → Entry → ℕ → ℕ → Result Run Refusal
+unfoldable pub elements_in : List ℕ → Entry → ℕ → ℕ → Answer Run
 elements_in v e i to =
-    cond (unrepeated e) (Ok (run 1 i to))
-    (cond (taking (head_of (values v i to)).tag tag_list) (Ok (members_in v e (min (end_in v i to) (i + 1)) (end_in v i to))) (Err WrongKind))
+    cond (unrepeated e) (given (run 1 i to))
+    (cond (taking (head_of (values v i to)).tag tag_list) (given (members_in v e (min (end_in v i to) (i + 1)) (end_in v i to))) (not_given 13))
 
 -- the writer's codec, and the bytes that the record may have in a buffer
 abbrev pub codec : List ℕ → ℕ → List ℕ → Codec State

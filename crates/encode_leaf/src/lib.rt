@@ -5,6 +5,7 @@
 ghost use Rattle.std.specs.Prelude.{◌≡◌, Bool, true, false, ◌||◌, ◌&&◌, cond, List, ℕ, ◌+◌, ◌-◌, ◌*◌, ◌≤◌, min, max, pos, eqb, leb, length, replicate};
 ghost use Rattle.codes.specs.Codes.{most};
 ghost use Rattle.codes.specs.Refusals.{number_of, number_in};
+ghost use Rattle.value.specs.Answer.{answered};
 ghost use Rattle.items.specs.Items.{values};
 ghost use Rattle.layout.specs.Layout.{unrepeated};
 ghost use Rattle.walks.specs.Walk.{values_after};
@@ -58,7 +59,7 @@ pub struct Run {
 // The elements of an entry by the first of the items i..to: one, that value, or those of a table, the members of a List.
 #[tactic(auto, unfolding(crate::specs::Machine::elements_in))]
 pub fn elements_of(list: &ValueList, e: Entry, i: usize, to: usize) -> Result<Run, Refusal>
-    ensures { result ≡ elements_in list.now.items.now e i to }
+    ensures { answered result ≡ elements_in list.now.items.now e i to }
 {
     if e.is_unrepeated() {
         return Ok(Run {

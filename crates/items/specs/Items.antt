@@ -1,5 +1,5 @@
 -- "Value list": "Items of four 64-bit words, depth first: name (65536 for list elements), tag, and two words".
-use Rattle.std.specs.Prelude.{Bool, true, false, ◌&&◌, ◌||◌, cond, List, [], ◌∷◌, ◌++◌, ℕ, zero, suc, ◌+◌, ◌-◌, ◌*◌, ◌/◌, ◌%◌, ltb, leb, eqb, length, get_or, take, drop}
+use Rattle.std.specs.Prelude.{Bool, true, false, ◌&&◌, ◌||◌, cond, List, [], ◌∷◌, ◌++◌, ℕ, zero, suc, ◌+◌, ◌-◌, ◌*◌, ◌/◌, ◌%◌, ltb, leb, eqb, min, length, get_or, take, drop}
 use Rattle.codes.specs.Codes.{tag_null, tag_text, tag_int, tag_decimal, tag_float, tag_bool, tag_list, tag_struct, element}
 use Rattle.items.specs.declared.Item.{Item}
 use Rattle.spans.specs.Tree.{Tree, none, node, tree, size}
@@ -43,6 +43,10 @@ header name tag members span = record { name = name; tag = tag; a = members; b =
 -- the bytes of a Text item in its text buffer; no other item has any
 abbrev pub text_of : List ℕ → Item → List ℕ
 text_of source it = cond (eqb it.tag tag_text) (take it.b (drop it.a source)) []
+
+-- where they start: at the buffer's end where the item says a place behind it
+abbrev pub text_start : List ℕ → Item → ℕ
+text_start source it = cond (eqb it.tag tag_text) (min it.a (length source)) 0
 
 -- "6 is List, 7 Struct": these have members
 abbrev pub holds : ℕ → Bool

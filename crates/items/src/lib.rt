@@ -5,9 +5,10 @@
 ghost use Rattle.std.specs.Prelude.{◌≡◌, cond, false, ◌++◌, ℕ, ◌+◌, ◌*◌, ◌/◌, ◌≤◌, min, length, get_or, drop, replicate};
 ghost use Rattle.codes.specs.Kinds.{word_of_tag};
 ghost use Rattle.codes.specs.Refusals.{number_in};
+ghost use Rattle.lists.specs.Part.{place_in};
 ghost use Rattle.spans.specs.Tree.{end_of, level};
 ghost use Rattle.items.specs.Level.{items_left};
-ghost use Rattle.items.specs.Items.{item_words, words_of, item_of, header, scalar_in, text_of, item_at, holds, span_of, values, text_ok, scalar_ok, holder_ok, item_ok, count, list_ok, well_formed, head_of, lookup, place_of};
+ghost use Rattle.items.specs.Items.{item_words, words_of, item_of, header, scalar_in, text_of, text_start, item_at, holds, span_of, values, text_ok, scalar_ok, holder_ok, item_ok, count, list_ok, well_formed, head_of, lookup, place_of};
 
 use codes::{ELEMENT, Refusal, Tag};
 use spans::end_of;
@@ -109,7 +110,8 @@ impl Item {
 
     // The bytes of a Text in its text buffer; no other item has any.
     pub fn text_in<'a>(self, text: &'a [u8]) -> &'a [u8]
-        ensures { result.now ≡ text_of text.now self }
+        ensures result_value { result.now ≡ text_of text.now self }
+        ensures ref_ptr_value { result.ref_ptr ≡ place_in text.entry (text_start text.now self) }
     {
         if !Tag::Text.is(self.tag) {
             return &text[..0];
@@ -266,7 +268,8 @@ impl<'a> ValueList<'a> {
     #[inline(always)]
     #[tactic(auto, unfolding(crate::specs::Level::items_left))]
     pub fn level(&self, lo: usize, hi: usize) -> Level<'a>
-        ensures { items_left result ≡ level lo (values self.now.items.now lo hi) }
+        ensures items { items_left result ≡ level lo (values self.now.items.now lo hi) }
+        ensures fields { (result.list ≡ self.now) × (result.at ≡ lo) × (result.to ≡ hi) }
     {
         Level {
             list: *self,

@@ -351,7 +351,8 @@ impl<'a> Layout<'a> {
     #[inline(always)]
     #[tactic(auto, unfolding(crate::specs::Level::entries_left))]
     pub fn level(&self, lo: usize, hi: usize) -> Level<'a>
-        ensures { entries_left result ≡ level lo (part self.now.words.now lo hi) }
+        ensures entries { entries_left result ≡ level lo (part self.now.words.now lo hi) }
+        ensures fields { (result.layout ≡ self.now) × (result.at ≡ lo) × (result.to ≡ hi) }
     {
         Level {
             layout: *self,

@@ -93,6 +93,9 @@ module _ {text starts : List ℕ} (starts₀ : List ℕ) {count : ℕ} (e : coun
   table-cells n z number =
       rw (q, z, drop-replicate) (zeros-behind (firsts_of text) (n - length (firsts_of text)) number ∙ f.places number)
 
+  pub table-front : (number : ℕ) → get_or (take count starts) number 0 ≡ first_start (lines_of text) number
+  table-front number = ap (λ (s : List ℕ). get_or s number 0) table_is ∙ f.places number
+
 -- ---- the first spelling, where it starts, and how many names there are
 
 abbrev most : ℕ

@@ -12,7 +12,7 @@ use Rattle.lists.proofs.Logic.{and_left}
 use Rattle.layout.specs.declared.Entry.{Entry}
 use Rattle.layout.specs.Layout.{absent, all_below}
 use Rattle.layout.proofs.Laws.{all-at}
-use Rattle.std.specs.Prelude.{Option, Some, None, Result, Ok, Err, ⊤}
+use Rattle.std.specs.Prelude.{Option, Some, None, Result, Ok, Err}
 use Rattle.codes.specs.declared.Refusal.{Refusal}
 use Rattle.lines.specs.Lines.{line_from}
 use Rattle.lines.specs.Names.{index_in, see, distinct, number_in, names_at, see_at}

@@ -366,7 +366,7 @@ fn put_mask(masks: &mut [u8], m: usize, part: &[u8])
     requires { m + length part.now ≤ length masks.old }
     ensures { masks.new ≡ take m masks.old ++ (part.now ++ drop (m + length part.now) masks.old) }
 {
-    masks[m..m + part.len()].copy_from_slice(part);
+    lists::copy(part, &mut masks[m..m + part.len()]);
 }
 
 // The numbers of an entry's names.
@@ -522,6 +522,7 @@ pub fn name_of(text: &[u8], number: u32) -> &[u8]
 pub fn name_starts(text: &[u8], starts: &mut [u32; 1024]) -> usize
     ensures value { result ≡ name_count text.now }
     ensures by_index { (number : ℕ) → get_or starts.new number 0 ≡ spelling_at text.now number }
+    ensures in_front { (number : ℕ) → get_or (take result starts.new) number 0 ≡ spelling_at text.now number }
     ensures spells { Spells text.now starts.new result }
     ensures few { result ≤ 1024 }
 {
@@ -533,30 +534,20 @@ pub fn name_starts(text: &[u8], starts: &mut [u32; 1024]) -> usize
     }
 }
 
-// The different names of a text, by number: where each is first spelled.
+// The different names of a text, by number: where each is first spelled, as `name_starts` says.
 #[derive(Clone, Copy)]
 pub struct Names<'a> {
-    text: &'a [u8],
-    starts: &'a [u32],
+    pub text: &'a [u8],
+    pub starts: &'a [u32],
     ghost spells: { Spells text.now starts.now (length starts.now) },
+    ghost by_index: { (number : ℕ) → get_or starts.now number 0 ≡ spelling_at text.now number },
 }
 
 impl<'a> Names<'a> {
-    // The names of a text, by a table that is lent for where they start; none where the text is refused by 17, 1, 2 or 3.
-    pub fn of(text: &'a [u8], table: &'a mut [u32; 1024]) -> Names<'a>
-        ensures text_value { result.text ≡ text.entry }
-        ensures count { length result.starts.now ≡ name_count text.now }
-    {
-        let count = name_starts(text, table);
-        Names {
-            text,
-            starts: &table[..count],
-        }
-    }
-
     // The first spelling of the name with a number, as a part of the text; the empty part at its front where no name has it.
     pub fn spelled(self, number: u32) -> &'a [u8]
-        ensures { result.now ≡ spelling self.entry.text.now number }
+        ensures result_value { result.now ≡ spelling self.entry.text.now number }
+        ensures ref_ptr_value { result.ref_ptr ≡ place_in self.entry.text (start_in self.entry.text.now (spelling_at self.entry.text.now number)) }
     {
         name_with(self.text, self.starts, number)
     }

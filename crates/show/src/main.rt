@@ -3,7 +3,7 @@
 
 #![tactic(auto)]
 
-ghost use Rattle.std.specs.Prelude.{◌≡◌, ◌≤◌, IfOk, MatchOption};
+ghost use Rattle.std.specs.Prelude.{◌≡◌, ◌≤◌, IfOk, IfSome, MatchOption, length};
 
 use reading::read_full;
 use shown::show_at;
@@ -51,11 +51,9 @@ fn ended<R: Read>(file: &mut R, n: usize, room: usize) -> Result<Option<usize>, 
 }
 
 // A file's bytes, at the front of a buffer; none if it has more than the buffer holds.
-fn read_file<'a>(
-    rt: &impl Files,
-    path: &str,
-    buf: &'a mut [u8],
-) -> Result<Option<&'a [u8]>, Unread> {
+fn read_file<'a>(rt: &impl Files, path: &str, buf: &'a mut [u8]) -> Result<Option<&'a [u8]>, Unread>
+    ensures { IfOk result (λ bytes. IfSome bytes (λ part. length part.now ≤ length buf.old)) }
+{
     let mut file = std::fs::open(rt, path)?;
     let n = read_full(&mut file, buf)?;
     let len = ended(&mut file, n, buf.len())?;

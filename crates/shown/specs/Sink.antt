@@ -1,6 +1,6 @@
 -- A buffer that takes the bytes handed to it from a place on. Only inner functions cite this file.
 use Rattle.std.specs.Prelude.{ℕ, ◌+◌, ◌-◌, ◌≡◌, cond, List, [], ◌∷◌, eqb, ltb, length, set}
-use Rattle.shown.specs.declared.Sink.{Sink}
+use Rattle.shown.specs.declared.Output.{Output}
 
 -- the buffer, and that it is the one that was lent
 pub record State : Type 0 where
@@ -9,8 +9,8 @@ pub record State : Type 0 where
   pub skip : ℕ
   pub used : ℕ
 
-abbrev pub state : Sink → State
-state s = record { name = s.out.ghost_name; out = s.out.now; skip = s.skip; used = s.used }
+abbrev pub state : Output → State
+state o = record { name = o.out.ghost_name; out = o.out.now; skip = o.sink.skip; used = o.sink.used }
 
 -- one byte more: passed over, stored, or dropped where the buffer is full
 abbrev pub stored : State → ℕ → State

@@ -16,30 +16,36 @@ use codes::{ELEMENT, MAX_RECORD, Refusal, Tag};
 use decode::{Reading, decode_record};
 use items::{Item, ValueList};
 use layout::Layout;
-use layout_text::{Names, read_layout};
+use layout_text::{Names, name_starts, read_layout};
 use text::display_scalar;
 use value::Scalar;
 
 // ---- a buffer that takes bytes from a place on
 
 // How many bytes are still passed over, and how many the buffer holds.
-#[derive(Drop)]
-pub struct Sink<'a> {
-    pub out: &'a mut [u8],
+#[derive(Clone, Copy)]
+pub struct Sink {
     pub skip: usize,
     pub used: usize,
 }
 
-impl<'a> Sink<'a> {
+// The buffer, and what it has taken so far.
+#[derive(Drop)]
+pub struct Output<'a> {
+    pub out: &'a mut [u8],
+    pub sink: Sink,
+}
+
+impl<'a> Output<'a> {
     #[tactic(auto, unfolding(crate::specs::Sink::all, crate::specs::Sink::one))]
     fn push(&mut self, b: u8)
         ensures { Took (state self.old) (b ∷ []) (state self.new) }
     {
-        if self.skip > 0 {
-            self.skip -= 1;
-        } else if self.used < self.out.len() {
-            self.out[self.used] = b;
-            self.used += 1;
+        if self.sink.skip > 0 {
+            self.sink.skip -= 1;
+        } else if self.sink.used < self.out.len() {
+            self.out[self.sink.used] = b;
+            self.sink.used += 1;
         }
     }
 
@@ -64,7 +70,7 @@ fn is_plain(b: u8) -> bool
 
 // ---- kinds and names
 
-// Kept: a Display of `Tag` would write through a formatter, where the Sink takes bytes; and a number above the tags has a name too, the empty one.
+// Kept: a Display of `Tag` would write through a formatter, where the Output takes bytes; and a number above the tags has a name too, the empty one.
 #[tactic(auto, unfolding(crate::specs::Shown::kind_name))]
 fn kind_name(tag: u64) -> &'static [u8]
     ensures { result.now ≡ kind_name tag }
@@ -96,7 +102,7 @@ fn name_of<'a>(names: Names<'a>, name: u64) -> &'a [u8]
 
 // ---- values and lines
 
-impl<'a> Sink<'a> {
+impl<'a> Output<'a> {
     // The lower-case digits of at most eight bytes.
     fn push_hex(&mut self, part: &[u8])
         requires { length part.now ≤ 8 }
@@ -202,7 +208,12 @@ impl<'a> Sink<'a> {
         ensures { Took (state self.old) (listed layout.now list.now.items.now list.now.text.now) (state self.new) }
     {
         let mut table = [0u32; 1024];
-        self.push_items(Names::of(layout, &mut table), list);
+        let count = name_starts(layout, &mut table);
+        let names = Names {
+            text: layout,
+            starts: &table[..count],
+        };
+        self.push_items(names, list);
     }
 
     #[tactic(auto, using(crate::proofs::Sinks::all_append), unfolding(crate::specs::Shown::refused_text, crate::specs::Sink::all))]
@@ -253,7 +264,7 @@ fn read_both(
     decode_record(&layout, record, items, text, &mut counts)
 }
 
-impl<'a> Sink<'a> {
+impl<'a> Output<'a> {
     // The lines of the value list that a record gives; nothing where it or the layout is refused.
     fn push_record(&mut self, layout: Option<&[u8]>, record: Option<&[u8]>) -> Result<(), Refusal>
         ensures ok { OnOk result (Took (state self.old) (shown_files layout.entry «record».entry) (state self.new)) }
@@ -286,11 +297,10 @@ pub fn show_at(layout: Option<&[u8]>, record: Option<&[u8]>, at: usize, out: &mu
     ensures value { result ≡ length (piece at (length out.old) (shown_files layout.entry «record».entry)) }
     ensures out_after { out.new ≡ front (piece at (length out.old) (shown_files layout.entry «record».entry)) out.old }
 {
-    let mut sink = Sink {
+    let mut output = Output {
         out,
-        skip: at,
-        used: 0,
+        sink: Sink { skip: at, used: 0 },
     };
-    sink.push_shown(layout, record);
-    sink.used
+    output.push_shown(layout, record);
+    output.sink.used
 }

@@ -38,12 +38,14 @@ impl Cell for u64 {
     }
 }
 
-// The number that bytes spell in a radix.
+// The number that bytes spell in a radix from 2 to 36.
 #[tactic(auto, using(crate::proofs::Numbers::spells_text))]
 pub fn number(part: &[u8], radix: u32) -> Option<u64>
-    requires { (2 ≤ radix) × (radix ≤ 36) }
     ensures { MatchOption result (Spells radix part.now → ⊥) (λ v. Spells radix part.now × (v ≡ spelled radix part.now)) }
 {
+    if !(2..=36).contains(&radix) {
+        return None;
+    }
     let text = std::str::from_utf8(part).ok()?;
     u64::from_str_radix(text, radix).ok()
 }
@@ -74,7 +76,8 @@ pub struct Gathered<'a, T> {
 
 impl<'a, T: Copy> Gathered<'a, T> {
     pub fn held(&self) -> &[T]
-        ensures { result.now ≡ take self.now.len self.now.cells.now }
+        ensures result_value { result.now ≡ take self.now.len self.now.cells.now }
+        ensures ref_ptr_value { result.ref_ptr ≡ self.now.cells.ref_ptr }
     {
         first(self.cells, self.len)
     }

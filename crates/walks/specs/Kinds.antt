@@ -1,5 +1,5 @@
 -- The codec of all kinds on both pages, from the definitions that the scalar fields' contracts cite; and the counts.
-use Rattle.std.specs.Prelude.{Bool, ◌&&◌, cond, List, [], ◌∷◌, ◌++◌, ℕ, ◌+◌, eqb, leb, ltb, length, take, drop}
+use Rattle.std.specs.Prelude.{Bool, ◌&&◌, cond, List, [], ◌∷◌, ◌++◌, ℕ, ◌+◌, eqb, leb, ltb, min, length, take, drop}
 use Rattle.layout.specs.declared.Entry.{Entry}
 use Rattle.layout.specs.Layout.{controls}
 use Rattle.items.specs.declared.Item.{Item}
@@ -60,6 +60,10 @@ field_of e = record { kind = e.kind; p = e.p; q = e.q; r = e.r; s = e.s }
 -- an Edited's mask: "mask as long as width, inside its slice"
 abbrev pub mask_of : List ℕ → Entry → List ℕ
 mask_of masks e = take e.width (drop e.mask masks)
+
+-- where it starts: at the slice's end where the entry says a place behind it
+abbrev pub mask_start : List ℕ → Entry → ℕ
+mask_start masks e = min e.mask (length masks)
 
 abbrev pub coded_of : ℕ → List ℕ → Coded
 coded_of refusal bs = cond (eqb refusal 0) (bytes bs) (unfit refusal)

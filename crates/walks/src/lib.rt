@@ -3,7 +3,8 @@
 #![tactic(auto)]
 
 ghost use Rattle.std.specs.Prelude.{◌≡◌};
-ghost use Rattle.walks.specs.Kinds.{field_of, mask_of};
+ghost use Rattle.lists.specs.Part.{place_in};
+ghost use Rattle.walks.specs.Kinds.{field_of, mask_of, mask_start};
 
 use decode_scalar::Field;
 use layout::Entry;
@@ -23,7 +24,8 @@ pub fn field_of(e: Entry) -> Field
 
 // The mask of an entry, as far as the masks go.
 pub fn mask_of(masks: &[u8], e: Entry) -> &[u8]
-    ensures { result.now ≡ mask_of masks.now e }
+    ensures result_value { result.now ≡ mask_of masks.now e }
+    ensures ref_ptr_value { result.ref_ptr ≡ place_in masks.entry (mask_start masks.now e) }
 {
     let start = (e.mask as usize).min(masks.len());
     let rest = &masks[start..];

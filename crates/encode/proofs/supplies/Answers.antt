@@ -6,7 +6,7 @@ use Rattle.encode.proofs.supplies.Goals as goal
 
 pub loop-e-init : goal.loop-e-init
 loop-e-init c = (
-  supplied-start c.args.layout.now.words.now c.args.list.now.items.now _ _ _ (ap entries_left c.into_iter-e-iterator.ensures.into_iter_gives ∙ c.level-e-items.ensures) c.entry_count.ensures
+  supplied-start c.args.layout.now.words.now c.args.list.now.items.now _ _ _ (ap entries_left c.into_iter-e-iterator.ensures.into_iter_gives ∙ c.level-e-items.ensures.entries) c.entry_count.ensures
       c.item_count-to.ensures,
   λ name h. h,
 )

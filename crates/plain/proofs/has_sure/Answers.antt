@@ -9,5 +9,5 @@ use Rattle.plain.proofs.has_sure.Goals as goal
 
 pub returns : goal.returns
 returns c =
-    let asked = any_from_yields_List (λ p. unrepeated_leaf p.1) _ _ c.any.result c.any.ensures.ran (YieldsList-from_first (λ p. p) entries_left _ c.level.ensures) (λ p b q k. search (rules, tests)) in
+    let asked = any_from_yields_List (λ p. unrepeated_leaf p.1) _ _ c.any.result c.any.ensures.ran (YieldsList-from_first (λ p. p) entries_left _ c.level.ensures.entries) (λ p b q k. search (rules, tests)) in
     asked ∙ sym (sure-any _ _)

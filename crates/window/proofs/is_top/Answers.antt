@@ -8,5 +8,5 @@ use Rattle.window.proofs.is_top.Goals as goal
 
 pub returns : goal.returns
 returns c =
-    let asked = any_from_yields_List (λ p. eqb p.0 c.args.number) _ _ c.any.result c.any.ensures.ran (YieldsList-from_first (λ p. p) entries_left _ c.level.ensures) (λ p b q k. search (rules, tests)) in
+    let asked = any_from_yields_List (λ p. eqb p.0 c.args.number) _ _ c.any.result c.any.ensures.ran (YieldsList-from_first (λ p. p) entries_left _ c.level.ensures.entries) (λ p b q k. search (rules, tests)) in
     rw c.entry_count.ensures at asked ∙ sym (top_by_level _ _)

@@ -16,7 +16,7 @@ chosen (Some p) o n to e h = h ∙ ap (λ x. option_map_or (λ p. p.0) x to) e
 pub returns-clause-place : goal.returns-clause-place
 returns-clause-place c =
     let a = c.args in
-    let asked = find_from_yields_List (λ p. eqb p.1.name a.name) _ _ c.find.result c.find.ensures.ran (YieldsList-from_first (λ p. p) items_left _ c.level.ensures) (λ p b q k. search (rules, tests)) in
+    let asked = find_from_yields_List (λ p. eqb p.1.name a.name) _ _ c.find.result c.find.ensures.ran (YieldsList-from_first (λ p. p) items_left _ c.level.ensures.items) (λ p b q k. search (rules, tests)) in
     chosen c.find.result _ c.map_or.result a.to asked (search rules) ∙ place-by-level a.self.now.items.now a.name a.to a.from
 
 pub returns-clause-found : goal.returns-clause-found

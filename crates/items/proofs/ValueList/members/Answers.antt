@@ -7,5 +7,5 @@ use Rattle.items.proofs.ValueList.members.Goals as goal
 
 pub returns : goal.returns
 returns c =
-    count_from_yields_List _ c.count.result c.count.ensures.ran (YieldsList-from_first (λ p. p) items_left _ c.level.ensures)
+    count_from_yields_List _ c.count.result c.count.ensures.ran (YieldsList-from_first (λ p. p) items_left _ c.level.ensures.items)
     ∙ sym (count_by_level _ _ _)

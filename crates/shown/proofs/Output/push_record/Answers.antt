@@ -8,7 +8,7 @@ use Rattle.walks.specs.Records.{most}
 use Rattle.shown.specs.Shown.{item_room, bytes_in, more_in}
 use Rattle.shown.specs.Sink.{all}
 use Rattle.shown.proofs.Answers.{layout-long, refused-reads, prints-refusal, prints-list}
-use Rattle.shown.proofs.Sink.push_record.Goals as goal
+use Rattle.shown.proofs.Output.push_record.Goals as goal
 
 pub returns-in_err-layout-clause-err : goal.returns-in_err-layout-clause-err
 returns-in_err-layout-clause-err c =

@@ -85,6 +85,7 @@ impl<'a, T: Copy> Gathered<'a, T> {
     pub fn clear(&mut self)
         ensures len { self.new.len ≡ 0 }
         ensures cells { self.new.cells.now ≡ self.old.cells.now }
+        ensures buffer { self.new.cells.ghost_name ≡ self.old.cells.ghost_name }
     {
         self.len = 0;
     }
@@ -93,6 +94,7 @@ impl<'a, T: Copy> Gathered<'a, T> {
     pub fn push(&mut self, value: T)
         ensures len { self.new.len ≡ min (self.old.len + 1) (max self.old.len (length self.old.cells.now)) }
         ensures cells { self.new.cells.now ≡ set self.old.cells.now self.old.len value }
+        ensures buffer { self.new.cells.ghost_name ≡ self.old.cells.ghost_name }
     {
         if self.len < self.cells.len() {
             self.cells[self.len] = value;

@@ -1,5 +1,6 @@
 pub mod Laws
 pub mod Steps
+pub mod Signs
 pub mod Totals
 pub mod Places
 pub mod Asked

@@ -7,7 +7,7 @@ ghost use Rattle.codes.specs.Refusals.{number_in};
 ghost use Rattle.layout.specs.Layout.{entries};
 ghost use Rattle.items.specs.Items.{values, head_of};
 ghost use Rattle.walks.specs.Records.{read_into};
-ghost use Rattle.window.specs.Window.{pair, window_words, small, small_pair, words_ok, all_small, held_in, sums_ok, lawful_in, started, changed, rule_in, rule_of, ruled, contributed, contributed_pair};
+ghost use Rattle.window.specs.Window.{pair, window_words, small, small_pair, words_ok, all_small, held_in, whole_of, sums_ok, lawful_in, started, changed, rule_in, rule_of, ruled, contributed, contributed_pair};
 ghost use Rattle.window.specs.Pair.{is_top, items_for, items_before, is_summable, summed, scale_at, pair_ok, pair_asks, word_at, pair_in};
 ghost use Rattle.window.specs.Steps.{put_at, with_head, pair_plus, pair_minus, pushed};
 ghost use Rattle.window.specs.Calls.{window_asks, before_asks, WindowWritten, added_to, first_in, second_in, WindowAdded};
@@ -264,6 +264,14 @@ fn contribution(scale: u64, display: u64, passed: bool, x: u64) -> u64
     }
 }
 
+// A word read as signed.
+#[tactic(auto, using(crate::proofs::Totals::cast_whole))]
+fn int_of(word: u64) -> i64
+    ensures { result ≡ whole_of word }
+{
+    word.cast_signed()
+}
+
 // Question 19 of a pair, and what it contributes into a lawful window.
 fn take_pair(
     window: &mut [u64],
@@ -281,8 +289,8 @@ fn take_pair(
     let passed = window[RULE] == 1;
     push(window, w, pair.contribution(scale, display, passed));
     Ok(Pair {
-        first: window[FIRST_SUM].cast_signed(),
-        second: window[SECOND_SUM].cast_signed(),
+        first: int_of(window[FIRST_SUM]),
+        second: int_of(window[SECOND_SUM]),
     })
 }
 

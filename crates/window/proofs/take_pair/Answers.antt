@@ -1,7 +1,7 @@
 -- 19 of either value, or what both contribute pushed: `taken-small`; a lawful window's display word is at most the scale.
 use Rattle.std.proofs.Common.{sym, ◌∙◌}
 use Rattle.window.proofs.Laws.{lawful-shown}
-use Rattle.window.proofs.Totals.{cast_whole}
+use Rattle.window.proofs.Signs.{back}
 use Rattle.window.proofs.Parts.{taken-small}
 use Rattle.window.proofs.take_pair.Goals as goal
 
@@ -12,4 +12,4 @@ pub returns : goal.returns
 returns c =
     let need = c.requires in
     taken-small _ _ _ _ need.0 need.1.0 need.1.1.0 need.1.1.1 (sym c.is_small.ensures ∙ c.if-not-is_small.false) _ c.contribution.ensures _ c.push.ensures _ _
-    (cast_whole _ (c.type_inv.window 1).fits _ c.cast_signed.ensures) (cast_whole _ (c.type_inv.window 2).fits _ c.cast_signed-2.ensures)
+    (back c.int_of.result c.int_of.type_inv ∙ c.int_of.ensures) (back c.int_of-2.result c.int_of-2.type_inv ∙ c.int_of-2.ensures)

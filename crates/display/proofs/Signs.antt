@@ -3,7 +3,7 @@ use mathlib.Core.Path.{◌≡◌, refl, sym, ◌∙◌, ap}
 use mathlib.Core.List.{List, [], ◌∷◌, map}
 use mathlib.Core.Bool.{Bool, true, false, cond, ◌||◌, beq}
 use Rattle.std.proofs.Common.{Option, Some, None}
-use Rattle.std.specs.Option.{option_eq}
+use Rattle.std.specs.Option.{unwrap_or, option_eq}
 use Prim.Native.Nat.{ℕ, ◌+◌, ◌-◌, ◌^◌, ◌<◌}
 use native.Mathlib.Omega.{arith}
 use lib.Dec.{eqb}
@@ -110,13 +110,22 @@ told-none x e = go (is_sign x) refl e
     go true s e = cc
     go false s e = s
 
-pub told-minus : (x : ℕ) (minus : Option Bool) → Told x minus → option_eq beq minus (Some true) ≡ eqb x 45
+pub told-minus : (x : ℕ) (minus : Option Bool) → Told x minus → unwrap_or minus false ≡ eqb x 45
 told-minus x minus e = rw e (go (eqb x 45) (eqb x 43))
   where
-    go : (a b : Bool) → option_eq beq (cond (a || b) (Some a) None) (Some true) ≡ a
+    go : (a b : Bool) → unwrap_or (cond (a || b) (Some a) None) false ≡ a
     go true b = refl
     go false true = refl
     go false false = refl
+
+-- no sign is no minus
+true-or : (minus : Option Bool) → option_eq beq minus (Some true) ≡ unwrap_or minus false
+true-or None = refl
+true-or (Some true) = refl
+true-or (Some false) = refl
+
+pub told-true : (x : ℕ) (minus : Option Bool) → Told x minus → option_eq beq minus (Some true) ≡ eqb x 45
+told-true x minus e = true-or minus ∙ told-minus x minus e
 
 -- ---- one leading sign or none
 

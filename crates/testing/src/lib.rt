@@ -4,7 +4,7 @@
 
 ghost use Rattle.std.specs.Prelude.{◌≡◌, ◌≤◌, ◌++◌, ℕ, map, length, take, drop, set, slice_index, min, max, ◌+◌, ◌%◌, ◌^◌, cond, MatchOption};
 ghost use Rattle.testing.specs.Holds.{low_word, holds};
-ghost use Rattle.testing.specs.Numbers.{Spells, spelled};
+ghost use Rattle.testing.specs.Numbers.{Parses, spelled};
 
 // A cell of a buffer that is compared by its number.
 pub trait Cell: Copy {
@@ -39,9 +39,9 @@ impl Cell for u64 {
 }
 
 // The number that bytes spell in a radix from 2 to 36.
-#[tactic(auto, using(crate::proofs::Numbers::spells_text))]
+#[tactic(auto, using(crate::proofs::Numbers::parses_text))]
 pub fn number(part: &[u8], radix: u32) -> Option<u64>
-    ensures { MatchOption result (Spells radix part.now → ⊥) (λ v. Spells radix part.now × (v ≡ spelled radix part.now)) }
+    ensures { MatchOption result (Parses radix part.now → ⊥) (λ v. Parses radix part.now × (v ≡ spelled radix part.now)) }
 {
     if !(2..=36).contains(&radix) {
         return None;

@@ -1,4 +1,4 @@
--- A number that bytes spell.
+-- A number that bytes spell, as the public documents of Rust's `u64::from_str_radix` have it: an optional plus, then digits alone.
 use Rattle.std.specs.Prelude.{ℕ, ◌^◌, ◌<◌, ◌≤◌, List}
 use Rattle.std.specs.Str.Parse.{IsNumeral, digits_value, without_leading_plus}
 
@@ -6,7 +6,7 @@ use Rattle.std.specs.Str.Parse.{IsNumeral, digits_value, without_leading_plus}
 abbrev pub Spells : ℕ → List ℕ → Type 0
 Spells radix bytes = IsNumeral radix (without_leading_plus bytes) × (digits_value radix (without_leading_plus bytes) < 2 ^ 64)
 
--- what is read so: in a radix from 2 to 36
+-- spelled in a radix that `from_str_radix` has, from 2 to 36
 abbrev pub Parses : ℕ → List ℕ → Type 0
 Parses radix bytes = (2 ≤ radix) × (radix ≤ 36) × Spells radix bytes
 
